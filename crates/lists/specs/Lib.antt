@@ -1,0 +1,6 @@
+-- Lists, tests over ranges of numbers, and sums.
+pub mod Test
+pub mod Select
+pub mod Sum
+pub mod Tabulate
+pub mod Overwrite

@@ -1,0 +1,4 @@
+-- Refusals: the lowest step decides.
+pub mod Steps
+pub mod Refusal
+pub mod Bounds

@@ -1,0 +1,30 @@
+// The refusals of document 01, and the answer of a call that has nothing else to say.
+
+// Why a call is refused; `refusalNumber` of specs/Refusal.antt gives document 01's number of each.
+pub enum Refusal {
+    TooLarge,
+    BrokenStarts,
+    BrokenRows,
+    DimensionMismatch,
+    RequestOutOfRange,
+    NonPositiveDefinite,
+    TooShort,
+    NotCovered,
+    BrokenOperator,
+    IndexTooLarge,
+    DuplicateEntry,
+    NotInverse,
+    NotFinite,
+    BadScale,
+}
+
+// Accepted, or why not.
+pub enum Checked {
+    Accepted,
+    Refused(Refusal),
+}
+
+// The bounds of refusal 1: on a dimension, and on stored entries, requests and terms.
+pub const MAX_DIMENSION: usize = 2048;
+
+pub const MAX_ENTRIES: usize = 1048576;
