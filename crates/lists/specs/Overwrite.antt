@@ -1,11 +1,12 @@
--- A list whose first places are written anew, and the rest as it was; a list with its first places 0.
+-- A list whose first places are written anew, and the rest as it was.
 -- Assumes nothing.
 use Prim.Native.Nat.{ℕ, zero, suc, _+_, _-_, _≤_, _<_}
 use native.Mathlib.Omega.{arith}
 use native.Mathlib.Numerals.{add-one}
 use mathlib.Core.Path.{_≡_, refl, sym, ap, ap₂, subst, _∙_}
 use mathlib.Core.List.{List, [], _∷_, _++_, append-assoc}
-use lib.ListN.{length, getD, take, drop, set, replicate, length-append, length-drop, length-replicate, replicate-append-replicate, getD-replicate, take-append-drop, List·getD-append}
+use lib.ListN.{length, getD, take, drop, set, length-append, length-drop, List·getD-append}
+use Rattle.lists.specs.Tabulate.{tabulate, tabulate-none, tabulate-next, tabulate-length, tabulate-at}
 use lib.Seq.{drop-cons, append-snoc, drop-drop, take-append-seam, drop-append-seam, set-append-seam, getD-append-add, getD-drop}
 
 module _ {A : Type 0} where
@@ -62,32 +63,34 @@ module _ {A : Type 0} where
       ∙ ap (drop (length new - length mid)) (drop-append-seam mid (drop (length mid) old))
       ∙ drop-drop (length new - length mid) (length mid) old ∙ ap (λ (k : ℕ). drop k old) (sym q))
 
--- m zeros
-unfoldable pub zeros : ℕ → List ℕ
-zeros m = replicate m 0
+-- f 0, f 1, .., m of them, written over the front of a list
+unfoldable pub filled : {A : Type 0} → (ℕ → A) → ℕ → List A → List A
+filled f m old = overwrite (tabulate f m) old
 
 -- the list with its first m words 0
 abbrev pub cleared : ℕ → List ℕ → List ℕ
-cleared m s = overwrite (zeros m) s
+cleared = filled (λ _. 0)
 
-pub zeros-length : (m : ℕ) → length (zeros m) ≡ m
-unfolding zeros
-zeros-length m = length-replicate m 0
+module _ {A : Type 0} (f : ℕ → A) where
+  pub filled-none : (old : List A) → old ≡ filled f 0 old
+  unfolding filled
+  filled-none old = sym (ap (λ (l : List A). overwrite l old) (tabulate-none f) ∙ overwrite-none old)
 
-pub cleared-none : (s : List ℕ) → s ≡ cleared 0 s
-unfolding zeros
-cleared-none s = sym (overwrite-none s)
+  pub filled-more : (old : List A) (i : ℕ) → i < length old → set (filled f i old) i (f i) ≡ filled f (i + 1) old
+  unfolding filled
+  filled-more old i h =
+      ap (λ (k : ℕ). set (overwrite (tabulate f i) old) k (f i)) (sym (tabulate-length f i))
+      ∙ overwrite-more (tabulate f i) old (f i) (rw tabulate-length h)
+      ∙ ap (λ (l : List A). overwrite l old) (sym (tabulate-next f i))
 
-pub cleared-more : (s : List ℕ) (i : ℕ) → i < length s → set (cleared i s) i 0 ≡ cleared (i + 1) s
-unfolding zeros
-cleared-more s i h =
-    ap (λ (k : ℕ). set (overwrite (zeros i) s) k 0) (sym (zeros-length i))
-    ∙ overwrite-more (zeros i) s 0 (rw zeros-length h)
-    ∙ ap (λ (l : List ℕ). overwrite l s) (replicate-append-replicate i 1 0)
+  pub filled-length : (m : ℕ) (old : List A) → m ≤ length old → length (filled f m old) ≡ length old
+  unfolding filled
+  filled-length m old h = overwrite-length (tabulate f m) old (rw tabulate-length h)
 
-pub cleared-length : (m : ℕ) (s : List ℕ) → m ≤ length s → length (cleared m s) ≡ length s
-cleared-length m s h = overwrite-length (zeros m) s (rw zeros-length h)
+  pub filled-at : (m : ℕ) (old : List A) (i : ℕ) (d : A) → i < m → getD (filled f m old) i d ≡ f i
+  unfolding filled
+  filled-at m old i d h = overwrite-at (tabulate f m) old i d (rw tabulate-length h) ∙ tabulate-at f m i d h
 
-pub cleared-at : (m : ℕ) (s : List ℕ) (i : ℕ) → i < m → getD (cleared m s) i 0 ≡ 0
-unfolding zeros
-cleared-at m s i h = overwrite-at (zeros m) s i 0 (rw zeros-length h) ∙ getD-replicate m i 0 0 h
+  pub filled-past : (m : ℕ) (old : List A) (i : ℕ) (d : A) → m ≤ i → getD (filled f m old) i d ≡ getD old i d
+  unfolding filled
+  filled-past m old i d h = overwrite-past (tabulate f m) old i d (rw tabulate-length h)

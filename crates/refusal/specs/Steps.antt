@@ -109,6 +109,13 @@ pub after-passed : {A : Type 0} (steps : List Step) (new old : A) → Passed ste
 unfolding after
 after-passed steps new old e = ap (settle old) (first-passed steps new e)
 
+-- reply and list together, as a call's contract has them
+pub both-refused : {A : Type 0} (steps : List Step) {k : ℕ} (new old : A) → verdict steps ≡ refused k → (refused k ≡ verdict steps) × (old ≡ after steps new old)
+both-refused steps {k} new old e = (sym e, sym (after-refused steps k new old e))
+
+pub both-passed : {A : Type 0} (steps : List Step) {new left : A} (old : A) → Passed steps → left ≡ new → (answered tt ≡ verdict steps) × (left ≡ after steps new old)
+both-passed steps {new} old e q = (sym e, q ∙ sym (after-passed steps new old e))
+
 -- ---- each condition
 pub passed-clear : (steps : List Step) → Passed steps → Clear steps
 unfolding first
