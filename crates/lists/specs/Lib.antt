@@ -4,3 +4,4 @@ pub mod Select
 pub mod Sum
 pub mod Tabulate
 pub mod Overwrite
+pub mod Cells

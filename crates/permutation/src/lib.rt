@@ -13,20 +13,7 @@ ghost use Rattle.permutation.specs.Permutation.{index, elementSteps, acc
 use refusal::Checked;
 use refusal::MAX_DIMENSION;
 use refusal::Refusal;
-
-fn wide(x: u32) -> usize
-    ensures { λ r. ⌜ r ≡ x ⌝ }
-{
-    x as usize
-}
-
-// Element i of a list of indices.
-fn at(list: &[u32], i: usize) -> usize
-    requires { ⌜ i < length (now list) ⌝ }
-    ensures { λ r. ⌜ r ≡ index (now (list .entry)) i ⌝ }
-{
-    wide(list[i])
-}
+use words::at;
 
 // Whether the other list is compared and does not lead from p back to i.
 fn disagrees(compared: bool, perm_to_orig: &[u32], p: usize, i: usize) -> bool
@@ -87,9 +74,9 @@ fn invert(orig_to_perm: &[u32], perm_to_orig: &mut [u32])
     requires { ⌜ (length (now «orig_to_perm») ≤ maxDimension) × (length (now «orig_to_perm») ≤ length (now «perm_to_orig»)) ⌝ }
     ensures { λ _. ⌜ now («perm_to_orig» .exit) ≡ overwrite (inverseOf (now («orig_to_perm» .entry))) (now («perm_to_orig» .entry)) ⌝ }
 {
-    let n = orig_to_perm.len();
+    let count = orig_to_perm.len();
     let mut i = 0;
-    while i < n {
+    while i < count {
         let p = at(orig_to_perm, i);
         perm_to_orig[p] = i as u32;
         i += 1;
@@ -102,9 +89,9 @@ fn reorder(orig_to_perm: &[u32], input: &[f64], output: &mut [f64])
     requires { ⌜ (length (now input) ≡ length (now «orig_to_perm»)) × (length (now «orig_to_perm») ≤ length (now output)) ⌝ }
     ensures { λ _. ⌜ now (output .exit) ≡ overwrite (reordered (now («orig_to_perm» .entry)) (now (input .entry))) (now (output .entry)) ⌝ }
 {
-    let n = orig_to_perm.len();
+    let count = input.len();
     let mut i = 0;
-    while i < n {
+    while i < count {
         let p = at(orig_to_perm, i);
         output[i] = input[p];
         i += 1;

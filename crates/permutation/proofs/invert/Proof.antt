@@ -10,11 +10,11 @@ use Rattle.permutation.proofs.invert.Statement.{statement}
 use Rattle.permutation.proofs.invert.Tie as tie
 
 abbrev Inv-loop : tie.InvT-loop
-Inv-loop orig-to-perm perm-to-orig₀ n i₀ perm-to-orig i =
+Inv-loop orig-to-perm perm-to-orig₀ count i₀ perm-to-orig i =
     (i ≤ length orig-to-perm) × (length perm-to-orig ≡ length perm-to-orig₀) × (perm-to-orig ≡ storedTo orig-to-perm perm-to-orig₀ i)
 
 abbrev μ-loop : tie.MeasureT-loop
-μ-loop orig-to-perm perm-to-orig₀ n i₀ perm-to-orig i = length orig-to-perm - i
+μ-loop orig-to-perm perm-to-orig₀ count i₀ perm-to-orig i = length orig-to-perm - i
 
 abbrev start : tie.At-loop Inv-loop μ-loop → tie.Start Inv-loop μ-loop
 start q = q .before .before .before

@@ -15,11 +15,11 @@ abbrev moved : List ℕ → List Float → ℕ → Float
 moved perm input i = getD input (index perm i) nan
 
 abbrev Inv-loop : tie.InvT-loop
-Inv-loop orig-to-perm input output₀ n i₀ output i =
+Inv-loop orig-to-perm input output₀ count i₀ output i =
     (i ≤ length orig-to-perm) × (length output ≡ length output₀) × (output ≡ filled (moved orig-to-perm input) i output₀)
 
 abbrev μ-loop : tie.MeasureT-loop
-μ-loop orig-to-perm input output₀ n i₀ output i = length orig-to-perm - i
+μ-loop orig-to-perm input output₀ count i₀ output i = length orig-to-perm - i
 
 abbrev start : tie.At-loop Inv-loop μ-loop → tie.Start Inv-loop μ-loop
 start q = q .before .before .before .before
@@ -29,7 +29,7 @@ inside : (c : tie.After-at Inv-loop μ-loop) → c .at .result < length (now (st
 inside c =
     let q = c .before .before in
     let s = start q in
-    let h = s .pre .0 .inside (q .loop .i) (c .before .loop-test .taken) in
+    let h = s .pre .0 .inside (q .loop .i) (omega (arith, c .before .loop-test .taken, s .pre .1 .0)) in
     omega (arith, c .at .ensures, s .pre .1 .0)
 
 loop-holds : tie.Need-loop-holds Inv-loop μ-loop
@@ -79,8 +79,9 @@ returns : tie.Need-returns Inv-loop μ-loop
 unfolding reordered filled
 returns c =
     let l = c .before .loop in
-    let a = start (c .before) .args in
-    let e : l .i ≡ length (now (a .orig-to-perm)) = omega (arith, c .loop-test .left, l .inv .0) in
+    let s = start (c .before) in
+    let a = s .args in
+    let e : l .i ≡ length (now (a .orig-to-perm)) = omega (arith, c .loop-test .left, l .inv .0, s .pre .1 .0) in
     l .inv .2 ∙ ap (λ (k : ℕ). filled (moved (now (a .orig-to-perm)) (now (a .input))) k (now (a .output))) e
 
 pub reorder-spec : {M : Type 1} → statement M

@@ -1,0 +1,3 @@
+-- Pairs of the lower triangle.
+pub mod Pair
+pub mod Marks

@@ -1,0 +1,1 @@
+// Pairs of the lower triangle. No code.
