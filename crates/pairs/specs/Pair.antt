@@ -15,6 +15,7 @@ use borrow.Author.Tests.{eqb-true, eq-eqb}
 use Rattle.lists.specs.Test.{and-left, and-right, and-both}
 use Rattle.lists.specs.Sum.{bit, sumTo, sumTo-none, sumTo-next, sumTo-add, sumTo-eq, sumTo-mono}
 use Rattle.lists.specs.Select.{tally-sum}
+use Rattle.refusal.specs.Bounds.{maxDimension}
 use Rattle.lists.specs.Cells.{cells, cellCount, cells-length, cells-cong, cellCount-cong}
 
 -- T, the number of pairs
@@ -84,6 +85,14 @@ pairTotal-mono m n h = go (n - m) (omega arith)
 -- what the code computes fits
 pub product-small : (n b : ℕ) → n ≤ b → n * (n + 1) ≤ b * (b + 1)
 product-small n b h = mul-le-mul h (omega arith)
+
+-- T at the largest dimension
+abbrev pub maxPairs : ℕ
+maxPairs = maxDimension * (maxDimension + 1) / 2
+
+pub pairTotal-small : (n : ℕ) → n ≤ maxDimension → pairTotal n ≤ maxPairs
+unfolding pairTotal
+pairTotal-small n h = pairTotal-mono n maxDimension h
 
 pub pairTotal-half : (n : ℕ) → n * (n + 1) / 2 ≡ pairTotal n
 unfolding pairTotal

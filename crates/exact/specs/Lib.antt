@@ -1,0 +1,7 @@
+-- The selected inverse by f64, where it is exact.
+pub mod Multiple
+pub mod Exact
+pub mod Factor
+pub mod SelectedInverse
+pub mod ExactCase
+pub mod Examples
