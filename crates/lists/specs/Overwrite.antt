@@ -2,12 +2,13 @@
 -- Assumes nothing.
 use Prim.Native.Nat.{ℕ, zero, suc, _+_, _-_, _≤_, _<_}
 use native.Mathlib.Omega.{arith}
+use native.Mathlib.Nat.{zero-add, suc-add}
 use native.Mathlib.Numerals.{add-one}
 use mathlib.Core.Path.{_≡_, refl, sym, ap, ap₂, subst, _∙_}
 use mathlib.Core.List.{List, [], _∷_, _++_, append-assoc}
-use lib.ListN.{length, getD, take, drop, set, length-append, length-drop, List·getD-append}
+use lib.ListN.{length, getD, take, drop, set, length-append, length-drop, take-append-drop, List·getD-append}
 use Rattle.lists.specs.Tabulate.{tabulate, tabulate-none, tabulate-next, tabulate-length, tabulate-at}
-use lib.Seq.{drop-cons, append-snoc, drop-drop, take-append-seam, drop-append-seam, set-append-seam, getD-append-add, getD-drop}
+use lib.Seq.{drop-cons, append-snoc, drop-drop, take-append-seam, drop-append-seam, set-append-seam, length-take-le, getD-append-add, getD-drop}
 
 module _ {A : Type 0} where
   -- new, and behind it what old has there
@@ -51,6 +52,44 @@ module _ {A : Type 0} where
       let q : length new + (i - length new) ≡ i = omega arith in
       ap (λ (k : ℕ). getD (overwrite new old) k d) (sym q)
       ∙ getD-append-add new _ (i - length new) d ∙ getD-drop (length new) old (i - length new) d ∙ ap (λ (k : ℕ). getD old k d) q
+
+  -- new from the place a on
+  unfoldable pub splice : ℕ → List A → List A → List A
+  splice a new old = take a old ++ overwrite new (drop a old)
+
+  pub splice-none : (a : ℕ) (old : List A) → splice a [] old ≡ old
+  unfolding splice overwrite
+  splice-none a old = take-append-drop a old
+
+  -- a store past a known front
+  set-past : (p q : List A) (n i : ℕ) (x : A) → length p ≡ n → set (p ++ q) (n + i) x ≡ p ++ set q i x
+  set-past [] q n i x e = subst (λ (k : ℕ). set q (k + i) x ≡ set q i x) e (ap (λ (k : ℕ). set q k x) (zero-add i))
+  set-past (y ∷ p) q n i x e =
+      subst (λ (k : ℕ). set (y ∷ (p ++ q)) (k + i) x ≡ y ∷ (p ++ set q i x)) e
+      (ap (λ (k : ℕ). set (y ∷ (p ++ q)) k x) (suc-add (length p) i) ∙ ap (λ (l : List A). y ∷ l) (set-past p q (length p) i x refl))
+
+  pub splice-more : (a : ℕ) (new old : List A) (x : A) → a + length new < length old → set (splice a new old) (a + length new) x ≡ splice a (new ++ (x ∷ [])) old
+  unfolding splice
+  splice-more a new old x h =
+      set-past (take a old) (overwrite new (drop a old)) a (length new) x (length-take-le a old (omega arith))
+      ∙ ap (λ (l : List A). take a old ++ l) (overwrite-more new (drop a old) x (simp length-drop (omega arith)))
+
+  pub splice-length : (a : ℕ) (new old : List A) → a + length new ≤ length old → length (splice a new old) ≡ length old
+  unfolding splice
+  splice-length a new old h =
+      length-append (take a old) _
+      ∙ ap₂ _+_ (length-take-le a old (omega arith)) (overwrite-length new (drop a old) (simp length-drop (omega arith)) ∙ length-drop a old)
+      ∙ omega arith
+
+  -- past a front that was written before
+  pub splice-overwrite : (xs ys old : List A) (a : ℕ) → length xs ≡ a → splice a ys (overwrite xs old) ≡ overwrite (xs ++ ys) old
+  unfolding splice overwrite
+  splice-overwrite xs ys old a e =
+      subst (λ (k : ℕ). splice k ys (overwrite xs old) ≡ overwrite (xs ++ ys) old) e
+      (ap₂ (λ (p q : List A). p ++ (ys ++ drop (length ys) q)) (overwrite-front xs old) (overwrite-back xs old)
+      ∙ ap (λ (q : List A). xs ++ (ys ++ q)) (drop-drop (length ys) (length xs) old)
+      ∙ sym (append-assoc xs ys _)
+      ∙ ap (λ (k : ℕ). xs ++ ys ++ drop k old) (sym (length-append xs ys)))
 
   -- writing as many places again leaves nothing of the first writing
   pub overwrite-again : (new mid old : List A) → length mid ≤ length new → overwrite new (overwrite mid old) ≡ overwrite new old

@@ -10,7 +10,7 @@ use mathlib.Core.List.{List, [], _∷_, _++_, map, append-nil}
 use mathlib.Core.Logic.{⊎-elim}
 use lib.ListN.{length, getD, length-append, List·getD-append}
 use lib.Seq.{getD-append-seam}
-use Rattle.lists.specs.Sum.{bit, sumTo, sumTo-eq}
+use Rattle.lists.specs.Sum.{bit, sumTo, sumTo-mono}
 
 -- one number, if it passes
 abbrev pub one : Bool → ℕ → List ℕ
@@ -83,6 +83,11 @@ module _ (test : ℕ → Bool) where
   pub tally-sum : (s e : ℕ) → tally test s e ≡ sumTo (λ i. bit (test (s + i))) (e - s)
   unfolding select
   tally-sum s e = picked-sum s (e - s)
+
+  -- counts rise
+  pub tally-mono : (s k e : ℕ) → s ≤ k → k ≤ e → tally test s k ≤ tally test s e
+  tally-mono s k e h l =
+      omega (arith, tally-sum s k, tally-sum s e, sumTo-mono (λ i. bit (test (s + i))) (k - s) (e - s) (omega arith))
 
   -- what is known of the number at a place: it is in range and passes, and is above those before it
   pub record Picked (s e : ℕ) (l : List ℕ) (i : ℕ) : Type 0 where
@@ -176,6 +181,11 @@ pub getD-mapped : {A B : Type 0} (f : A → B) (l : List A) (i : ℕ) (d : A) (e
 getD-mapped f [] i d e h = absurd (not-suc-le-zero h)
 getD-mapped f (x ∷ l) zero d e h = refl
 getD-mapped f (x ∷ l) (suc i) d e h = getD-mapped f l i d e (le-of-suc-le-suc h)
+
+-- a mapped list with one more
+pub map-snoc : {A B : Type 0} (f : A → B) (l : List A) (x : A) → map f (l ++ (x ∷ [])) ≡ map f l ++ (f x ∷ [])
+map-snoc f [] x = refl
+map-snoc f (y ∷ l) x = ap (λ r. f y ∷ r) (map-snoc f l x)
 
 picked-split : (a b d : ℕ → Bool) → ((k : ℕ) → bit (a k) ≡ bit (b k) + bit (d k)) → (s k : ℕ) → length (picked a s k) ≡ length (picked b s k) + length (picked d s k)
 unfolding picked

@@ -1,0 +1,2 @@
+-- The lists of the marked pairs, while they are written.
+pub mod Listing
