@@ -5,3 +5,4 @@ pub mod Sum
 pub mod Tabulate
 pub mod Overwrite
 pub mod Cells
+pub mod Rising

@@ -5,10 +5,10 @@ use native.Mathlib.Omega.{arith}
 use native.Mathlib.Nat.{zero-add, suc-add}
 use native.Mathlib.Numerals.{add-one}
 use mathlib.Core.Path.{_≡_, refl, sym, ap, ap₂, subst, _∙_}
-use mathlib.Core.List.{List, [], _∷_, _++_, append-assoc}
+use mathlib.Core.List.{List, [], _∷_, _++_, append-assoc, append-nil}
 use lib.ListN.{length, getD, take, drop, set, length-append, length-drop, take-append-drop, List·getD-append}
 use Rattle.lists.specs.Tabulate.{tabulate, tabulate-none, tabulate-next, tabulate-length, tabulate-at}
-use lib.Seq.{drop-cons, append-snoc, drop-drop, take-append-seam, drop-append-seam, set-append-seam, length-take-le, getD-append-add, getD-drop}
+use lib.Seq.{drop-cons, drop-length, append-snoc, drop-drop, take-append-seam, drop-append-seam, set-append-seam, length-take-le, getD-append-add, getD-drop}
 
 module _ {A : Type 0} where
   -- new, and behind it what old has there
@@ -133,3 +133,8 @@ module _ {A : Type 0} (f : ℕ → A) where
   pub filled-past : (m : ℕ) (old : List A) (i : ℕ) (d : A) → m ≤ i → getD (filled f m old) i d ≡ getD old i d
   unfolding filled
   filled-past m old i d h = overwrite-past (tabulate f m) old i d (rw tabulate-length h)
+
+  -- a list filled to its end is the table
+  pub filled-all : (old : List A) → filled f (length old) old ≡ tabulate f (length old)
+  unfolding filled overwrite
+  filled-all old = ap (λ (k : ℕ). tabulate f (length old) ++ drop k old) (tabulate-length f (length old)) ∙ ap (λ (l : List A). tabulate f (length old) ++ l) (drop-length old) ∙ append-nil _

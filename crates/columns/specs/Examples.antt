@@ -1,0 +1,173 @@
+-- F2 and F3 of document 01, small broken factors and operators: what the definitions give, by computation.
+-- Assumes nothing.
+use Prim.Native.Nat.{ℕ}
+use mathlib.Core.Bool.{true, false}
+use mathlib.Core.List.{List, [], _∷_}
+use mathlib.Core.Path.{_≡_, refl}
+use lib.Ieee.{Float, nan, binary64, ofBits, ofInt, ne, le}
+use lib.IntN.{pos, negsuc}
+use Rattle.lists.specs.Test.{any, anyIn}
+use Rattle.lists.specs.Select.{select, picked}
+use Rattle.lists.specs.Sum.{sumTo}
+use Rattle.refusal.specs.Steps.{Passed, verdict, refused, first}
+use Rattle.columns.specs.Columns.{boundSteps, brokenSteps, startsSteps, rowsSteps, columnSteps, factorSteps}
+use Rattle.columns.specs.Kept.{f0, nonzero, diag, desc, pattern, keptPair, factorPairs}
+use Rattle.columns.specs.Diagonal.{diagonalSteps}
+use Rattle.columns.specs.Operator.{operatorBoundSteps, operatorSteps}
+
+-- a whole number as a float
+abbrev pub whole : ℕ → Float
+whole k = ofInt binary64 (pos k)
+
+-- F2: starts, rows and values
+abbrev pub F2-starts : List ℕ
+F2-starts = 0 ∷ 2 ∷ 3 ∷ []
+
+abbrev pub F2-rows : List ℕ
+F2-rows = 0 ∷ 1 ∷ 1 ∷ []
+
+abbrev pub F2-values : List Float
+F2-values = whole 1 ∷ whole 2 ∷ whole 1 ∷ []
+
+-- F3: starts, rows and values
+abbrev pub F3-starts : List ℕ
+F3-starts = 0 ∷ 3 ∷ 4 ∷ 5 ∷ []
+
+abbrev pub F3-rows : List ℕ
+F3-rows = 0 ∷ 1 ∷ 2 ∷ 1 ∷ 2 ∷ []
+
+abbrev pub F3-values : List Float
+F3-values = whole 1 ∷ whole 2 ∷ whole 3 ∷ whole 1 ∷ whole 1 ∷ []
+
+-- ---- kept entries
+F2-pattern : pattern F2-starts F2-rows (nonzero F2-values) 0 ≡ 1 ∷ []
+unfolding select picked ofInt ne ofBits
+F2-pattern = refl
+
+F2-pairs : factorPairs F2-starts F2-rows (nonzero F2-values) 2 ≡ 3
+unfolding select picked ofInt ne ofBits factorPairs sumTo
+F2-pairs = refl
+
+F3-pattern : pattern F3-starts F3-rows (nonzero F3-values) 0 ≡ 1 ∷ 2 ∷ []
+unfolding select picked ofInt ne ofBits
+F3-pattern = refl
+
+F3-pattern-one : pattern F3-starts F3-rows (nonzero F3-values) 1 ≡ []
+unfolding select picked ofInt ne ofBits
+F3-pattern-one = refl
+
+F3-desc : desc F3-starts F3-rows F3-values 0 ≡ record { row = 1; value = whole 2 } ∷ record { row = 2; value = whole 3 } ∷ []
+unfolding select picked ofInt ne ofBits
+F3-desc = refl
+
+F3-diag : diag F3-starts F3-rows F3-values 2 ≡ whole 1
+unfolding select picked ofInt ne ofBits
+F3-diag = refl
+
+F3-pairs : factorPairs F3-starts F3-rows (nonzero F3-values) 3 ≡ 5
+unfolding select picked ofInt ne ofBits factorPairs sumTo
+F3-pairs = refl
+
+-- (2,0) is kept; (2,1) is not stored
+F3-kept : keptPair F3-starts F3-rows (nonzero F3-values) 2 0 ≡ true
+unfolding keptPair any anyIn ofInt ne ofBits
+F3-kept = refl
+
+F3-lacks : keptPair F3-starts F3-rows (nonzero F3-values) 2 1 ≡ false
+unfolding keptPair any anyIn ofInt ne ofBits
+F3-lacks = refl
+
+-- a stored 0.0 and an entry above the diagonal are dropped
+dropped-zero : keptPair F2-starts F2-rows (nonzero (whole 1 ∷ f0 ∷ whole 1 ∷ [])) 1 0 ≡ false
+unfolding keptPair any anyIn ofInt ne ofBits
+dropped-zero = refl
+
+dropped-above : factorPairs (0 ∷ 1 ∷ 3 ∷ []) (0 ∷ 0 ∷ 1 ∷ []) (nonzero F2-values) 2 ≡ 2
+unfolding select picked ofInt ne ofBits factorPairs sumTo
+dropped-above = refl
+
+-- ---- steps 1, 2 and 3
+F2-passes : Passed (factorSteps 2 F2-starts F2-rows 3)
+unfolding first factorSteps boundSteps columnSteps startsSteps brokenSteps rowsSteps any anyIn
+F2-passes = refl
+
+F3-passes : Passed (factorSteps 3 F3-starts F3-rows 5)
+unfolding first factorSteps boundSteps columnSteps startsSteps brokenSteps rowsSteps any anyIn
+F3-passes = refl
+
+-- n = 0
+none-passes : Passed (factorSteps 0 (0 ∷ []) [] 0)
+unfolding first factorSteps boundSteps columnSteps startsSteps brokenSteps rowsSteps any anyIn
+none-passes = refl
+
+-- n = 2,049, before all
+large : verdict (factorSteps 2049 [] [] 0) ≡ refused 1
+unfolding first factorSteps boundSteps
+large = refl
+
+starts-fall : verdict (factorSteps 2 (0 ∷ 4 ∷ 3 ∷ []) F2-rows 3) ≡ refused 2
+unfolding first factorSteps boundSteps columnSteps startsSteps brokenSteps rowsSteps any anyIn
+starts-fall = refl
+
+starts-short : verdict (factorSteps 2 (0 ∷ 3 ∷ []) F2-rows 3) ≡ refused 2
+unfolding first factorSteps boundSteps columnSteps startsSteps brokenSteps rowsSteps any anyIn
+starts-short = refl
+
+-- a value too few
+values-short : verdict (factorSteps 2 F2-starts F2-rows 2) ≡ refused 2
+unfolding first factorSteps boundSteps columnSteps startsSteps brokenSteps rowsSteps any anyIn
+values-short = refl
+
+rows-fall : verdict (factorSteps 2 F2-starts (1 ∷ 0 ∷ 1 ∷ []) 3) ≡ refused 3
+unfolding first factorSteps boundSteps columnSteps startsSteps brokenSteps rowsSteps any anyIn
+rows-fall = refl
+
+rows-repeat : verdict (factorSteps 2 F2-starts (1 ∷ 1 ∷ 1 ∷ []) 3) ≡ refused 3
+unfolding first factorSteps boundSteps columnSteps startsSteps brokenSteps rowsSteps any anyIn
+rows-repeat = refl
+
+rows-outside : verdict (factorSteps 2 F2-starts (0 ∷ 2 ∷ 1 ∷ []) 3) ≡ refused 3
+unfolding first factorSteps boundSteps columnSteps startsSteps brokenSteps rowsSteps any anyIn
+rows-outside = refl
+
+-- ---- step 6
+F3-positive : Passed (diagonalSteps 3 F3-starts F3-rows F3-values)
+unfolding first diagonalSteps any anyIn ofInt ofBits ne le
+F3-positive = refl
+
+diagonal-zero : verdict (diagonalSteps 1 (0 ∷ 1 ∷ []) (0 ∷ []) (f0 ∷ [])) ≡ refused 6
+unfolding first diagonalSteps any anyIn ofInt ofBits ne le
+diagonal-zero = refl
+
+diagonal-negative : verdict (diagonalSteps 1 (0 ∷ 1 ∷ []) (0 ∷ []) (ofInt binary64 (negsuc 0) ∷ [])) ≡ refused 6
+unfolding first diagonalSteps any anyIn ofInt ofBits ne le
+diagonal-negative = refl
+
+diagonal-absent : verdict (diagonalSteps 2 (0 ∷ 1 ∷ 2 ∷ []) (1 ∷ 1 ∷ []) (whole 1 ∷ whole 1 ∷ [])) ≡ refused 6
+unfolding first diagonalSteps any anyIn ofInt ofBits ne le
+diagonal-absent = refl
+
+diagonal-nan : Passed (diagonalSteps 1 (0 ∷ 1 ∷ []) (0 ∷ []) (nan ∷ []))
+unfolding first diagonalSteps any anyIn ofInt ofBits ne le
+diagonal-nan = refl
+
+-- ---- step 9: one row, 1 at 0 and 1 at 1
+operator-passes : Passed (operatorSteps 2 (0 ∷ 2 ∷ []) (0 ∷ 1 ∷ []) 2)
+unfolding first operatorSteps brokenSteps any
+operator-passes = refl
+
+operator-empty : verdict (operatorSteps 2 [] [] 0) ≡ refused 9
+unfolding first operatorSteps brokenSteps any
+operator-empty = refl
+
+operator-falls : verdict (operatorSteps 2 (0 ∷ 3 ∷ 2 ∷ []) (0 ∷ 1 ∷ []) 2) ≡ refused 9
+unfolding first operatorSteps brokenSteps any
+operator-falls = refl
+
+operator-outside : verdict (operatorSteps 2 (0 ∷ 2 ∷ []) (0 ∷ 2 ∷ []) 2) ≡ refused 9
+unfolding first operatorSteps brokenSteps any
+operator-outside = refl
+
+operator-small : Passed (operatorBoundSteps [] [])
+unfolding first boundSteps
+operator-small = refl

@@ -1,0 +1,8 @@
+-- Compressed columns: checks, kept entries, operators.
+pub mod Columns
+pub mod Factor
+pub mod Kept
+pub mod Diagonal
+pub mod Pattern
+pub mod Operator
+pub mod Examples

@@ -1,0 +1,3 @@
+-- The pairs that the pattern lists hold.
+pub mod OperatorPair
+pub mod Marking
