@@ -45,11 +45,11 @@ fn list_marked(
         return PatternPairs::Refused(Refusal::TooShort);
     }
     if columns.len() < count {
-        clear(marks, marks.len());
+        clear(marks, marks.len()); // also when an output is short
         return PatternPairs::Refused(Refusal::TooShort);
     }
     let listed = list_pairs(n, marks, rows, columns);
-    clear(marks, marks.len());
+    clear(marks, marks.len()); // the marks end 0
     PatternPairs::Listed(listed)
 }
 
