@@ -138,3 +138,12 @@ module _ {A : Type 0} (f : ℕ → A) where
   pub filled-all : (old : List A) → filled f (length old) old ≡ tabulate f (length old)
   unfolding filled overwrite
   filled-all old = ap (λ (k : ℕ). tabulate f (length old) ++ drop k old) (tabulate-length f (length old)) ∙ ap (λ (l : List A). tabulate f (length old) ++ l) (drop-length old) ∙ append-nil _
+
+  pub filled-later : (m k : ℕ) (old : List A) → m ≤ k → drop k (filled f m old) ≡ drop k old
+  unfolding filled
+  filled-later m k old h =
+      let new = tabulate f m in
+      let q : length new + (k - m) ≡ k = ap (λ (i : ℕ). i + (k - m)) (tabulate-length f m) ∙ omega arith in
+      ap (λ (i : ℕ). drop i (overwrite new old)) (sym q) ∙ sym (drop-drop (k - m) (length new) (overwrite new old))
+      ∙ ap (drop (k - m)) (overwrite-back new old)
+      ∙ drop-drop (k - m) (length new) old ∙ ap (λ (i : ℕ). drop i old) q

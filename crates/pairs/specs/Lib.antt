@@ -1,3 +1,4 @@
 -- Pairs of the lower triangle.
 pub mod Pair
 pub mod Marks
+pub mod ColumnOrder

@@ -1,0 +1,181 @@
+-- The closed set: the least set of pairs that holds the requested pairs and the dependencies of its pairs.
+-- A pattern gives the rows of each column's descendants; a set of pairs is a test of (row, column).
+-- Assumes nothing.
+use Prim.Native.Nat.{ℕ, zero, suc, _+_, _-_, _*_, _≤_, _<_, min, max}
+use native.Mathlib.Omega.{arith}
+use native.Mathlib.Nat.{not-suc-le-zero}
+use native.Mathlib.Decide.{decLe}
+use mathlib.Core.Path.{_≡_, refl, ap, ap₂, subst₂}
+use mathlib.Core.Bool.{Bool, true, _&&_, _||_}
+use mathlib.Core.Logic.{_↔_, ⊎-elim}
+use mathlib.Core.List.{List}
+use lib.ListN.{length, getD}
+use lib.Dec.{eqb}
+use borrow.Author.Tests.{eqb-true, eq-eqb}
+use Rattle.lists.specs.Test.{any, any-hit, any-found, any-cong, or-cases, or-left, or-right, and-left, and-right, and-both}
+
+-- d is a descendant of column c
+abbrev pub descends : (ℕ → List ℕ) → ℕ → ℕ → Bool
+descends desc c d = any (λ k. eqb (getD (desc c) k 0) d) (length (desc c))
+
+-- a pair is needed if it is requested, or is a dependency of a needed pair: (r, d) put in order, for a descendant d of c
+pub data Needed (desc : ℕ → List ℕ) (req : ℕ → ℕ → Bool) : ℕ → ℕ → Type 0 where
+  request : {r c : ℕ} → req r c ≡ true → Needed desc req r c
+  dependency : {r c : ℕ} (d : ℕ) → Needed desc req r c → descends desc c d ≡ true → Needed desc req (max r d) (min r d)
+
+-- a set that holds the dependencies of its pairs
+abbrev pub Closed : ℕ → (ℕ → List ℕ) → (ℕ → ℕ → Bool) → Type 0
+Closed n desc S = (r c d : ℕ) → c ≤ r → r < n → descends desc c d ≡ true → S r c ≡ true → S (max r d) (min r d) ≡ true
+
+-- a set that holds the requested pairs
+abbrev pub Holds : (ℕ → ℕ → Bool) → (ℕ → ℕ → Bool) → Type 0
+Holds req S = (r c : ℕ) → req r c ≡ true → S r c ≡ true
+
+module _ (desc : ℕ → List ℕ) (req : ℕ → ℕ → Bool) where
+  -- (r, c) is at most k dependencies from a requested pair. It is a dependency of (r, j) if c is a descendant of j, and of (c, j) if r is
+  unfoldable pub reach : ℕ → ℕ → ℕ → Bool
+  reach zero r c = req r c
+  reach (suc k) r c = req r c || any (λ j. (descends desc j c && reach k r j) || (descends desc j r && reach k c j)) (suc c)
+
+-- (r, c) is in the closed set of n columns: no pair is more than 2n dependencies from a requested one
+unfoldable pub member : ℕ → (ℕ → List ℕ) → (ℕ → ℕ → Bool) → ℕ → ℕ → Bool
+member n desc req r c = reach desc req (2 * n) r c
+
+-- a pattern of n columns: descendants lie below their column, and below n
+pub record Pattern (n : ℕ) (desc : ℕ → List ℕ) : Type 0 where
+  pub below : (c d : ℕ) → c < n → descends desc c d ≡ true → c < d
+  pub inside : (c d : ℕ) → c < n → descends desc c d ≡ true → d < n
+
+-- requested pairs are in order, and below n
+pub record Ranged (n : ℕ) (req : ℕ → ℕ → Bool) : Type 0 where
+  pub ordered : (r c : ℕ) → req r c ≡ true → c ≤ r
+  pub inside : (r c : ℕ) → req r c ≡ true → r < n
+
+-- ---- descendants
+
+module _ (desc : ℕ → List ℕ) (c : ℕ) where
+  pub descends-at : (k : ℕ) → k < length (desc c) → descends desc c (getD (desc c) k 0) ≡ true
+  descends-at k l = any-hit (λ i. eqb (getD (desc c) i 0) (getD (desc c) k 0)) (length (desc c)) k l (eq-eqb (getD (desc c) k 0) _ refl)
+
+  pub descends-found : (d : ℕ) → descends desc c d ≡ true → (k : ℕ) × (k < length (desc c)) × (getD (desc c) k 0 ≡ d)
+  descends-found d e =
+      let f = any-found (λ i. eqb (getD (desc c) i 0) d) (length (desc c)) e in
+      (f .0, f .1, eqb-true _ _ (f .2))
+
+-- ---- the test is right
+
+module _ (desc : ℕ → List ℕ) (req : ℕ → ℕ → Bool) where
+  -- (r, c) is a dependency of a pair of column j that is at most k dependencies from a requested one
+  abbrev next : ℕ → ℕ → ℕ → ℕ → Bool
+  next k r c j = (descends desc j c && reach desc req k r j) || (descends desc j r && reach desc req k c j)
+
+  sound : (k r c : ℕ) → c ≤ r → reach desc req k r c ≡ true → Needed desc req r c
+  unfolding reach
+  sound zero r c h e = request e
+  sound (suc k) r c h e =
+      ⊎-elim (λ p. request p)
+      (λ p. via (λ a b l q. sound k a b l q) (any-found (next k r c) (suc c) p))
+      (or-cases (req r c) _ e)
+    where
+      via : ((a b : ℕ) → b ≤ a → reach desc req k a b ≡ true → Needed desc req a b) → (j : ℕ) × (j < suc c) × (next k r c j ≡ true) → Needed desc req r c
+      via before w =
+          let j = w .0 in
+          ⊎-elim
+          (λ p. subst₂ (λ (a b : ℕ). Needed desc req a b) (omega arith) (omega arith)
+          (dependency c (before r j (omega arith) (and-right (descends desc j c) _ p)) (and-left _ _ p)))
+          (λ p. subst₂ (λ (a b : ℕ). Needed desc req a b) (omega arith) (omega arith)
+          (dependency r (before c j (omega arith) (and-right (descends desc j r) _ p)) (and-left _ _ p)))
+          (or-cases (descends desc j c && reach desc req k r j) _ (w .2))
+
+  -- needed pairs are in order, and below n
+  pub needed-range : (n : ℕ) → Pattern n desc → Ranged n req → {r c : ℕ} → Needed desc req r c → (c ≤ r) × (r < n)
+  needed-range n P R {r} {c} (request e) = (R .ordered r c e, R .inside r c e)
+  needed-range n P R (dependency {r} {c} d s e) =
+      let i = needed-range n P R s in
+      omega (arith, P .below c d (omega arith) e, P .inside c d (omega arith) e)
+
+  -- how many dependencies from a requested pair (r, c) can be: it rises along a dependency
+  abbrev rank : ℕ → ℕ → ℕ
+  rank r c = 2 * c + min 1 (r - c)
+
+  step : (k r c d : ℕ) → c ≤ r → c < d → descends desc c d ≡ true → reach desc req k r c ≡ true → reach desc req (suc k) (max r d) (min r d) ≡ true
+  unfolding reach
+  step k r c d h l m e =
+      or-right (req (max r d) (min r d)) _
+      (any-hit (next k (max r d) (min r d)) (suc (min r d)) c (omega arith) (elim (decLe r d) [ yes q ↦ lo q | no q ↦ hi (omega arith) ]))
+    where
+      lo : r ≤ d → next k (max r d) (min r d) c ≡ true
+      lo q =
+          let e₁ : max r d ≡ d = omega arith in
+          let e₂ : min r d ≡ r = omega arith in
+          or-right (descends desc c (min r d) && reach desc req k (max r d) c) _
+          (and-both (descends desc c (max r d)) (reach desc req k (min r d) c) (rw e₁ m) (rw e₂ e))
+
+      hi : d < r → next k (max r d) (min r d) c ≡ true
+      hi q =
+          let e₁ : max r d ≡ r = omega arith in
+          let e₂ : min r d ≡ d = omega arith in
+          or-left _ _ (and-both (descends desc c (min r d)) (reach desc req k (max r d) c) (rw e₂ m) (rw e₁ e))
+
+  requests : (k r c : ℕ) → req r c ≡ true → reach desc req k r c ≡ true
+  unfolding reach
+  requests zero r c e = e
+  requests (suc k) r c e = or-left (req r c) _ e
+
+  complete : (n : ℕ) → Pattern n desc → Ranged n req → {r c : ℕ} → Needed desc req r c → (k : ℕ) → rank r c < k → reach desc req k r c ≡ true
+  complete n P R {r} {c} (request e) k h = requests k r c e
+  complete n P R (dependency {r} {c} d s e) zero h = absurd (not-suc-le-zero h)
+  complete n P R (dependency {r} {c} d s e) (suc k) h =
+      let g = needed-range n P R s in
+      let b = P .below c d (omega arith) e in
+      step k r c d (g .0) b e (complete n P R s k (omega arith))
+
+-- ---- what it tests holds the requested pairs, is closed, and is least
+
+module _ (n : ℕ) (desc : ℕ → List ℕ) (req : ℕ → ℕ → Bool) (P : Pattern n desc) (R : Ranged n req) where
+  pub member-needed : (r c : ℕ) → c ≤ r → r < n → (member n desc req r c ≡ true) ↔ Needed desc req r c
+  unfolding member
+  member-needed r c h l = ((λ e. sound desc req (2 * n) r c h e), (λ s. complete desc req n P R s (2 * n) (omega arith)))
+
+  pub needed-member : {r c : ℕ} → Needed desc req r c → member n desc req r c ≡ true
+  needed-member {r} {c} s = let g = needed-range desc req n P R s in member-needed r c (g .0) (g .1) .1 s
+
+  pub member-holds : Holds req (member n desc req)
+  member-holds r c e = needed-member (request e)
+
+  pub member-closed : Closed n desc (member n desc req)
+  member-closed r c d h l i e = needed-member (dependency d (member-needed r c h l .0 e) i)
+
+  least : (S : ℕ → ℕ → Bool) → Closed n desc S → Holds req S → {r c : ℕ} → Needed desc req r c → S r c ≡ true
+  least S C H {r} {c} (request e) = H r c e
+  least S C H (dependency {r} {c} d s i) =
+      let g = needed-range desc req n P R s in
+      C r c d (g .0) (g .1) i (least S C H s)
+
+  -- every other set that does so contains it
+  pub member-least : (S : ℕ → ℕ → Bool) → Closed n desc S → Holds req S → (r c : ℕ) → c ≤ r → r < n → member n desc req r c ≡ true → S r c ≡ true
+  member-least S C H r c h l e = least S C H (member-needed r c h l .0 e)
+
+-- ---- equal patterns and equal requests give equal sets
+
+module _ (n : ℕ) (desc desc′ : ℕ → List ℕ) (req req′ : ℕ → ℕ → Bool) (p : (c : ℕ) → c < n → desc c ≡ desc′ c)
+    (q : (r c : ℕ) → c ≤ r → r < n → req r c ≡ req′ r c) where
+  reach-cong : (k r c : ℕ) → c ≤ r → r < n → reach desc req k r c ≡ reach desc′ req′ k r c
+  unfolding reach
+  reach-cong zero r c h l = q r c h l
+  reach-cong (suc k) r c h l =
+      ap₂ _||_ (q r c h l) (any-cong (next desc req k r c) (next desc′ req′ k r c) (suc c) (agree (λ a b m o. reach-cong k a b m o)))
+    where
+      same : (j d : ℕ) → j < n → descends desc j d ≡ descends desc′ j d
+      same j d m = ap (λ (x : List ℕ). any (λ i. eqb (getD x i 0) d) (length x)) (p j m)
+
+      agree : ((a b : ℕ) → b ≤ a → a < n → reach desc req k a b ≡ reach desc′ req′ k a b) → (j : ℕ) → j < suc c
+          → next desc req k r c j ≡ next desc′ req′ k r c j
+      agree before j m =
+          ap₂ _||_
+          (ap₂ _&&_ (same j c (omega arith)) (before r j (omega arith) l))
+          (ap₂ _&&_ (same j r (omega arith)) (before c j (omega arith) (omega arith)))
+
+  pub member-cong : (r c : ℕ) → c ≤ r → r < n → member n desc req r c ≡ member n desc′ req′ r c
+  unfolding member
+  member-cong r c h l = reach-cong (2 * n) r c h l

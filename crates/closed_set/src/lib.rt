@@ -1,0 +1,1 @@
+// The closed set of pairs, and its size. No code.

@@ -1,0 +1,334 @@
+-- Closing the queue's pairs: a pair taken from the queue, the stored entries of its column, and the end.
+-- Assumes nothing.
+use Prim.Native.Nat.{ℕ, _+_, _≤_, _<_, min, max}
+use native.Mathlib.Omega.{arith}
+use native.Mathlib.Nat.{not-suc-le-zero, eq-or-lt-of-le, le-of-suc-le-suc}
+use native.Mathlib.Numerals.{add-one}
+use mathlib.Core.Path.{_≡_, refl, sym, ap, subst, subst₂, _∙_}
+use mathlib.Core.Bool.{Bool, true, false, not, _&&_, true≢false}
+use mathlib.Core.Logic.{⊎-elim}
+use mathlib.Core.List.{List}
+use lib.Dec.{ltb}
+use lib.ListN.{length, getD, length-map}
+use lib.Ieee.{Float, eq, ne}
+use borrow.Author.Tests.{le-ltb, lt-ltb, eqb-true, eq-eqb}
+use Rattle.lists.specs.Test.{and-both}
+use Rattle.lists.specs.Select.{select-at, select-holds}
+use Rattle.refusal.specs.Bounds.{maxDimension}
+use Rattle.pairs.specs.ColumnOrder.{columnMark, columnMarking}
+use Rattle.columns.specs.Columns.{start, row, value}
+use Rattle.columns.specs.Kept.{f0, nonzero, keptBelow, descPlaces, pattern}
+use Rattle.columns.specs.Factor.{Factor, starts-end}
+use Rattle.columns.specs.Pattern.{pattern-at, pattern-above, pattern-inside}
+use Rattle.closed_set.specs.ClosedSet.{Closed, Pattern, descends, descends-at, descends-found}
+use Rattle.closure.specs.Scratch.{rowOf, columnOf, queueWord, Queued, Marked, Within, Grown, Insert, Inserted}
+use Rattle.closure.specs.Queue.{Waiting, Finished}
+use Rattle.closure.proofs.Insert.{grown-none, grown-trans, grown-mark, count-most}
+
+-- ---- the descendants of a column are its entries kept below the diagonal
+
+module _ {n : ℕ} {starts rows : List ℕ} {values : ℕ} (nz : ℕ → Bool) (F : Factor n starts rows values) where
+  pub factor-pattern : Pattern n (pattern starts rows nz)
+  factor-pattern = record {
+    below = λ c d h e.
+        let f = descends-found (pattern starts rows nz) c d e in
+        subst (λ (k : ℕ). c < k) (f .2) (pattern-above nz (F .starts-rise) c h (f .0) (f .1));
+    inside = λ c d h e.
+        let f = descends-found (pattern starts rows nz) c d e in
+        subst (λ (k : ℕ). k < n) (f .2) (pattern-inside nz (F .starts-rise) (F .rows-ascend) c h (f .0) (f .1));
+  }
+
+  module _ (c : ℕ) (h : c < n) where
+    entry-descends : (p : ℕ) → start starts c ≤ p → p < start starts (c + 1) → keptBelow rows nz c p ≡ true
+        → descends (pattern starts rows nz) c (row rows p) ≡ true
+    entry-descends p lo hi t =
+        let g = select-holds (keptBelow rows nz c) (start starts c) (start starts (c + 1)) p lo hi t in
+        let l : g .0 < length (pattern starts rows nz c) = rw length-map (g .1) in
+        subst (λ (d : ℕ). descends (pattern starts rows nz) c d ≡ true) (pattern-at nz (F .starts-rise) c h (g .0) l ∙ ap (row rows) (g .2))
+        (descends-at (pattern starts rows nz) c (g .0) l)
+
+    descends-entry : (d : ℕ) → descends (pattern starts rows nz) c d ≡ true
+        → (p : ℕ) × (start starts c ≤ p) × (p < start starts (c + 1)) × (keptBelow rows nz c p ≡ true) × (row rows p ≡ d)
+    descends-entry d e =
+        let f = descends-found (pattern starts rows nz) c d e in
+        let u = select-at (keptBelow rows nz c) (start starts c) (start starts (c + 1)) (f .0) (F .starts-rise .rising c h) (rw length-map at (f .1)) in
+        (getD (descPlaces starts rows nz c) (f .0) 0, u .from, u .below, u .passes, sym (pattern-at nz (F .starts-rise) c h (f .0) (f .1)) ∙ f .2)
+
+-- ---- dependencies that are marked
+
+-- those of (r, c) by the stored entries before p
+abbrev pub DepsTo : ℕ → List ℕ → List ℕ → (ℕ → Bool) → List ℕ → ℕ → ℕ → ℕ → Type 0
+DepsTo n starts rows nz s r c p =
+    (q : ℕ) → start starts c ≤ q → q < p → keptBelow rows nz c q ≡ true → columnMark n s (max r (row rows q)) (min r (row rows q)) ≡ 1
+
+-- all those of the pair of a word
+abbrev pub WordDone : ℕ → List ℕ → List ℕ → (ℕ → Bool) → List ℕ → ℕ → Type 0
+WordDone n starts rows nz s w = DepsTo n starts rows nz s (rowOf w) (columnOf w) (start starts (columnOf w + 1))
+
+-- all those of the queue's words before head
+abbrev pub Done : ℕ → List ℕ → List ℕ → (ℕ → Bool) → List ℕ → ℕ → Type 0
+Done n starts rows nz s head =
+    (j : ℕ) → j < head → WordDone n starts rows nz s (queueWord n s j)
+
+module _ {n : ℕ} {starts rows : List ℕ} {values : ℕ} (nz : ℕ → Bool) (F : Factor n starts rows values) where
+  deps-grown : {s : List ℕ} {a : ℕ} {s′ : List ℕ} {b : ℕ} (r c p : ℕ) → c ≤ r → r < n → p ≤ start starts (c + 1) → Grown n s a s′ b
+      → DepsTo n starts rows nz s r c p → DepsTo n starts rows nz s′ r c p
+  deps-grown r c p h l g G D q lo hi t =
+      let d< = F .rows-ascend .inside q (omega (arith, starts-end (F .starts-rise) (c + 1) (omega arith))) in
+      grown-mark G (max r (row rows q)) (min r (row rows q)) (omega arith) (omega arith) (D q lo hi t)
+
+  deps-more : (s : List ℕ) (r c p : ℕ) → (keptBelow rows nz c p ≡ true → columnMark n s (max r (row rows p)) (min r (row rows p)) ≡ 1)
+      → DepsTo n starts rows nz s r c p → DepsTo n starts rows nz s r c (p + 1)
+  deps-more s r c p e D q lo hi t =
+      ⊎-elim
+      (λ m. subst (λ (j : ℕ). columnMark n s (max r (row rows j)) (min r (row rows j)) ≡ 1) (sym m) (e (subst (λ (j : ℕ). keptBelow rows nz c j ≡ true) m t)))
+      (λ m. D q lo m t)
+      (eq-or-lt-of-le (le-of-suc-le-suc (rw add-one at hi)))
+
+  done-grown : {s : List ℕ} {a : ℕ} {s′ : List ℕ} {b : ℕ} (head : ℕ) → head ≤ a → Marked n s a → Grown n s a s′ b → Done n starts rows nz s head
+      → Done n starts rows nz s′ head
+  done-grown {s} {a} {s′} {b} head h M G D j l =
+      let Q = M .queued j (omega arith) in
+      let w = queueWord n s j in
+      subst (λ (x : ℕ). WordDone n starts rows nz s′ x) (sym (G .words j (omega arith)))
+      (deps-grown (rowOf w) (columnOf w) (start starts (columnOf w + 1)) (Q .ordered) (Q .inside) (omega arith) G (D j l))
+
+  done-more : (s : List ℕ) (head : ℕ)
+      → WordDone n starts rows nz s (queueWord n s head) → Done n starts rows nz s head → Done n starts rows nz s (head + 1)
+  done-more s head e D j l =
+      ⊎-elim
+      (λ q. subst (λ (i : ℕ). WordDone n starts rows nz s (queueWord n s i)) (sym q) e)
+      (λ q. D j q)
+      (eq-or-lt-of-le (le-of-suc-le-suc (rw add-one at l)))
+
+  -- once every word is done the marked pairs are closed
+  done-closed : (s : List ℕ) (count : ℕ) → n ≤ maxDimension → Marked n s count → Done n starts rows nz s count
+      → Closed n (pattern starts rows nz) (columnMarking n s)
+  done-closed s count small M D r c d h l i e =
+      let f = M .found r c h l (eqb-true (columnMark n s r c) 1 e) in
+      let w = queueWord n s (f .0) in
+      let q₁ : rowOf w ≡ r = omega (arith, f .2) in
+      let q₂ : columnOf w ≡ c = omega (arith, f .2) in
+      let D′ = subst₂ (λ (a b : ℕ). DepsTo n starts rows nz s a b (start starts (b + 1))) q₁ q₂ (D (f .0) (f .1)) in
+      let g = descends-entry nz F c (omega arith) d i in
+      eq-eqb _ 1 (subst (λ (k : ℕ). columnMark n s (max r k) (min r k) ≡ 1) (g .4) (D′ (g .0) (g .1) (g .2) (g .3)))
+
+-- ---- the loops
+
+-- the words before head are done, and each pair added is in every closed set that holds those marked before
+pub record Serving (n : ℕ) (starts rows : List ℕ) (nz : ℕ → Bool) (limit : ℕ) (s₀ : List ℕ) (first : ℕ) (s : List ℕ) (head count : ℕ) : Type 0 where
+  pub marked : Marked n s count
+  pub grown : Grown n s₀ first s count
+  pub within : (S : ℕ → ℕ → Bool) → Closed n (pattern starts rows nz) S → Within n S s₀ → Within n S s
+  pub done : Done n starts rows nz s head
+  pub behind : head ≤ count
+  pub most : count ≤ limit + 1
+
+-- the word at head is w, and its dependencies by the entries before p are marked
+pub record Taken (n : ℕ) (starts rows : List ℕ) (nz : ℕ → Bool) (s : List ℕ) (head w p : ℕ) : Type 0 where
+  pub here : queueWord n s head ≡ w
+  pub from : start starts (columnOf w) ≤ p
+  pub deps : DepsTo n starts rows nz s (rowOf w) (columnOf w) p
+
+-- the inner loop, which speaks of the words where it began
+pub record Column (n : ℕ) (starts rows : List ℕ) (nz : ℕ → Bool) (limit : ℕ) (s₀ : List ℕ) (first head w : ℕ) (s : List ℕ) (count p : ℕ) : Type 0 where
+  pub ahead : head < count
+  pub low : count ≤ limit
+  pub serving : Serving n starts rows nz limit s₀ first s head count
+  pub taken : Taken n starts rows nz s head w p
+
+module _ {n pairs : ℕ} {starts rows : List ℕ} {values limit : ℕ} (nz : ℕ → Bool) {s₀ : List ℕ} {first : ℕ}
+    (I : Waiting n pairs starts rows values limit s₀ first) where
+  pub serving-none : Serving n starts rows nz limit s₀ first s₀ 0 first
+  serving-none = record {
+    marked = I .marked;
+    grown = grown-none n s₀ first;
+    within = λ S C W. W;
+    done = λ j l. absurd (not-suc-le-zero l);
+    behind = omega arith;
+    most = omega (arith, I .low);
+  }
+
+  module _ {s : List ℕ} {head count : ℕ} (U₀ : Serving n starts rows nz limit s₀ first s head count) where
+    -- the place of the word at head
+    pub head-words : head < count → pairs + head < length s
+    head-words l = omega (arith, I .all, U₀ .marked .room, count-most n s count (U₀ .marked))
+
+    pub head-pairs : head < count → head < pairs
+    head-pairs l = omega (arith, I .all, count-most n s count (U₀ .marked))
+
+    -- that word, as the code reads it
+    pub word-queued : {w : ℕ} → head < count → w ≡ getD s (pairs + head) 0 → Queued n s w
+    word-queued {w} l e = subst (λ (x : ℕ). Queued n s x) (sym (e ∙ ap (λ (k : ℕ). getD s (k + head) 0) (I .all))) (U₀ .marked .queued head l)
+
+    -- its column and the next are within the starts
+    pub word-starts : {w : ℕ} → head < count → w ≡ getD s (pairs + head) 0 → columnOf w + 1 < length starts
+    word-starts l e = let Q = word-queued l e in omega (arith, I .factor .starts-rise .columns, Q .ordered, Q .inside)
+
+    -- the words at hand are those where the inner loop begins
+    pub column-none : {w p : ℕ} → head < count → count ≤ limit → w ≡ getD s (pairs + head) 0 → p ≡ start starts (columnOf w)
+        → Column n starts rows nz limit s count head w s count p
+    column-none {w} {p} l low e q = record {
+      ahead = l;
+      low = low;
+      serving = record {
+        marked = U₀ .marked;
+        grown = grown-none n s count;
+        within = λ S C W. W;
+        done = U₀ .done;
+        behind = U₀ .behind;
+        most = U₀ .most;
+      };
+      taken = record {
+        here = sym (e ∙ ap (λ (k : ℕ). getD s (k + head) 0) (I .all));
+        from = omega arith;
+        deps = λ k lo hi t. absurd (omega arith);
+      };
+    }
+
+    module _ {w : ℕ} {t : List ℕ} {count′ p : ℕ} (K : Column n starts rows nz limit s count head w t count′ p) where
+      column-serving : {head′ : ℕ} → Serving n starts rows nz limit s count t head′ count′ → Serving n starts rows nz limit s₀ first t head′ count′
+      column-serving U = record {
+        marked = U .marked;
+        grown = grown-trans (U₀ .grown) (U .grown);
+        within = λ S C W. U .within S C (U₀ .within S C W);
+        done = U .done;
+        behind = U .behind;
+        most = U .most;
+      }
+
+      -- the word is done
+      pub serving-next : start starts (columnOf w + 1) ≤ p → Serving n starts rows nz limit s₀ first t (head + 1) count′
+      serving-next h = column-serving (record {
+        marked = K .serving .marked;
+        grown = K .serving .grown;
+        within = K .serving .within;
+        done =
+            done-more nz (I .factor) t head
+            (subst (λ (x : ℕ). WordDone n starts rows nz t x) (sym (K .taken .here)) (λ i lo hi. K .taken .deps i lo (omega arith)))
+            (K .serving .done);
+        behind = omega (arith, K .ahead);
+        most = K .serving .most;
+      })
+
+      -- the limit is passed
+      pub finished-past : {t′ : List ℕ} {count″ : ℕ} → limit < count″ → Serving n starts rows nz limit s count t′ head count″
+          → Finished n starts rows nz limit s₀ first t′ count″
+      finished-past l U = record {
+        marked = U .marked;
+        grown = grown-trans (U₀ .grown) (U .grown);
+        within = λ S C W. U .within S C (U₀ .within S C W);
+        closed = λ low. absurd (omega arith);
+        most = U .most;
+      }
+
+    -- the queue is done
+    pub finished : count ≤ head → Finished n starts rows nz limit s₀ first s count
+    finished h = record {
+      marked = U₀ .marked;
+      grown = U₀ .grown;
+      within = U₀ .within;
+      closed = λ low. done-closed nz (I .factor) s count (I .small) (U₀ .marked) (λ j l. U₀ .done j (omega arith));
+      most = U₀ .most;
+    }
+
+-- ---- one stored entry
+
+module _ {n pairs : ℕ} {starts rows : List ℕ} {values limit : ℕ} (nz : ℕ → Bool) {s₀ : List ℕ} {first : ℕ}
+    (I : Waiting n pairs starts rows values limit s₀ first) {s₁ : List ℕ} {first₁ head w : ℕ} {s : List ℕ} {count p : ℕ}
+    (K : Column n starts rows nz limit s₁ first₁ head w s count p) where
+  abbrev r : ℕ
+  r = rowOf w
+
+  abbrev c : ℕ
+  c = columnOf w
+
+  pub entry-word : Queued n s w
+  entry-word = subst (λ (x : ℕ). Queued n s x) (K .taken .here) (K .serving .marked .queued head (K .ahead))
+
+  module _ (hi : p < start starts (columnOf w + 1)) where
+    -- it is within the rows and the values
+    pub entry-rows : p < length rows
+    entry-rows = let Q = entry-word in omega (arith, starts-end (I .factor .starts-rise) (c + 1) (omega (arith, Q .ordered, Q .inside)))
+
+    pub entry-values : p < values
+    entry-values = omega (arith, entry-rows, I .factor .valued)
+
+    -- one that is not kept below the diagonal is passed over
+    pub column-skip : keptBelow rows nz c p ≡ false → Column n starts rows nz limit s₁ first₁ head w s count (p + 1)
+    column-skip e = record {
+      ahead = K .ahead;
+      low = K .low;
+      serving = K .serving;
+      taken = record {
+        here = K .taken .here;
+        from = omega (arith, K .taken .from);
+        deps = deps-more nz (I .factor) s r c p (λ t. absurd (true≢false (sym t ∙ e))) (K .taken .deps);
+      };
+    }
+
+    module _ {k : ℕ} (e : k ≡ row rows p) where
+      -- the dependency by it can be inserted
+      pub entry-insert : Insert n pairs (rowOf w) k s count
+      entry-insert =
+          let Q = entry-word in
+          record {
+            small = I .small;
+            all = I .all;
+            first = Q .inside;
+            second = omega (arith, I .factor .rows-ascend .inside p entry-rows);
+            marked = K .serving .marked;
+          }
+
+      module _ (b : keptBelow rows nz (columnOf w) p ≡ true) {t : List ℕ} {count′ : ℕ} (J : Inserted n (rowOf w) k s count t count′) where
+        pub serving-more : Serving n starts rows nz limit s₁ first₁ t head count′
+        serving-more =
+            let Q = entry-word in
+            record {
+              marked = J .marked;
+              grown = grown-trans (K .serving .grown) (J .grown);
+              within = λ S C W.
+                  let W₁ = K .serving .within S C W in
+                  let d = entry-descends nz (I .factor) c (omega (arith, Q .ordered, Q .inside)) p (K .taken .from) hi b in
+                  J .within S
+                  (subst (λ (x : ℕ). S (max r x) (min r x) ≡ true) (sym e)
+                  (C r c (row rows p) (Q .ordered) (Q .inside) d (W₁ r c (Q .ordered) (Q .inside) (Q .marked)))) W₁;
+              done = done-grown nz (I .factor) head (K .serving .behind) (K .serving .marked) (J .grown) (K .serving .done);
+              behind = omega (arith, K .serving .behind, J .grown .more);
+              most = omega (arith, J .most, K .low);
+            }
+
+        pub column-more : count′ ≤ limit → Column n starts rows nz limit s₁ first₁ head w t count′ (p + 1)
+        column-more low =
+            let Q = entry-word in
+            record {
+              ahead = omega (arith, K .ahead, J .grown .more);
+              low = low;
+              serving = serving-more;
+              taken = record {
+                here = J .grown .words head (K .ahead) ∙ K .taken .here;
+                from = omega (arith, K .taken .from);
+                deps =
+                    deps-more nz (I .factor) t r c p (λ _. subst (λ (x : ℕ). columnMark n t (max r x) (min r x) ≡ 1) e (J .here))
+                    (deps-grown nz (I .factor) r c p (Q .ordered) (Q .inside) (omega arith) (J .grown) (K .taken .deps));
+              };
+            }
+
+-- an entry is passed over for its row or for its value
+pub above-dropped : (rows : List ℕ) (nz : ℕ → Bool) (c p : ℕ) {k : ℕ} → k ≡ row rows p → k ≤ c → keptBelow rows nz c p ≡ false
+above-dropped rows nz c p e h = ap (λ (b : Bool). b && nz p) (le-ltb c (row rows p) (omega arith))
+
+pub zero-dropped : (rows : List ℕ) (nz : ℕ → Bool) (c p : ℕ) → nz p ≡ false → keptBelow rows nz c p ≡ false
+zero-dropped rows nz c p e = go (ltb c (row rows p))
+  where
+    go : (b : Bool) → (b && nz p) ≡ false
+    go true = e
+    go false = refl
+
+pub entry-kept : (rows : List ℕ) (nz : ℕ → Bool) (c p : ℕ) {k : ℕ} → k ≡ row rows p → c < k → nz p ≡ true → keptBelow rows nz c p ≡ true
+entry-kept rows nz c p e h t = and-both (ltb c (row rows p)) (nz p) (lt-ltb c (row rows p) (omega arith)) t
+
+-- the code's test of a value
+pub nonzero-not : (values : List Float) (p : ℕ) {b : Bool} → eq (value values p) f0 ≡ b → nonzero values p ≡ not b
+unfolding ne eq
+nonzero-not values p e = ap not e

@@ -1,0 +1,8 @@
+-- The closure of requested pairs under their dependencies, and its diagnosis.
+pub mod Scratch
+pub mod Requests
+pub mod Queue
+pub mod Closure
+pub mod KeptSet
+pub mod Diagnosis
+pub mod Examples

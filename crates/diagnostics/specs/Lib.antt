@@ -1,0 +1,2 @@
+-- The diagnosis of a selected inverse.
+pub mod Diagnosis
