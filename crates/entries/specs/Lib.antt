@@ -1,0 +1,2 @@
+-- The entries of a selected inverse as lists.
+pub mod Entries

@@ -1,0 +1,1 @@
+// The entries of a selected inverse as lists. No code.
