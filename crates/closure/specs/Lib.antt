@@ -5,4 +5,3 @@ pub mod Queue
 pub mod Closure
 pub mod KeptSet
 pub mod Diagnosis
-pub mod Examples

@@ -1,5 +1,9 @@
 // Document 01's starred cases, called and compared; that each comparison holds is proved from the contracts and specs/Table.antt.
+ghost use mathlib.Core.Path.{_≡_};
+ghost use Rattle.closed_set.specs.Requests.{Requests};
+ghost use Rattle.starred.specs.Table.{F2, F3, countedOf};
 use check::expect;
+use diagnostics::SelectedInverseDiagnostics;
 use replies::checked_number;
 
 // Permutation 2 0 1 has inverse 1 2 0.
@@ -23,7 +27,95 @@ fn repeated() {
     expect(list[2] == 7);
 }
 
+// The diagnosis of F2.
+fn f2(request_rows: &[u32], request_columns: &[u32], limit: usize) -> SelectedInverseDiagnostics
+    requires { ⌜ Requests 2 (now «request_rows») (now «request_columns») ⌝ }
+    ensures { λ r. ⌜ r ≡ F2 (now («request_rows» .entry)) (now («request_columns» .entry)) limit ⌝ }
+{
+    let mut scratch = [7u32; 6];
+    closure::diagnose(
+        2,
+        &[0, 2, 3],
+        &[0, 1, 1],
+        &[1.0, 2.0, 1.0],
+        request_rows,
+        request_columns,
+        limit,
+        &mut scratch,
+    )
+}
+
+// The diagnosis of F3.
+fn f3(request_rows: &[u32], request_columns: &[u32], limit: usize) -> SelectedInverseDiagnostics
+    requires { ⌜ Requests 3 (now «request_rows») (now «request_columns») ⌝ }
+    ensures { λ r. ⌜ r ≡ F3 (now («request_rows» .entry)) (now («request_columns» .entry)) limit ⌝ }
+{
+    let mut scratch = [7u32; 12];
+    closure::diagnose(
+        3,
+        &[0, 3, 4, 5],
+        &[0, 1, 2, 1, 2],
+        &[1.0, 2.0, 3.0, 1.0, 1.0],
+        request_rows,
+        request_columns,
+        limit,
+        &mut scratch,
+    )
+}
+
+// Whether a diagnosis has these counts and is complete or not.
+fn counted(
+    d: SelectedInverseDiagnostics,
+    requested: usize,
+    closure: usize,
+    factor: usize,
+    complete: bool,
+) -> bool
+    ensures { λ r. ⌜ r ≡ countedOf d requested closure factor complete ⌝ }
+{
+    if d.requested_pairs != requested {
+        return false;
+    }
+    if d.closure_pairs != closure {
+        return false;
+    }
+    if d.factor_pairs != factor {
+        return false;
+    }
+    if complete {
+        return d.is_complete();
+    }
+    !d.is_complete()
+}
+
+// F2 with (0,0) at limits 3 and 2, (1,0), (1,1), (0,1) with (1,0), and no requests at limit 0.
+fn closed_sets_of_f2() {
+    expect(counted(f2(&[0], &[0], 3), 1, 3, 3, true));
+    expect(counted(f2(&[0], &[0], 2), 1, 3, 3, false));
+    expect(counted(f2(&[1], &[0], 3), 1, 2, 3, true));
+    expect(counted(f2(&[1], &[1], 3), 1, 1, 3, true));
+    expect(counted(f2(&[0, 1], &[1, 0], 3), 1, 2, 3, true));
+    expect(counted(f2(&[], &[], 0), 0, 0, 3, true));
+}
+
+// F3 with (0,0) at limits 6 and 5; it keeps 5 entries.
+fn closed_sets_of_f3() {
+    expect(counted(f3(&[0], &[0], 6), 1, 6, 5, true));
+    expect(counted(f3(&[0], &[0], 5), 1, 6, 5, false));
+}
+
+// F2 at limits 0 and 2^32 - 1, with a pair requested twice, and with more requests than the limit.
+fn limits() {
+    expect(counted(f2(&[0], &[0], 0), 1, 1, 3, false));
+    expect(counted(f2(&[0], &[0], 4294967295), 1, 3, 3, true));
+    expect(counted(f2(&[0, 0], &[0, 0], 3), 1, 3, 3, true));
+    expect(counted(f2(&[0, 1], &[0, 1], 0), 2, 1, 3, false));
+}
+
 fn main() {
     inverse();
     repeated();
+    closed_sets_of_f2();
+    closed_sets_of_f3();
+    limits();
 }
