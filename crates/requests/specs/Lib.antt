@@ -1,0 +1,2 @@
+-- What is refused of requests.
+pub mod Requests
