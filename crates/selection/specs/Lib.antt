@@ -1,0 +1,2 @@
+-- Selected entries: refusals, answer and lists.
+pub mod Selection

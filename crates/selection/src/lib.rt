@@ -1,0 +1,1 @@
+// What selected entries asks, refuses, answers and leaves. No code.
