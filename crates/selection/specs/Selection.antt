@@ -42,6 +42,38 @@ pub record Lent : Type 0 where
   pub resultValues : List Float
   pub scratch : List ℕ
 
+-- their lengths
+pub record Room : Type 0 where
+  pub resultStarts : ℕ
+  pub resultRows : ℕ
+  pub resultValues : ℕ
+  pub scratch : ℕ
+
+-- a call and lengths, from a function's parameters in their order
+abbrev pub call : ℕ → List ℕ → List ℕ → List Float → ℕ → List ℕ → List ℕ → ℕ → Call
+call n starts rows values dimension requestRows requestColumns limit = record {
+  n = n;
+  starts = starts;
+  rows = rows;
+  values = values;
+  dimension = dimension;
+  requestRows = requestRows;
+  requestColumns = requestColumns;
+  limit = limit;
+}
+
+abbrev pub room : ℕ → ℕ → ℕ → ℕ → Room
+room resultStarts resultRows resultValues scratch = record { resultStarts = resultStarts; resultRows = resultRows; resultValues = resultValues; scratch = scratch }
+
+-- the lengths of lists
+abbrev pub roomOf : Lent → Room
+roomOf lent = record {
+  resultStarts = length (lent .resultStarts);
+  resultRows = length (lent .resultRows);
+  resultValues = length (lent .resultValues);
+  scratch = length (lent .scratch);
+}
+
 -- the words of scratch that a call needs
 abbrev pub scratchWords : ℕ → ℕ
 scratchWords n = 2 * pairTotal n + 4 * n
@@ -51,12 +83,12 @@ abbrev pub defaultLimit : List ℕ → ℕ
 defaultLimit rows = 10 * length rows
 
 -- 7: result starts below n + 1, result rows or values below min(limit, T), or scratch too short
-unfoldable pub roomSteps : ℕ → ℕ → Lent → List Step
-roomSteps n limit lent =
-    (7, ltb (length (lent .resultStarts)) (n + 1))
-    ∷ (7, ltb (length (lent .resultRows)) (min limit (pairTotal n)))
-    ∷ (7, ltb (length (lent .resultValues)) (min limit (pairTotal n)))
-    ∷ (7, ltb (length (lent .scratch)) (scratchWords n))
+unfoldable pub roomSteps : ℕ → ℕ → Room → List Step
+roomSteps n limit lengths =
+    (7, ltb (lengths .resultStarts) (n + 1))
+    ∷ (7, ltb (lengths .resultRows) (min limit (pairTotal n)))
+    ∷ (7, ltb (lengths .resultValues) (min limit (pairTotal n)))
+    ∷ (7, ltb (lengths .scratch) (scratchWords n))
     ∷ []
 
 module _ (x : Call) where
@@ -73,14 +105,14 @@ module _ (x : Call) where
   selectedComplete = leb selectedSize (x .limit)
 
   -- refusals 1 to 7
-  unfoldable pub selectedSteps : Lent → List Step
-  selectedSteps lent =
+  unfoldable pub selectedSteps : Room → List Step
+  selectedSteps lengths =
       boundSteps (x .n) (length (x .rows))
       ++ (requestBoundStep (length (x .requestRows))
       ∷ (columnSteps (x .n) (x .starts) (x .rows) (length (x .values))
       ++ (requestSteps (x .n) (x .dimension) (x .requestRows) (x .requestColumns)
       ++ (diagonalSteps (x .n) (x .starts) (x .rows) (x .values)
-      ++ roomSteps (x .n) (x .limit) lent))))
+      ++ roomSteps (x .n) (x .limit) lengths))))
 
   -- the answer
   abbrev pub selectedAnswer : SelectedInverseDiagnostics
@@ -88,39 +120,39 @@ module _ (x : Call) where
 
   -- the reply
   abbrev pub selectedReply : Lent → Reply SelectedInverseDiagnostics
-  selectedReply lent = first (selectedSteps lent) selectedAnswer
+  selectedReply lent = first (selectedSteps (roomOf lent)) selectedAnswer
 
   -- the result lists afterwards: written where the set is within the limit; the scratch's first words end 0
   abbrev pub startsAfter : Lent → List ℕ
   startsAfter lent =
-      after (selectedSteps lent) (cond selectedComplete (overwrite (entryStarts (x .n) selectedSet) (lent .resultStarts)) (lent .resultStarts)) (lent .resultStarts)
+      after (selectedSteps (roomOf lent)) (cond selectedComplete (overwrite (entryStarts (x .n) selectedSet) (lent .resultStarts)) (lent .resultStarts)) (lent .resultStarts)
 
   abbrev pub rowsAfter : Lent → List ℕ
   rowsAfter lent =
-      after (selectedSteps lent) (cond selectedComplete (overwrite (entryRows (x .n) selectedSet) (lent .resultRows)) (lent .resultRows)) (lent .resultRows)
+      after (selectedSteps (roomOf lent)) (cond selectedComplete (overwrite (entryRows (x .n) selectedSet) (lent .resultRows)) (lent .resultRows)) (lent .resultRows)
 
   abbrev pub valuesAfter : Lent → List Float
   valuesAfter lent =
-      after (selectedSteps lent)
+      after (selectedSteps (roomOf lent))
       (cond selectedComplete (overwrite (entryValues (x .n) selectedSet (floatTable (x .n) (x .starts) (x .rows) (x .values))) (lent .resultValues)) (lent .resultValues))
       (lent .resultValues)
 
   abbrev pub scratchAfter : Lent → List ℕ
-  scratchAfter lent = after (selectedSteps lent) (cleared (scratchWords (x .n)) (lent .scratch)) (lent .scratch)
+  scratchAfter lent = after (selectedSteps (roomOf lent)) (cleared (scratchWords (x .n)) (lent .scratch)) (lent .scratch)
 
 -- what an accepted call has
-pub record Accepted (x : Call) (lent : Lent) : Type 0 where
+pub record Accepted (x : Call) (lengths : Room) : Type 0 where
   pub small : x .n ≤ maxDimension
   pub factor : Factor (x .n) (x .starts) (x .rows) (length (x .values))
   pub requests : Requests (x .n) (x .requestRows) (x .requestColumns)
   pub diagonals : Diagonals (x .n) (x .starts) (x .rows) (x .values)
-  pub starts-room : x .n + 1 ≤ length (lent .resultStarts)
-  pub rows-room : min (x .limit) (pairTotal (x .n)) ≤ length (lent .resultRows)
-  pub values-room : min (x .limit) (pairTotal (x .n)) ≤ length (lent .resultValues)
-  pub scratch-room : scratchWords (x .n) ≤ length (lent .scratch)
+  pub starts-room : x .n + 1 ≤ lengths .resultStarts
+  pub rows-room : min (x .limit) (pairTotal (x .n)) ≤ lengths .resultRows
+  pub values-room : min (x .limit) (pairTotal (x .n)) ≤ lengths .resultValues
+  pub scratch-room : scratchWords (x .n) ≤ lengths .scratch
 
 -- the steps pass exactly for an accepted call
-module _ (x : Call) (lent : Lent) (p : Passed (selectedSteps x lent)) where
+module _ (x : Call) (lengths : Room) (p : Passed (selectedSteps x lengths)) where
   a1 : List Step
   a1 = boundSteps (x .n) (length (x .rows))
 
@@ -137,7 +169,7 @@ module _ (x : Call) (lent : Lent) (p : Passed (selectedSteps x lent)) where
   a5 = diagonalSteps (x .n) (x .starts) (x .rows) (x .values)
 
   a6 : List Step
-  a6 = roomSteps (x .n) (x .limit) lent
+  a6 = roomSteps (x .n) (x .limit) lengths
 
   past1 : Passed (a2 ++ (a3 ++ (a4 ++ (a5 ++ a6))))
   unfolding selectedSteps a1 a2 a3 a4 a5 a6
@@ -152,7 +184,7 @@ module _ (x : Call) (lent : Lent) (p : Passed (selectedSteps x lent)) where
   past4 : Passed (a5 ++ a6)
   past4 = passed-back a4 (a5 ++ a6) past3
 
-  pub accepted : Accepted x lent
+  pub accepted : Accepted x lengths
   unfolding selectedSteps roomSteps a1 a2 a3 a4 a5 a6
   accepted =
       let B = boundSteps-sound (x .n) (length (x .rows)) (passed-front a1 (a2 ++ (a3 ++ (a4 ++ (a5 ++ a6)))) p) in

@@ -1,0 +1,2 @@
+-- The later steps of selected entries, group by group.
+pub mod Later

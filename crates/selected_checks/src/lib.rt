@@ -1,0 +1,206 @@
+// The checks of selected entries, refusals 1 to 7; the lists lent for writing are judged by their lengths.
+ghost use mathlib.Core.Path.{_≡_};
+ghost use Prim.Native.Nat.{_≤_, min};
+ghost use lib.ListN.{length};
+ghost use Rattle.refusal.specs.Bounds.{maxDimension};
+ghost use Rattle.refusal.specs.Steps.{verdict};
+ghost use Rattle.refusal.specs.Refusal.{replyOf};
+ghost use Rattle.columns.specs.Factor.{Factor};
+ghost use Rattle.selection.specs.Selection.{call, room, roomSteps, selectedSteps};
+ghost use Rattle.selected_checks.specs.Later.{fromDiagonals, fromRequests, fromColumns};
+use pair_marks::pair_total;
+use refusal::Checked;
+use refusal::MAX_ENTRIES;
+use refusal::Refusal;
+
+fn least(a: usize, b: usize) -> usize
+    ensures { λ r. ⌜ r ≡ min a b ⌝ }
+{
+    if a < b {
+        return a;
+    }
+    b
+}
+
+// Step 7.
+fn check_room(
+    n: usize,
+    limit: usize,
+    result_starts: usize,
+    result_rows: usize,
+    result_values: usize,
+    scratch: usize,
+) -> Checked
+    requires { ⌜ n ≤ maxDimension ⌝ }
+    ensures { λ r. ⌜ replyOf r ≡ verdict (roomSteps n limit (room «result_starts» «result_rows» «result_values» scratch)) ⌝ }
+{
+    let total = pair_total(n);
+    let most = least(limit, total);
+    if result_starts < n + 1 {
+        return Checked::Refused(Refusal::TooShort);
+    }
+    if result_rows < most {
+        return Checked::Refused(Refusal::TooShort);
+    }
+    if result_values < most {
+        return Checked::Refused(Refusal::TooShort);
+    }
+    if scratch < 2 * total + 4 * n {
+        return Checked::Refused(Refusal::TooShort);
+    }
+    Checked::Accepted
+}
+
+// Steps 6 and 7, past 1 to 5.
+fn check_from_diagonals(
+    n: usize,
+    starts: &[u32],
+    rows: &[u32],
+    values: &[f64],
+    dimension: usize,
+    request_rows: &[u32],
+    request_columns: &[u32],
+    limit: usize,
+    result_starts: usize,
+    result_rows: usize,
+    result_values: usize,
+    scratch: usize,
+) -> Checked
+    requires { ⌜ (n ≤ maxDimension) × Factor n (now starts) (now rows) (length (now values)) ⌝ }
+    ensures { λ r. ⌜ replyOf r ≡ verdict (fromDiagonals
+        (call n (now (starts .entry)) (now (rows .entry)) (now (values .entry)) dimension (now («request_rows» .entry)) (now («request_columns» .entry)) limit)
+        (room «result_starts» «result_rows» «result_values» scratch)) ⌝ }
+{
+    match kept::check_diagonals(n, starts, rows, values) {
+        Checked::Refused(why) => Checked::Refused(why),
+        Checked::Accepted => check_room(
+            n,
+            limit,
+            result_starts,
+            result_rows,
+            result_values,
+            scratch,
+        ),
+    }
+}
+
+// Steps 4 to 7, past 1 to 3.
+fn check_from_requests(
+    n: usize,
+    starts: &[u32],
+    rows: &[u32],
+    values: &[f64],
+    dimension: usize,
+    request_rows: &[u32],
+    request_columns: &[u32],
+    limit: usize,
+    result_starts: usize,
+    result_rows: usize,
+    result_values: usize,
+    scratch: usize,
+) -> Checked
+    requires { ⌜ (n ≤ maxDimension) × Factor n (now starts) (now rows) (length (now values)) ⌝ }
+    ensures { λ r. ⌜ replyOf r ≡ verdict (fromRequests
+        (call n (now (starts .entry)) (now (rows .entry)) (now (values .entry)) dimension (now («request_rows» .entry)) (now («request_columns» .entry)) limit)
+        (room «result_starts» «result_rows» «result_values» scratch)) ⌝ }
+{
+    match requests::check_requests(n, dimension, request_rows, request_columns) {
+        Checked::Refused(why) => Checked::Refused(why),
+        Checked::Accepted => check_from_diagonals(
+            n,
+            starts,
+            rows,
+            values,
+            dimension,
+            request_rows,
+            request_columns,
+            limit,
+            result_starts,
+            result_rows,
+            result_values,
+            scratch,
+        ),
+    }
+}
+
+// Steps 2 to 7, past 1.
+fn check_from_columns(
+    n: usize,
+    starts: &[u32],
+    rows: &[u32],
+    values: &[f64],
+    dimension: usize,
+    request_rows: &[u32],
+    request_columns: &[u32],
+    limit: usize,
+    result_starts: usize,
+    result_rows: usize,
+    result_values: usize,
+    scratch: usize,
+) -> Checked
+    requires { ⌜ n ≤ maxDimension ⌝ }
+    ensures { λ r. ⌜ replyOf r ≡ verdict (fromColumns
+        (call n (now (starts .entry)) (now (rows .entry)) (now (values .entry)) dimension (now («request_rows» .entry)) (now («request_columns» .entry)) limit)
+        (room «result_starts» «result_rows» «result_values» scratch)) ⌝ }
+{
+    match factor::check_columns(n, starts, rows, values.len()) {
+        Checked::Refused(why) => Checked::Refused(why),
+        Checked::Accepted => check_from_requests(
+            n,
+            starts,
+            rows,
+            values,
+            dimension,
+            request_rows,
+            request_columns,
+            limit,
+            result_starts,
+            result_rows,
+            result_values,
+            scratch,
+        ),
+    }
+}
+
+// Steps 1 to 7.
+pub fn check_selected(
+    n: usize,
+    starts: &[u32],
+    rows: &[u32],
+    values: &[f64],
+    dimension: usize,
+    request_rows: &[u32],
+    request_columns: &[u32],
+    limit: usize,
+    result_starts: usize,
+    result_rows: usize,
+    result_values: usize,
+    scratch: usize,
+) -> Checked
+    ensures { λ r. ⌜ replyOf r ≡ verdict (selectedSteps
+        (call n (now (starts .entry)) (now (rows .entry)) (now (values .entry)) dimension (now («request_rows» .entry)) (now («request_columns» .entry)) limit)
+        (room «result_starts» «result_rows» «result_values» scratch)) ⌝ }
+{
+    match factor::check_bounds(n, rows.len()) {
+        Checked::Refused(why) => Checked::Refused(why),
+        Checked::Accepted => {
+            if MAX_ENTRIES < request_rows.len() {
+                return Checked::Refused(Refusal::TooLarge);
+            }
+            check_from_columns(
+                n,
+                starts,
+                rows,
+                values,
+                dimension,
+                request_rows,
+                request_columns,
+                limit,
+                result_starts,
+                result_rows,
+                result_values,
+                scratch,
+            )
+        }
+    }
+}
