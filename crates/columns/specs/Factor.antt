@@ -181,23 +181,28 @@ module _ {n : ℕ} {starts rows : List ℕ} (S : Starts n starts rows) where
 pub neither-below : (q p : ℕ) → (q < p → ⊥) → (p < q → ⊥) → q ≡ p
 neither-below q p a b = le-antisymm (le-of-suc-le-suc (lt-of-not-le b)) (le-of-suc-le-suc (lt-of-not-le a))
 
-module _ {n : ℕ} {starts rows : List ℕ} (R : Sorted n starts rows) where
-  up : (c q m : ℕ) → c < n → start starts c ≤ q → q + suc m < start starts (c + 1) → row rows q < row rows (q + suc m)
-  up c q zero h lo hi =
-      let e : (q + 1) - 1 ≡ q = omega arith in
-      let r : row rows ((q + 1) - 1) < row rows (q + 1) = R .above c (q + 1) h (omega arith) (omega arith) in
-      omega (arith, ap (row rows) e)
-  up c q (suc m) h lo hi =
-      let e : (q + suc (suc m)) - 1 ≡ q + suc m = omega arith in
-      let r : row rows ((q + suc (suc m)) - 1) < row rows (q + suc (suc m)) = R .above c (q + suc (suc m)) h (omega arith) (omega arith) in
-      omega (arith, ap (row rows) e, up c q m h lo (omega arith))
+module _ (rows : List ℕ) (s e : ℕ) (above : (p : ℕ) → s < p → p < e → row rows (p - 1) < row rows p) where
+  up : (q m : ℕ) → s ≤ q → q + suc m < e → row rows q < row rows (q + suc m)
+  up q zero lo hi =
+      let w : (q + 1) - 1 ≡ q = omega arith in
+      let r : row rows ((q + 1) - 1) < row rows (q + 1) = above (q + 1) (omega arith) (omega arith) in
+      omega (arith, ap (row rows) w)
+  up q (suc m) lo hi =
+      let w : (q + suc (suc m)) - 1 ≡ q + suc m = omega arith in
+      let r : row rows ((q + suc (suc m)) - 1) < row rows (q + suc (suc m)) = above (q + suc (suc m)) (omega arith) (omega arith) in
+      omega (arith, ap (row rows) w, up q m lo (omega arith))
 
+  -- rows of which each is above the one before it ascend
+  pub above-ascends : (q p : ℕ) → s ≤ q → q < p → p < e → row rows q < row rows p
+  above-ascends q p lo l hi =
+      let w : q + suc (p - suc q) ≡ p = omega arith in
+      let u = up q (p - suc q) lo (omega arith) in
+      subst (λ (k : ℕ). row rows q < row rows k) w u
+
+module _ {n : ℕ} {starts rows : List ℕ} (R : Sorted n starts rows) where
   -- rows ascend along a column
   pub rows-rise : (c q p : ℕ) → c < n → start starts c ≤ q → q < p → p < start starts (c + 1) → row rows q < row rows p
-  rows-rise c q p h lo l hi =
-      let e : q + suc (p - suc q) ≡ p = omega arith in
-      let u = up c q (p - suc q) h lo (omega arith) in
-      subst (λ (k : ℕ). row rows q < row rows k) e u
+  rows-rise c q p h lo l hi = above-ascends rows (start starts c) (start starts (c + 1)) (λ k. R .above c k h) q p lo l hi
 
   -- equal rows of a column are at one place
   pub rows-once : (c q p : ℕ) → c < n → start starts c ≤ q → q < start starts (c + 1)

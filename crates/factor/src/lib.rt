@@ -1,12 +1,13 @@
 // A factor in compressed columns: refusals 1, 2 and 3.
 ghost use mathlib.Core.Path.{_≡_};
-ghost use Prim.Native.Nat.{_+_, _<_, _≤_};
+ghost use Prim.Native.Nat.{_+_, _<_};
 ghost use lib.ListN.{length};
-ghost use Rattle.lists.specs.Test.{any, anyIn};
+ghost use Rattle.lists.specs.Test.{any};
 ghost use Rattle.refusal.specs.Steps.{verdict};
 ghost use Rattle.refusal.specs.Refusal.{refusalNumber, replyOf};
-ghost use Rattle.columns.specs.Columns.{falls, outside, notAbove, unsorted, boundSteps, brokenSteps, startsSteps, rowsSteps, columnSteps, factorSteps};
+ghost use Rattle.columns.specs.Columns.{falls, outside, unsorted, boundSteps, brokenSteps, startsSteps, rowsSteps, columnSteps, factorSteps};
 ghost use Rattle.columns.specs.Factor.{Starts};
+use order::not_rising;
 use refusal::Checked;
 use refusal::Refusal;
 use words::at;
@@ -90,21 +91,6 @@ pub fn check_starts(n: usize, starts: &[u32], rows: &[u32], values: usize) -> Ch
         return Checked::Refused(Refusal::BrokenStarts);
     }
     check_broken(Refusal::BrokenStarts, n, starts, rows.len(), values)
-}
-
-// Whether a row between s and e is not above the one before it, the first left out.
-fn not_rising(rows: &[u32], s: usize, e: usize) -> bool
-    requires { ⌜ (s ≤ e) × (e ≤ length (now rows)) ⌝ }
-    ensures { λ r. ⌜ r ≡ anyIn (notAbove (now (rows .entry))) (s + 1) e ⌝ }
-{
-    let mut p = s + 1;
-    while p < e {
-        if rows[p] <= rows[p - 1] {
-            return true;
-        }
-        p += 1;
-    }
-    false
 }
 
 // Whether one of the first n columns does not ascend.

@@ -2,6 +2,7 @@
 pub mod Test
 pub mod Select
 pub mod Sum
+pub mod Place
 pub mod Tabulate
 pub mod Overwrite
 pub mod Cells

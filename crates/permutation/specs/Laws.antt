@@ -6,7 +6,7 @@ use native.Mathlib.Nat.{not-suc-le-zero, eq-or-lt-of-le, le-of-suc-le-suc}
 use native.Mathlib.Numerals.{add-one}
 use native.Mathlib.Decide.{ℕ-discrete, decLt}
 use mathlib.Core.Path.{_≡_, refl, sym, ap, ap₂, subst, _∙_}
-use mathlib.Core.Bool.{Bool, true, false, not, cond, _||_, or-false}
+use mathlib.Core.Bool.{Bool, true, false, not, _||_, or-false}
 use mathlib.Core.Logic.{_≢_, _⊎_, inl, inr, ⊎-elim}
 use mathlib.Core.List.{List, [], _∷_, _++_}
 use lib.Dec.{leb, ltb, eqb}
@@ -15,11 +15,12 @@ use lib.Seq.{ext-getD, getD-set-same, getD-set-other}
 use lib.Ieee.{Float, nan}
 use borrow.Author.Tests.{ltb-false, leb-false, lt-leb, eqb-true, eqb-false, eq-eqb, ne-eqb, not-false}
 use Rattle.lists.specs.Test.{any, any-none, any-next, any-hit, any-below, any-all, any-found, not-so}
+use Rattle.lists.specs.Place.{placeFrom-at}
 use Rattle.lists.specs.Sum.{bit, bit-most, sumTo, sumTo-zero, sumTo-one, sumTo-room}
 use Rattle.lists.specs.Tabulate.{tabulate, tabulate-length, tabulate-at, tabulate-cong, tabulate-of}
 use Rattle.lists.specs.Overwrite.{overwrite, overwrite-length, overwrite-at, overwrite-past}
 use Rattle.refusal.specs.Steps.{Step, each, Passed, Clear, passed-clear, clear-passed, passed-append, passed-front, passed-back, each-passed, passed-each, first-end}
-use Rattle.permutation.specs.Permutation.{index, among, indexSteps, inverseSteps, elementSteps, permutationSteps, acceptSteps, roomStep, placeFrom, placeOf, inverseOf, reordered, Permutation}
+use Rattle.permutation.specs.Permutation.{index, among, indexSteps, inverseSteps, elementSteps, permutationSteps, acceptSteps, roomStep, placeOf, inverseOf, reordered, Permutation}
 
 -- ---- passing 10 and 11
 
@@ -102,23 +103,11 @@ permutation-distinct P = record {
 
 -- ---- where an index stands
 
-module _ (perm : List ℕ) (x : ℕ) where
-  place-from : (i k m : ℕ) → i ≤ m → m < i + k → index perm m ≡ x → ((j : ℕ) → i ≤ j → j < m → index perm j ≡ x → ⊥) → placeFrom perm x i k ≡ m
-  unfolding placeFrom
-  place-from i zero m h l e only = absurd (omega arith)
-  place-from i (suc k) m h l e only =
-      ⊎-elim
-      (λ q. ap (λ (b : Bool). cond b i (placeFrom perm x (suc i) k)) (eq-eqb _ _ (ap (index perm) q ∙ e)) ∙ q)
-      (λ q.
-      ap (λ (b : Bool). cond b i (placeFrom perm x (suc i) k)) (ne-eqb _ _ (only i (omega arith) q))
-      ∙ place-from (suc i) k m q (omega arith) e (λ j a b. only j (omega arith) b))
-      (eq-or-lt-of-le h)
-
 module _ {perm : List ℕ} (P : Permutation perm) where
   -- an element stands at its own place
   pub placeOf-index : (i : ℕ) → i < length perm → placeOf perm (index perm i) ≡ i
   placeOf-index i l =
-      place-from perm (index perm i) 0 (length perm) i (omega arith) (omega arith) refl
+      placeFrom-at perm (index perm i) 0 (length perm) i (omega arith) (omega arith) refl
       (λ j a b e. let q = P .distinct j i (omega arith) l e in omega arith)
 
   -- and there is an element at an index's place

@@ -1,6 +1,6 @@
 -- A permutation's checks, its inverse and the reordering of a list by it. `perm` is orig_to_perm: original index i stands at perm i in factor order.
 -- Assumes nothing.
-use Prim.Native.Nat.{ℕ, zero, suc, _+_, _≤_, _<_}
+use Prim.Native.Nat.{ℕ, _+_, _≤_, _<_}
 use mathlib.Core.Path.{_≡_}
 use mathlib.Core.Bool.{Bool, true, false, not, cond}
 use mathlib.Core.List.{List, [], _∷_, _++_}
@@ -8,6 +8,7 @@ use lib.Dec.{leb, ltb, eqb}
 use lib.ListN.{length, getD, set}
 use lib.Ieee.{Float, nan}
 use Rattle.lists.specs.Test.{any}
+use Rattle.lists.specs.Place.{placeFrom}
 use Rattle.lists.specs.Tabulate.{tabulate}
 use Rattle.refusal.specs.Steps.{Step, each}
 use Rattle.refusal.specs.Bounds.{maxDimension}
@@ -61,11 +62,6 @@ invertSteps perm room = longStep perm ∷ acceptSteps perm room
 abbrev pub permuteSteps : {A : Type 0} → List ℕ → List A → ℕ → List Step
 permuteSteps perm input room =
     longStep perm ∷ longStep input ∷ (4, not (eqb (length input) (length perm))) ∷ acceptSteps perm room
-
--- the first place from i on, of k places, whose element is x; i + k if there is none
-unfoldable pub placeFrom : List ℕ → ℕ → ℕ → ℕ → ℕ
-placeFrom perm x i zero = i
-placeFrom perm x i (suc k) = let later = placeFrom perm x (suc i) k in cond (eqb (index perm i) x) i later
 
 -- where x stands in the list
 abbrev pub placeOf : List ℕ → ℕ → ℕ

@@ -9,8 +9,9 @@ use lib.Ieee.{div, ofInt, ofBits, ne}
 use Rattle.lists.specs.Test.{any}
 use Rattle.lists.specs.Tabulate.{tabulate}
 use Rattle.lists.specs.Overwrite.{overwrite}
+use Rattle.lists.specs.Place.{placeFrom}
 use Rattle.refusal.specs.Steps.{refused, answered, first, verdict, after, each}
-use Rattle.permutation.specs.Permutation.{validateSteps, invertSteps, placeFrom, inverseOf}
+use Rattle.permutation.specs.Permutation.{validateSteps, invertSteps, inverseOf}
 use Rattle.lists.specs.Sum.{sumTo}
 use Rattle.lists.specs.Select.{picked, select}
 use Rattle.lists.specs.Cells.{cellCount}

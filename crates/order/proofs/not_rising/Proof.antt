@@ -5,8 +5,8 @@ use borrow.Author.Tests.{le-leb, lt-leb}
 use borrow.Author.Needs.{needs}
 use Prim.Native.Nat.{_≤_, _-_, _+_}
 use mathlib.Core.Path.{_≡_, sym}
-use Rattle.factor.proofs.not_rising.Statement.{statement}
-use Rattle.factor.proofs.not_rising.Tie as tie
+use Rattle.order.proofs.not_rising.Statement.{statement}
+use Rattle.order.proofs.not_rising.Tie as tie
 
 abbrev Inv-loop : tie.InvT-loop
 Inv-loop rows s e p₀ p = (s + 1 ≤ p) × (anyIn (notAbove rows) (s + 1) p ≡ false)

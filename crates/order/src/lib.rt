@@ -1,0 +1,21 @@
+// The order of a column's rows.
+ghost use mathlib.Core.Path.{_≡_};
+ghost use Prim.Native.Nat.{_+_, _≤_};
+ghost use lib.ListN.{length};
+ghost use Rattle.lists.specs.Test.{anyIn};
+ghost use Rattle.columns.specs.Columns.{notAbove};
+
+// Whether a row between s and e is not above the one before it, the first left out.
+pub fn not_rising(rows: &[u32], s: usize, e: usize) -> bool
+    requires { ⌜ (s ≤ e) × (e ≤ length (now rows)) ⌝ }
+    ensures { λ r. ⌜ r ≡ anyIn (notAbove (now (rows .entry))) (s + 1) e ⌝ }
+{
+    let mut p = s + 1;
+    while p < e {
+        if rows[p] <= rows[p - 1] {
+            return true;
+        }
+        p += 1;
+    }
+    false
+}

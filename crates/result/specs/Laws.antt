@@ -1,0 +1,233 @@
+-- What passes 2 and 3 is well formed; there the lookup finds exactly the stored entries; it is symmetric; the diagonal list place by place.
+-- Assumes nothing.
+use Prim.Native.Nat.{ℕ, _+_, _-_, _≤_, _<_, max, min}
+use native.Mathlib.Omega.{arith}
+use native.Mathlib.Nat.{max-comm, min-comm, max-eq-left, max-eq-right, min-eq-left, min-eq-right, max-le, suc-max-suc, min-le-left, le-refl}
+use native.Mathlib.Decide.{decLt}
+use mathlib.Core.Path.{_≡_, refl, sym, ap, ap₂, _∙_}
+use mathlib.Core.Bool.{Bool, true, false}
+use mathlib.Core.List.{List, [], _∷_}
+use lib.ListN.{length, getD}
+use lib.Ieee.{Float, nan}
+use borrow.Author.Tests.{ltb-false, leb-false, le-ltb, lt-ltb, lt-leb, le-leb, eqb-false, eq-eqb, ne-eqb}
+use Rattle.lists.specs.Test.{anyIn-below, anyIn-all, not-so}
+use Rattle.lists.specs.Tabulate.{tabulate-length, tabulate-at}
+use Rattle.refusal.specs.Steps.{Step, Reply, refused, answered, decide, first, verdict, settle, Passed, passed-clear, clear-passed, passed-back}
+use Rattle.refusal.specs.Steps.{first-hit, first-skip, first-end, append-refused, append-passed, each-passed, passed-each}
+use Rattle.columns.specs.Columns.{start, row, notAbove}
+use Rattle.columns.specs.Factor.{Column, above-ascends}
+use Rattle.columns.specs.Kept.{f0}
+use Rattle.result.specs.Place.{placeOf, placeIn, Stands, placeIn-absent, placeIn-at, placeIn-stands, holds-stands}
+use Rattle.result.specs.Lookup.{dimension, noStarts, columnFaults, absentStep, entrySteps, resultSteps, diagSteps}
+use Rattle.result.specs.Lookup.{entryOf, valueAt, lookupOf, diagonalOf, diagonals, entryPlace, WellFormed}
+
+-- ---- 2 and 3 pass exactly if the columns are well formed
+module _ (starts rows : List ℕ) (values c : ℕ) where
+  pub columnFaults-sound : Passed (columnFaults starts rows values c) → Column rows values (start starts c) (start starts (c + 1))
+  unfolding columnFaults
+  columnFaults-sound e =
+      let d = passed-clear (columnFaults starts rows values c) e in
+      record {
+        ordered = ltb-false _ _ (d .0);
+        stored = ltb-false _ _ (d .1 .0);
+        weighed = ltb-false _ _ (d .1 .1 .0);
+        ascends =
+            above-ascends rows (start starts c) (start starts (c + 1))
+            (λ p lo hi. leb-false _ _ (anyIn-below (notAbove rows) (start starts c + 1) (start starts (c + 1)) p (d .1 .1 .1 .0) (omega arith) hi));
+      }
+
+  pub columnFaults-passed : Column rows values (start starts c) (start starts (c + 1)) → Passed (columnFaults starts rows values c)
+  unfolding columnFaults
+  columnFaults-passed C =
+      clear-passed (columnFaults starts rows values c) (
+        le-ltb _ _ (C .ordered),
+        (
+          le-ltb _ _ (C .stored),
+          (
+            le-ltb _ _ (C .weighed),
+            (
+              anyIn-all (notAbove rows) (start starts c + 1) (start starts (c + 1))
+                  (λ p lo hi. lt-leb _ _ (C .ascends (p - 1) p (omega arith) (omega arith) hi)),
+              tt,
+            ),
+          ),
+        ),
+      )
+
+pub noStarts-none : (starts : List ℕ) → 0 < length starts → noStarts starts .1 ≡ false
+noStarts-none starts h = ne-eqb _ _ (λ (e : length starts ≡ 0). omega arith)
+
+module _ (starts rows : List ℕ) (values : ℕ) where
+  pub resultSteps-sound : Passed (resultSteps starts rows values) → WellFormed starts rows values
+  unfolding resultSteps
+  resultSteps-sound e =
+      let d = passed-clear (resultSteps starts rows values) e in
+      let some : length starts ≡ 0 → ⊥ = eqb-false _ _ (d .0) in
+      record {
+        some = positive some;
+        column = λ c l.
+            columnFaults-sound starts rows values c
+            (each-passed (columnFaults starts rows values) (dimension starts) c (passed-back (noStarts starts ∷ []) _ e) l);
+      }
+    where
+      positive : (length starts ≡ 0 → ⊥) → 0 < length starts
+      positive h = omega arith
+
+  pub resultSteps-passed : WellFormed starts rows values → Passed (resultSteps starts rows values)
+  unfolding resultSteps
+  resultSteps-passed W =
+      first-skip 2 _ tt (noStarts-none starts (W .some))
+      (passed-each (columnFaults starts rows values) (dimension starts) (λ c l. columnFaults-passed starts rows values c (W .column c l)))
+
+-- the rows alone
+pub column-rows : {rows : List ℕ} {values s e : ℕ} → Column rows values s e → Column rows (length rows) s e
+column-rows C = record { ordered = C .ordered; stored = C .stored; weighed = C .stored; ascends = C .ascends }
+
+pub wellFormed-rows : {starts rows : List ℕ} {values : ℕ} → WellFormed starts rows values → WellFormed starts rows (length rows)
+wellFormed-rows W = record { some = W .some; column = λ c l. column-rows (W .column c l) }
+
+-- ---- the place of an entry
+module _ (starts rows : List ℕ) (row col : ℕ) where
+  at-place : {r c : ℕ} → max row col ≡ r → min row col ≡ c → entryPlace starts rows row col ≡ placeIn rows r (start starts c) (start starts (c + 1))
+  at-place = ap₂ (λ (r c : ℕ). placeIn rows r (start starts c) (start starts (c + 1)))
+
+  pub entryPlace-ordered : col ≤ row → entryPlace starts rows row col ≡ placeIn rows row (start starts col) (start starts (col + 1))
+  entryPlace-ordered h = at-place (max-eq-left h) (min-eq-right h)
+
+  pub entryPlace-exchanged : row ≤ col → entryPlace starts rows row col ≡ placeIn rows col (start starts row) (start starts (row + 1))
+  entryPlace-exchanged h = at-place (max-eq-right h) (min-eq-left h)
+
+-- ---- the lookup
+module _ {A : Type 0} (blank : A) (values : List A) where
+  decide-value : (b : Bool) (k : ℕ) (x : Reply ℕ) (y : Reply A) → y ≡ valueAt blank values x → decide b k y ≡ valueAt blank values (decide b k x)
+  decide-value true k x y e = refl
+  decide-value false k x y e = e
+
+  -- the value at the place that is found
+  first-value : (steps : List Step) (p : ℕ) → first steps (getD values p blank) ≡ valueAt blank values (first steps p)
+  unfolding first
+  first-value [] p = refl
+  first-value (s ∷ steps) p = decide-value (s .1) (s .0) (first steps p) (first steps (getD values p blank)) (first-value steps p)
+
+module _ {A : Type 0} (blank : A) (starts rows : List ℕ) (values : List A) where
+  -- exchanging row and column changes nothing
+  pub lookup-symmetric : (row col : ℕ) → lookupOf blank starts rows values row col ≡ lookupOf blank starts rows values col row
+  lookup-symmetric row col = ap₂ (entryOf blank starts rows values) (max-comm row col) (min-comm row col)
+
+  pub lookup-ordered : (row col : ℕ) → col ≤ row → lookupOf blank starts rows values row col ≡ entryOf blank starts rows values row col
+  lookup-ordered row col h = ap₂ (entryOf blank starts rows values) (max-eq-left h) (min-eq-right h)
+
+  pub lookup-exchanged : (row col : ℕ) → row ≤ col → lookupOf blank starts rows values row col ≡ entryOf blank starts rows values col row
+  lookup-exchanged row col h = ap₂ (entryOf blank starts rows values) (max-eq-right h) (min-eq-left h)
+
+  -- step by step: no starts, a column outside, a broken column, a row outside
+  module _ (r c : ℕ) where
+    pub entryOf-none : length starts ≡ 0 → entryOf blank starts rows values r c ≡ refused 2
+    unfolding entryOf entrySteps
+    entryOf-none e = first-hit 2 _ _ (eq-eqb _ _ e)
+
+    pub entryOf-outside : 0 < length starts → dimension starts ≤ c → entryOf blank starts rows values r c ≡ refused 8
+    unfolding entryOf entrySteps
+    entryOf-outside some out = first-skip 2 _ _ (noStarts-none starts some) (first-hit 8 _ _ (le-leb _ _ out))
+
+    module _ (some : 0 < length starts) (inside : c < dimension starts) where
+      pub entryOf-broken : (k : ℕ) → verdict (columnFaults starts rows (length values) c) ≡ refused k → entryOf blank starts rows values r c ≡ refused k
+      unfolding entryOf entrySteps
+      entryOf-broken k e =
+          first-skip 2 _ _ (noStarts-none starts some)
+          (first-skip 8 _ _ (lt-leb _ _ inside) (append-refused (columnFaults starts rows (length values) c) _ k _ e))
+
+      pub entryOf-row : Passed (columnFaults starts rows (length values) c) → dimension starts ≤ r → entryOf blank starts rows values r c ≡ refused 8
+      unfolding entryOf entrySteps
+      entryOf-row passed out =
+          first-skip 2 _ _ (noStarts-none starts some)
+          (first-skip 8 _ _ (lt-leb _ _ inside)
+          (append-passed (columnFaults starts rows (length values) c) _ _ passed ∙ first-hit 8 _ _ (le-leb _ _ out)))
+
+      -- else the place decides
+      pub entryOf-place : Passed (columnFaults starts rows (length values) c) → r < dimension starts
+          → entryOf blank starts rows values r c ≡ valueAt blank values (placeIn rows r (start starts c) (start starts (c + 1)))
+      unfolding entryOf entrySteps placeIn
+      entryOf-place passed below =
+          first-skip 2 _ _ (noStarts-none starts some)
+          (first-skip 8 _ _ (lt-leb _ _ inside)
+          (append-passed (columnFaults starts rows (length values) c) _ _ passed
+          ∙ first-skip 8 _ _ (lt-leb _ _ below)
+          (first-value blank values (absentStep starts rows r c ∷ []) (placeOf rows r (start starts c) (start starts (c + 1))))))
+
+  module _ (W : WellFormed starts rows (length values)) where
+    -- a well-formed result: the place decides
+    pub lookup-place : (row col : ℕ) → row < dimension starts → col < dimension starts
+        → lookupOf blank starts rows values row col ≡ valueAt blank values (entryPlace starts rows row col)
+    lookup-place row col h l =
+        let c : min row col < dimension starts = omega (arith, min-le-left row col) in
+        entryOf-place (max row col) (min row col) (W .some) c (columnFaults-passed starts rows (length values) _ (W .column _ c)) (rw (← suc-max-suc row col) (max-le h l))
+
+    module _ (r c : ℕ) (order : c ≤ r) (inside : r < dimension starts) where
+      place : lookupOf blank starts rows values r c ≡ valueAt blank values (placeIn rows r (start starts c) (start starts (c + 1)))
+      place =
+          lookup-ordered r c order
+          ∙ entryOf-place r c (W .some) (omega arith) (columnFaults-passed starts rows (length values) c (W .column c (omega arith))) inside
+
+      -- a stored entry's value
+      pub lookup-at : (p : ℕ) → Stands rows r (start starts c) (start starts (c + 1)) p → lookupOf blank starts rows values r c ≡ answered (getD values p blank)
+      lookup-at p S = place ∙ ap (valueAt blank values) (placeIn-at rows r _ _ (W .column c (omega arith) .ascends) p S)
+
+      -- no stored entry: 8
+      pub lookup-absent : ((p : ℕ) → Stands rows r (start starts c) (start starts (c + 1)) p → ⊥) → lookupOf blank starts rows values r c ≡ refused 8
+      lookup-absent none =
+          place
+          ∙ ap (valueAt blank values)
+          (placeIn-absent rows r _ _ (not-so _ (λ h. let f = holds-stands rows r (start starts c) (start starts (c + 1)) h in none (f .0) (f .1))))
+
+      -- what is answered is a stored entry's value
+      pub lookup-stands : (v : A) → lookupOf blank starts rows values r c ≡ answered v
+          → (p : ℕ) × Stands rows r (start starts c) (start starts (c + 1)) p × (v ≡ getD values p blank)
+      lookup-stands v e = go (placeIn rows r (start starts c) (start starts (c + 1))) refl
+        where
+          go : (x : Reply ℕ) → placeIn rows r (start starts c) (start starts (c + 1)) ≡ x
+              → (p : ℕ) × Stands rows r (start starts c) (start starts (c + 1)) p × (v ≡ getD values p blank)
+          go (refused k) h =
+              let w : answered v ≡ refused k = sym e ∙ place ∙ ap (valueAt blank values) h in
+              let z : _≡_ {A = ℕ} 0 1 = cc in
+              absurd (omega arith)
+          go (answered p) h =
+              let w : answered v ≡ answered (getD values p blank) = sym e ∙ place ∙ ap (valueAt blank values) h in
+              (p, placeIn-stands rows r _ _ (W .column c (omega arith) .ascends) p h, cc)
+
+    -- a row or a column outside: 8
+    pub lookup-outside : (row col : ℕ) → dimension starts ≤ max row col → lookupOf blank starts rows values row col ≡ refused 8
+    lookup-outside row col h = elim (decLt (min row col) (dimension starts)) [
+      | yes l ↦ entryOf-row (max row col) (min row col) (W .some) l (columnFaults-passed starts rows (length values) _ (W .column _ l)) h
+      | no l ↦ entryOf-outside (max row col) (min row col) (W .some) (omega arith)
+    ]
+
+    -- the diagonal of a column
+    pub diagonalOf-place : (zero : A) (c : ℕ) → c < dimension starts
+        → diagonalOf blank zero starts rows values c ≡ settle zero (valueAt blank values (placeIn rows c (start starts c) (start starts (c + 1))))
+    diagonalOf-place zero c l = ap (settle zero) (place c c (le-refl c) l)
+
+-- ---- the diagonal list
+module _ (starts rows : List ℕ) (values : List Float) where
+  pub diagonals-length : length (diagonals starts rows values) ≡ dimension starts
+  unfolding diagonals
+  diagonals-length = tabulate-length _ (dimension starts)
+
+  pub diagonals-at : (c : ℕ) → c < dimension starts → getD (diagonals starts rows values) c nan ≡ diagonalOf nan f0 starts rows values c
+  unfolding diagonals
+  diagonals-at c l = tabulate-at _ (dimension starts) c nan l
+
+-- its steps: a malformed result, a short output, or neither
+module _ (starts rows : List ℕ) (values room : ℕ) where
+  pub diagSteps-malformed : (k : ℕ) → verdict (resultSteps starts rows values) ≡ refused k → verdict (diagSteps starts rows values room) ≡ refused k
+  unfolding diagSteps
+  diagSteps-malformed k e = append-refused (resultSteps starts rows values) _ k tt e
+
+  module _ (passed : Passed (resultSteps starts rows values)) where
+    pub diagSteps-short : room < dimension starts → verdict (diagSteps starts rows values room) ≡ refused 7
+    unfolding diagSteps
+    diagSteps-short h = append-passed (resultSteps starts rows values) _ tt passed ∙ first-hit 7 _ _ (lt-ltb _ _ h)
+
+    pub diagSteps-passed : dimension starts ≤ room → Passed (diagSteps starts rows values room)
+    unfolding diagSteps
+    diagSteps-passed h = append-passed (resultSteps starts rows values) _ tt passed ∙ first-skip 7 _ _ (le-ltb _ _ h) (first-end tt)
