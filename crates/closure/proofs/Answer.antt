@@ -17,13 +17,13 @@ use Rattle.closed_set.specs.ClosedSet.{member, member-holds, member-closed, mem
 use Rattle.closed_set.specs.Requests.{requested, requested-ranged}
 use Rattle.closed_set.specs.Size.{closureSize, requestedPairs, requestedPairs-within}
 use Rattle.diagnostics.specs.Diagnosis.{statusOf}
+use Rattle.closure.specs.FactorPattern.{factor-pattern}
 use Rattle.closure.specs.declared.Closure.{Closure}
 use Rattle.closure.specs.Scratch.{Marked, Within}
 use Rattle.closure.specs.Requests.{Ready, Requested}
 use Rattle.closure.specs.Queue.{Waiting, Finished}
 use Rattle.closure.specs.Closure.{ClosureInput, closureOf, Closing}
 use Rattle.closure.proofs.Insert.{grown-mark}
-use Rattle.closure.proofs.Queue.{factor-pattern}
 
 -- ---- marks as a set
 

@@ -23,36 +23,8 @@ use Rattle.columns.specs.Pattern.{pattern-at, pattern-above, pattern-inside}
 use Rattle.closed_set.specs.ClosedSet.{Closed, Pattern, descends, descends-at, descends-found}
 use Rattle.closure.specs.Scratch.{rowOf, columnOf, queueWord, Queued, Marked, Within, Grown, Insert, Inserted}
 use Rattle.closure.specs.Queue.{Waiting, Finished}
+use Rattle.closure.specs.FactorPattern.{entry-descends, descends-entry}
 use Rattle.closure.proofs.Insert.{grown-none, grown-trans, grown-mark, count-most}
-
--- ---- the descendants of a column are its entries kept below the diagonal
-
-module _ {n : ℕ} {starts rows : List ℕ} {values : ℕ} (nz : ℕ → Bool) (F : Factor n starts rows values) where
-  pub factor-pattern : Pattern n (pattern starts rows nz)
-  factor-pattern = record {
-    below = λ c d h e.
-        let f = descends-found (pattern starts rows nz) c d e in
-        subst (λ (k : ℕ). c < k) (f .2) (pattern-above nz (F .starts-rise) c h (f .0) (f .1));
-    inside = λ c d h e.
-        let f = descends-found (pattern starts rows nz) c d e in
-        subst (λ (k : ℕ). k < n) (f .2) (pattern-inside nz (F .starts-rise) (F .rows-ascend) c h (f .0) (f .1));
-  }
-
-  module _ (c : ℕ) (h : c < n) where
-    entry-descends : (p : ℕ) → start starts c ≤ p → p < start starts (c + 1) → keptBelow rows nz c p ≡ true
-        → descends (pattern starts rows nz) c (row rows p) ≡ true
-    entry-descends p lo hi t =
-        let g = select-holds (keptBelow rows nz c) (start starts c) (start starts (c + 1)) p lo hi t in
-        let l : g .0 < length (pattern starts rows nz c) = rw length-map (g .1) in
-        subst (λ (d : ℕ). descends (pattern starts rows nz) c d ≡ true) (pattern-at nz (F .starts-rise) c h (g .0) l ∙ ap (row rows) (g .2))
-        (descends-at (pattern starts rows nz) c (g .0) l)
-
-    descends-entry : (d : ℕ) → descends (pattern starts rows nz) c d ≡ true
-        → (p : ℕ) × (start starts c ≤ p) × (p < start starts (c + 1)) × (keptBelow rows nz c p ≡ true) × (row rows p ≡ d)
-    descends-entry d e =
-        let f = descends-found (pattern starts rows nz) c d e in
-        let u = select-at (keptBelow rows nz c) (start starts c) (start starts (c + 1)) (f .0) (F .starts-rise .rising c h) (rw length-map at (f .1)) in
-        (getD (descPlaces starts rows nz c) (f .0) 0, u .from, u .below, u .passes, sym (pattern-at nz (F .starts-rise) c h (f .0) (f .1)) ∙ f .2)
 
 -- ---- dependencies that are marked
 

@@ -2,6 +2,7 @@
 pub mod Scratch
 pub mod Requests
 pub mod Queue
+pub mod FactorPattern
 pub mod Closure
 pub mod KeptSet
 pub mod Diagnosis

@@ -1,2 +1,3 @@
 -- The entries of a selected inverse as lists.
 pub mod Entries
+pub mod Position

@@ -49,6 +49,10 @@ setSize n S = cellCount (byColumn S) columnFirst (columnEnd n) n
 -- ---- where columns start
 
 module _ (n : ℕ) where
+  pub colStart-none : colStart n 0 ≡ 0
+  unfolding colStart
+  colStart-none = refl
+
   pub colStart-next : (c : ℕ) → colStart n (c + 1) ≡ colStart n c + (n - c)
   unfolding colStart
   colStart-next c = rw add-one

@@ -49,7 +49,7 @@ pub record Room : Type 0 where
   pub resultValues : ℕ
   pub scratch : ℕ
 
--- a call and lengths, from a function's parameters in their order
+-- a call, lengths and lists, from a function's parameters in their order
 abbrev pub call : ℕ → List ℕ → List ℕ → List Float → ℕ → List ℕ → List ℕ → ℕ → Call
 call n starts rows values dimension requestRows requestColumns limit = record {
   n = n;
@@ -64,6 +64,9 @@ call n starts rows values dimension requestRows requestColumns limit = record {
 
 abbrev pub room : ℕ → ℕ → ℕ → ℕ → Room
 room resultStarts resultRows resultValues scratch = record { resultStarts = resultStarts; resultRows = resultRows; resultValues = resultValues; scratch = scratch }
+
+abbrev pub lists : List ℕ → List ℕ → List Float → List ℕ → Lent
+lists resultStarts resultRows resultValues scratch = record { resultStarts = resultStarts; resultRows = resultRows; resultValues = resultValues; scratch = scratch }
 
 -- the lengths of lists
 abbrev pub roomOf : Lent → Room

@@ -1,0 +1,282 @@
+-- One column of the recurrence over a closed set: what its steps ask of the later columns, and that they leave the table's entries.
+-- Assumes nothing.
+use Prim.Native.Nat.{ℕ, suc, _+_, _≤_, _<_, min, max}
+use native.Mathlib.Omega.{arith}
+use native.Mathlib.Nat.{eq-or-lt-of-le}
+use mathlib.Core.Path.{_≡_, refl, sym, ap, ap₂, subst, subst₂, _∙_}
+use mathlib.Core.Bool.{Bool, true, false}
+use mathlib.Core.Logic.{⊎-elim}
+use mathlib.Core.List.{List, [], _∷_, map}
+use lib.Dec.{ltb}
+use lib.ListN.{length, getD, length-map}
+use lib.Seq.{getD-set-same}
+use lib.Ieee.{Float, nan}
+use borrow.Author.Tests.{ltb-true}
+use Rattle.lists.specs.Test.{and-left}
+use Rattle.lists.specs.Select.{select-at, select-holds}
+use Rattle.pairs.specs.Pair.{pairTotal}
+use Rattle.pairs.specs.ColumnOrder.{columnMarking, setSize}
+use Rattle.closed_set.specs.ClosedSet.{descends, descends-at}
+use Rattle.columns.specs.Columns.{start, row}
+use Rattle.columns.specs.Kept.{nonzero, keptBelow, entry, descPlaces, desc, diag, pattern}
+use Rattle.columns.specs.Factor.{Column, factor-column}
+use Rattle.columns.specs.Pattern.{pattern-at}
+use Rattle.takahashi.specs.Recurrence.{Entry, Rows, Lower, Solves, at, table-solves}
+use Rattle.exact.specs.Exact.{floats, float-off, float-on}
+use Rattle.entries.specs.Entries.{columnCount, position, floatTable}
+use Rattle.entries.specs.Position.{columnCount-mono, position-first, position-in, position-below, position-rises, position-found}
+use Rattle.route_sums.specs.Sums.{positionWord, inverseAt, sumBetween, sumBetween-cong, Summing}
+use Rattle.route_sums.specs.Stored.{putIf, putIf-length, putIf-other, entrySum, Storing, SumsStored}
+use Rattle.route_finish.specs.Finish.{PartDivided, DiagonalRoom}
+use Rattle.closure_route.specs.Route.{ClosureRoute, SolvedFrom, Solved}
+
+-- where column j of the result and of the factor starts and ends
+pub record Ends (n : ℕ) (starts scratch : List ℕ) (j first last s e : ℕ) : Type 0 where
+  pub first-is : first ≡ columnCount n (columnMarking n scratch) j
+  pub last-is : last ≡ columnCount n (columnMarking n scratch) (j + 1)
+  pub start-is : s ≡ start starts j
+  pub end-is : e ≡ start starts (j + 1)
+
+-- each row of a mapped list, by its place
+rows-of : {W : Type 0} (n j : ℕ) (f : ℕ → Entry W) (l : List ℕ)
+    → ((i : ℕ) → i < length l → (j < f (getD l i 0) .row) × (f (getD l i 0) .row < n)) → Rows n j (map f l)
+rows-of n j f [] h = tt
+rows-of n j f (p ∷ l) h = (h 0 (omega arith) .0, h 0 (omega arith) .1, rows-of n j f l (λ i b. h (suc i) (omega arith)))
+
+module _ {n : ℕ} {starts rows : List ℕ} {values : List Float} {firsts listed scratch : List ℕ} {size : ℕ}
+    (G : ClosureRoute n starts rows values firsts listed scratch size) where
+  abbrev S : ℕ → ℕ → Bool
+  S = columnMarking n scratch
+
+  abbrev Z : ℕ → ℕ → Float
+  Z = floatTable n starts rows values
+
+  -- the entry at p is kept below the diagonal of column j
+  abbrev Kept : ℕ → ℕ → Type 0
+  Kept j p = (start starts j ≤ p) × (p < start starts (j + 1)) × (keptBelow rows (nonzero values) j p ≡ true)
+
+  column : (j : ℕ) → j < n → Column rows (length values) (start starts j) (start starts (j + 1))
+  column j jn = factor-column (G .factor) j jn
+
+  row-below : (j p : ℕ) → Kept j p → j < row rows p
+  row-below j p k = ltb-true j (row rows p) (and-left (ltb j (row rows p)) (nonzero values p) (k .2))
+
+  row-inside : (j p : ℕ) → j < n → start starts j ≤ p → p < start starts (j + 1) → row rows p < n
+  row-inside j p jn lo hi = G .factor .rows-ascend .inside p (omega (arith, column j jn .stored))
+
+  -- the table solves the recurrence
+  solves : Solves floats float-off float-on (diag starts rows values) (desc starts rows values) (Lower n) Z
+  unfolding floatTable
+  solves = table-solves floats float-off float-on n (diag starts rows values) (desc starts rows values) descendants
+    where
+      descendants : (j : ℕ) → j < n → Rows n j (desc starts rows values j)
+      descendants j jn =
+          rows-of n j (entry rows values) (descPlaces starts rows (nonzero values) j)
+          (λ i l.
+          let u = select-at (keptBelow rows (nonzero values) j) (start starts j) (start starts (j + 1)) i (column j jn .ordered) l in
+          (row-below j _ (u .from, u .below, u .passes), row-inside j _ jn (u .from) (u .below)))
+
+  -- the pair of a member's row and a descendant of its column is a member
+  dependency : (r j p : ℕ) → j ≤ r → r < n → S r j ≡ true → Kept j p → S (max r (row rows p)) (min r (row rows p)) ≡ true
+  dependency r j p h l t k =
+      let jn : j < n = omega arith in
+      let nz = nonzero values in
+      let g = select-holds (keptBelow rows nz j) (start starts j) (start starts (j + 1)) p (k .0) (k .1) (k .2) in
+      let b : g .0 < length (pattern starts rows nz j) = rw length-map (g .1) in
+      let d : descends (pattern starts rows nz) j (row rows p) ≡ true =
+      subst (λ (x : ℕ). descends (pattern starts rows nz) j x ≡ true) (pattern-at nz (G .factor .starts-rise) j jn (g .0) b ∙ ap (row rows) (g .2))
+      (descends-at (pattern starts rows nz) j (g .0) b) in
+      G .closed r j (row rows p) h l d t
+
+  -- its position stands behind the marks
+  word-is : (r k : ℕ) → r < n → k < n → S (max r k) (min r k) ≡ true → positionWord n scratch r k ≡ position n S (max r k) (min r k)
+  word-is r k a b t = G .positions (max r k) (min r k) (omega arith) (omega arith) t
+
+  -- what a sum asks
+  column-summing : (pairs r j : ℕ) → pairs ≡ pairTotal n → j ≤ r → r < n → S r j ≡ true
+      → Summing n pairs r j (start starts j) (start starts (j + 1)) rows values scratch size
+  column-summing pairs r j all h l t =
+      let jn : j < n = omega arith in
+      record {
+        small = G .small;
+        all = all;
+        left = l;
+        column = column j jn;
+        inside = λ p lo hi. row-inside j p jn lo hi;
+        room = G .room;
+        known = λ p lo hi k.
+            let b = row-inside j p jn lo hi in
+            let m = dependency r j p h l t (lo, hi, k) in
+            let w = word-is r (row rows p) l b m in
+            let q = position-below n S (max r (row rows p)) (min r (row rows p)) n (omega arith) (omega arith) (omega arith) m in
+            omega (arith, G .values-fit);
+      }
+
+  -- a column's end is within the set
+  column-most : (j : ℕ) → j < n → columnCount n S (j + 1) ≤ setSize n S
+  column-most j jn = columnCount-mono n S (j + 1) n (omega arith)
+
+  -- a place of column j in the result
+  abbrev Place : ℕ → ℕ → Type 0
+  Place j q = (r : ℕ) × (j ≤ r) × (r < n) × (S r j ≡ true) × (position n S r j ≡ q) × (row listed q ≡ r)
+
+  place : (j q : ℕ) → j < n → columnCount n S j ≤ q → q < columnCount n S (j + 1) → Place j q
+  place j q jn lo hi =
+      let w = position-found n S j q jn lo hi in
+      (w .0, w .1, w .2, w .3, w .4, ap (row listed) (sym (w .4)) ∙ G .rows-are (w .0) j (w .1) (w .2) (w .3))
+
+  -- what the column's sums ask
+  column-storing : (pairs j : ℕ) → pairs ≡ pairTotal n → j < n
+      → Storing n pairs j (columnCount n S j) (columnCount n S (j + 1)) (start starts j) (start starts (j + 1)) rows values listed scratch size
+  column-storing pairs j all jn =
+      let most = column-most j jn in
+      record {
+        ordered = columnCount-mono n S j (j + 1) (omega arith);
+        fits = omega (arith, G .values-fit);
+        listed = omega (arith, G .rows-fit);
+        sums = λ q lo hi b. let w = place j q jn lo hi in rw (w .5) (column-summing pairs (w .0) j all (w .1) (w .2) (w .3));
+        behind = λ q p lo hi b a e k. let w = place j q jn lo hi in rw (w .5) (later (w .0) p (omega (arith, w .5)) (w .2) (w .3) (a, e, k));
+      }
+    where
+      later : (r p : ℕ) → j < r → r < n → S r j ≡ true → Kept j p → columnCount n S (j + 1) ≤ positionWord n scratch r (row rows p)
+      later r p h l t k =
+          let b = row-inside j p jn (k .0) (k .1) in
+          let u = row-below j p k in
+          let w = word-is r (row rows p) l b (dependency r j p (omega arith) l t k) in
+          let m = columnCount-mono n S (j + 1) (min r (row rows p)) (omega arith) in
+          omega arith
+
+  -- what the diagonal's entry asks
+  column-diagonal : (pairs j : ℕ) → pairs ≡ pairTotal n → j < n
+      → DiagonalRoom n pairs j (columnCount n S j) (start starts j) (start starts (j + 1)) rows values scratch size
+  column-diagonal pairs j all jn = record {
+    small = G .small;
+    inside = jn;
+    room = G .room;
+    fits = λ t. omega (arith, position-first n S j, position-below n S j j n (omega arith) jn jn t, G .values-fit);
+    sums = λ t. column-summing pairs j j all (omega arith) jn t;
+  }
+
+  -- ---- the entries
+
+  module _ {j : ℕ} {z₀ z₁ z₂ z₃ : List Float} (jn : j < n) (size-is : length z₀ ≡ size) (D : SolvedFrom n S Z (j + 1) z₀)
+      (A : SumsStored n j (columnCount n S j) (columnCount n S (j + 1)) (start starts j) (start starts (j + 1)) rows values listed scratch z₀ z₁)
+      (B : PartDivided j (diag starts rows values j) listed (columnCount n S j) (columnCount n S (j + 1)) z₁ z₂)
+      (C : z₃ ≡ putIf (S j j) z₂ (columnCount n S j)
+      (float-on (diag starts rows values j) (entrySum n j (start starts j) (start starts (j + 1)) rows values scratch z₂ j))) where
+    abbrev sum-of : (ℕ → Float) → Float
+    sum-of r = sumBetween rows values j r (start starts j) (start starts (j + 1))
+
+    -- below the diagonal
+    sum-below : (r : ℕ) → j < r → r < n → S r j ≡ true → sum-of (inverseAt n scratch z₀ r) ≡ sum-of (at Z r)
+    sum-below r h l t =
+        sumBetween-cong rows values j (inverseAt n scratch z₀ r) (at Z r) (start starts j) (start starts (j + 1)) (column j jn .ordered)
+        (λ p lo hi k.
+        let b = row-inside j p jn lo hi in
+        let u = row-below j p (lo, hi, k) in
+        let m = dependency r j p (omega arith) l t (lo, hi, k) in
+        ap (λ (q : ℕ). getD z₀ q nan) (word-is r (row rows p) l b m)
+        ∙ D (max r (row rows p)) (min r (row rows p)) (omega arith) (omega arith) (omega arith) m)
+
+    under : (r : ℕ) → j < r → r < n → S r j ≡ true → getD z₂ (position n S r j) nan ≡ Z r j
+    unfolding sumBetween
+    under r h l t =
+        let q = position n S r j in
+        let e : row listed q ≡ r = G .rows-are r j (omega arith) l t in
+        let b : j < row listed q = omega arith in
+        let hi = position-in n S r j (omega arith) l t in
+        B .below q (omega arith) hi b
+        ∙ ap (float-off (diag starts rows values j)) (A .sums q (omega arith) hi b ∙ ap (λ (i : ℕ). sum-of (inverseAt n scratch z₀ i)) e ∙ sum-below r h l t)
+        ∙ sym (solves .below-is r j (omega arith, l) h)
+
+    -- on it
+    sum-on : S j j ≡ true → sum-of (inverseAt n scratch z₂ j) ≡ sum-of (λ k. Z k j)
+    sum-on t =
+        sumBetween-cong rows values j (inverseAt n scratch z₂ j) (λ k. Z k j) (start starts j) (start starts (j + 1)) (column j jn .ordered)
+        (λ p lo hi k.
+        let x = row rows p in
+        let b = row-inside j p jn lo hi in
+        let u = row-below j p (lo, hi, k) in
+        let m = dependency j j p (omega arith) jn t (lo, hi, k) in
+        let e : max j x ≡ x = omega arith in
+        let f : min j x ≡ j = omega arith in
+        ap (λ (q : ℕ). getD z₂ q nan) (word-is j x jn b m ∙ ap₂ (position n S) e f)
+        ∙ under x u b (subst₂ (λ (a c : ℕ). S a c ≡ true) e f m))
+
+    on-diagonal : S j j ≡ true → getD z₃ (position n S j j) nan ≡ Z j j
+    unfolding sumBetween
+    on-diagonal t =
+        let d = diag starts rows values j in
+        let q = columnCount n S j in
+        let x = float-on d (sum-of (inverseAt n scratch z₂ j)) in
+        let inside = position-below n S j j n (omega arith) jn jn t in
+        ap₂ (λ (z : List Float) (p : ℕ). getD z p nan) (C ∙ ap (λ (b : Bool). putIf b z₂ q x) t) (position-first n S j)
+        ∙ getD-set-same z₂ q x nan (omega (arith, position-first n S j, A .long, B .long, G .values-fit))
+        ∙ ap (float-on d) (sum-on t) ∙ sym (solves .diagonal-is j (omega arith, jn))
+
+    -- other places are not written last
+    untouched : (q : ℕ) → (S j j ≡ true → columnCount n S j < q) → getD z₃ q nan ≡ getD z₂ q nan
+    untouched q h = ap (λ (z : List Float). getD z q nan) C ∙ go (S j j) refl
+      where
+        x : Float
+        x = float-on (diag starts rows values j) (sum-of (inverseAt n scratch z₂ j))
+
+        go : (b : Bool) → S j j ≡ b → getD (putIf b z₂ (columnCount n S j) x) q nan ≡ getD z₂ q nan
+        go true t = let l = h t in putIf-other true z₂ (columnCount n S j) q x (omega arith)
+        go false t = refl
+
+    after : (q : ℕ) → columnCount n S (j + 1) ≤ q → getD z₃ q nan ≡ getD z₀ q nan
+    after q l =
+        untouched q (λ t. omega (arith, position-first n S j, position-in n S j j (omega arith) jn t))
+        ∙ B .after q l ∙ A .after q l
+
+    -- the column is done
+    column-solved : Solved n S Z j z₀ z₃
+    column-solved = record {
+      long = ap length C ∙ putIf-length (S j j) z₂ _ _ ∙ B .long ∙ A .long;
+      rest = λ q l. after q (omega (arith, column-most j jn));
+      entries = λ r c h p l t. ⊎-elim (λ e. here r c e p l t) (λ e. later r c e p l t) (eq-or-lt-of-le h);
+    }
+      where
+        later : (r c : ℕ) → j < c → c ≤ r → r < n → S r c ≡ true → getD z₃ (position n S r c) nan ≡ Z r c
+        later r c h p l t =
+            let m = columnCount-mono n S (j + 1) c (omega arith) in
+            after (position n S r c) (omega arith) ∙ D r c (omega arith) p l t
+
+        own : (r : ℕ) → j ≤ r → r < n → S r j ≡ true → getD z₃ (position n S r j) nan ≡ Z r j
+        own r h l t =
+            ⊎-elim
+            (λ e. subst (λ (x : ℕ). getD z₃ (position n S x j) nan ≡ Z x j) e (on-diagonal (subst (λ (x : ℕ). S x j ≡ true) (sym e) t)))
+            (λ b. untouched (position n S r j) (λ u. omega (arith, position-first n S j, position-rises n S j r j (omega arith) b u)) ∙ under r b l t)
+            (eq-or-lt-of-le h)
+
+        here : (r c : ℕ) → j ≡ c → c ≤ r → r < n → S r c ≡ true → getD z₃ (position n S r c) nan ≡ Z r c
+        here r c e p l t =
+            subst (λ (x : ℕ). getD z₃ (position n S r x) nan ≡ Z r x) e (own r (omega arith) l (subst (λ (x : ℕ). S r x ≡ true) (sym e) t))
+
+  -- ---- the same, for the numbers that the code reads
+
+  module _ {pairs j first last s e : ℕ} (all : pairs ≡ pairTotal n) (jn : j < n) (E : Ends n starts scratch j first last s e) where
+    pub storing-at : Storing n pairs j first last s e rows values listed scratch size
+    storing-at = rw (E .first-is, E .last-is, E .start-is, E .end-is) (column-storing pairs j all jn)
+
+    -- the column's part is within the lists
+    pub part-at : (k : ℕ) → k ≡ size → (first ≤ last) × (last ≤ k) × (last ≤ length listed)
+    part-at k q =
+        let most = column-most j jn in
+        let up = columnCount-mono n S j (j + 1) (omega arith) in
+        omega (arith, E .first-is, E .last-is, G .values-fit, G .rows-fit)
+
+    pub diagonal-at : (k : ℕ) → k ≡ size → DiagonalRoom n pairs j first s e rows values scratch k
+    diagonal-at k q = rw (q, E .first-is, E .start-is, E .end-is) (column-diagonal pairs j all jn)
+
+    pub solved-at : {d : Float} {z₀ z₁ z₂ z₃ : List Float} → d ≡ diag starts rows values j → length z₀ ≡ size → SolvedFrom n S Z (j + 1) z₀
+        → SumsStored n j first last s e rows values listed scratch z₀ z₁
+        → PartDivided j d listed first last z₁ z₂
+        → z₃ ≡ putIf (S j j) z₂ first (float-on d (entrySum n j s e rows values scratch z₂ j))
+        → Solved n S Z j z₀ z₃
+    solved-at {d} {z₀} {z₁} {z₂} {z₃} q k D A B C =
+        column-solved jn k D
+        (rw (E .first-is, E .last-is, E .start-is, E .end-is) at A)
+        (rw (q, E .first-is, E .last-is) at B)
+        (rw (q, E .first-is, E .start-is, E .end-is) at C)

@@ -1,0 +1,4 @@
+-- The recurrence over a closed set, column by column.
+pub mod Route
+pub mod Column
+pub mod Members

@@ -1,0 +1,122 @@
+-- What the recurrence over a closed set asks, and what it leaves while its columns are done from the last to the first.
+-- Assumes nothing.
+use Prim.Native.Nat.{ℕ, _+_, _≤_, _<_}
+use native.Mathlib.Omega.{arith}
+use mathlib.Core.Path.{_≡_, refl, sym, ap, _∙_}
+use mathlib.Core.Bool.{Bool, true}
+use mathlib.Core.List.{List}
+use lib.Dec.{eqb}
+use lib.ListN.{length, getD}
+use lib.Ieee.{Float, nan}
+use Rattle.lists.specs.Tabulate.{tabulate-at}
+use Rattle.lists.specs.Overwrite.{overwrite, overwrite-at, overwrite-length}
+use Rattle.refusal.specs.Bounds.{maxDimension}
+use Rattle.pairs.specs.Pair.{pairTotal}
+use Rattle.pairs.specs.ColumnOrder.{columnPlace, columnPlace-below, columnMarking, setSize}
+use Rattle.closed_set.specs.ClosedSet.{Closed, Pattern}
+use Rattle.columns.specs.Kept.{nonzero, pattern}
+use Rattle.columns.specs.Factor.{Factor}
+use Rattle.columns.specs.Diagonal.{Diagonals}
+use Rattle.entries.specs.Entries.{columnCount, position, entryStarts, entryRows, entryValues, floatTable, entryStarts-length, entryRows-length}
+use Rattle.entries.specs.Position.{entryRows-at, entryValues-overwrite, position-below, columnCount-cong, position-cong}
+use Rattle.layout.specs.Layout.{LayOut, LaidOut}
+
+-- a factor past its checks, the marks of a closed set with its members' positions, its starts and rows, and room for its entries
+pub record ClosureRoute (n : ℕ) (starts rows : List ℕ) (values : List Float) (firsts listed scratch : List ℕ) (size : ℕ) : Type 0 where
+  pub small : n ≤ maxDimension
+  pub factor : Factor n starts rows (length values)
+  pub diagonals : Diagonals n starts rows values
+  pub closed : Closed n (pattern starts rows (nonzero values)) (columnMarking n scratch)
+  pub room : pairTotal n + pairTotal n ≤ length scratch
+  pub positions : (r c : ℕ) → c ≤ r → r < n → columnMarking n scratch r c ≡ true
+      → getD scratch (pairTotal n + columnPlace n r c) 0 ≡ position n (columnMarking n scratch) r c
+  pub starts-fit : n + 1 ≤ length firsts
+  pub starts-are : (c : ℕ) → c ≤ n → getD firsts c 0 ≡ columnCount n (columnMarking n scratch) c
+  pub rows-fit : setSize n (columnMarking n scratch) ≤ length listed
+  pub rows-are : (r c : ℕ) → c ≤ r → r < n → columnMarking n scratch r c ≡ true → getD listed (position n (columnMarking n scratch) r c) 0 ≡ r
+  pub values-fit : setSize n (columnMarking n scratch) ≤ size
+
+-- the entries of the columns from m on are those of the table
+abbrev pub SolvedFrom : ℕ → (ℕ → ℕ → Bool) → (ℕ → ℕ → Float) → ℕ → List Float → Type 0
+SolvedFrom n S Z m z = (r c : ℕ) → m ≤ c → c ≤ r → r < n → S r c ≡ true → getD z (position n S r c) nan ≡ Z r c
+
+-- and behind the set's entries the list is as it was
+pub record Solved (n : ℕ) (S : ℕ → ℕ → Bool) (Z : ℕ → ℕ → Float) (m : ℕ) (z₀ z : List Float) : Type 0 where
+  pub long : length z ≡ length z₀
+  pub rest : (q : ℕ) → setSize n S ≤ q → getD z q nan ≡ getD z₀ q nan
+  pub entries : SolvedFrom n S Z m z
+
+-- column j, once the later columns are done
+pub record ColumnStep (n pairs j : ℕ) (starts rows : List ℕ) (values : List Float) (firsts listed scratch : List ℕ) (z : List Float) : Type 0 where
+  pub route : ClosureRoute n starts rows values firsts listed scratch (length z)
+  pub all : pairs ≡ pairTotal n
+  pub inside : j < n
+  pub later : SolvedFrom n (columnMarking n scratch) (floatTable n starts rows values) (j + 1) z
+
+-- ---- the columns, one after the other
+
+module _ {n : ℕ} {S : ℕ → ℕ → Bool} {Z : ℕ → ℕ → Float} where
+  pub solved-none : (z : List Float) → Solved n S Z n z z
+  solved-none z = record { long = refl; rest = λ q l. refl; entries = λ r c h p l. absurd (omega arith) }
+
+  pub solved-next : {m j : ℕ} {z₀ z z′ : List Float} → Solved n S Z m z₀ z → Solved n S Z j z z′ → Solved n S Z j z₀ z′
+  solved-next A B = record { long = B .long ∙ A .long; rest = λ q l. B .rest q l ∙ A .rest q l; entries = B .entries }
+
+  -- all columns
+  pub solved-all : {z₀ z : List Float} → setSize n S ≤ length z₀ → Solved n S Z 0 z₀ z → z ≡ overwrite (entryValues n S Z) z₀
+  solved-all {z₀} {z} fits A =
+      entryValues-overwrite n S Z nan z₀ z fits (A .long) (A .rest) (λ r c h l t. A .entries r c (omega arith) h l t)
+
+-- ---- what the layout leaves is what the route asks
+
+module _ {n : ℕ} {firsts₀ listed₀ scratch₀ firsts listed scratch : List ℕ} {count : ℕ}
+    (M : LayOut n firsts₀ listed₀ scratch₀) (L : LaidOut n firsts₀ listed₀ scratch₀ firsts listed scratch count) where
+  -- the set is as it was
+  pub laid-same : (r c : ℕ) → c ≤ r → r < n → columnMarking n scratch r c ≡ columnMarking n scratch₀ r c
+  laid-same r c h l = ap (λ (x : ℕ). eqb x 1) (L .marks (columnPlace n r c) (columnPlace-below n r c h l))
+
+  module _ {starts rows : List ℕ} {values : List Float} (F : Factor n starts rows (length values)) (D : Diagonals n starts rows values)
+      (P : Pattern n (pattern starts rows (nonzero values))) (K : Closed n (pattern starts rows (nonzero values)) (columnMarking n scratch₀))
+      {size : ℕ} (fits : setSize n (columnMarking n scratch₀) ≤ size) where
+    abbrev S₀ : ℕ → ℕ → Bool
+    S₀ = columnMarking n scratch₀
+
+    same-count : (c : ℕ) → columnCount n (columnMarking n scratch) c ≡ columnCount n S₀ c
+    same-count = columnCount-cong n (columnMarking n scratch) S₀ laid-same
+
+    same-position : (r c : ℕ) → r < n → position n (columnMarking n scratch) r c ≡ position n S₀ r c
+    same-position = position-cong n (columnMarking n scratch) S₀ laid-same
+
+    pub laid-route : ClosureRoute n starts rows values firsts listed scratch size
+    laid-route = record {
+      small = M .small;
+      factor = F;
+      diagonals = D;
+      closed = λ r c d h l i t.
+          let b = P .inside c d (omega arith) i in
+          laid-same _ _ (omega arith) (omega arith) ∙ K r c d h l i (sym (laid-same r c h l) ∙ t);
+      room = omega (arith, M .room, L .long);
+      positions = λ r c h l t. L .positions r c h l (sym (laid-same r c h l) ∙ t) ∙ sym (same-position r c l);
+      starts-fit =
+          omega (arith, M .starts-fit, ap length (L .starts-are), overwrite-length (entryStarts n S₀) firsts₀ (omega (arith, starts-long, M .starts-fit)));
+      starts-are = λ c h.
+          ap (λ (x : List ℕ). getD x c 0) (L .starts-are) ∙ overwrite-at (entryStarts n S₀) firsts₀ c 0 (omega (arith, starts-long))
+          ∙ tabulate-at (columnCount n S₀) (n + 1) c 0 (omega arith) ∙ sym (same-count c);
+      rows-fit =
+          omega (arith, same-count n, M .rows-fit, ap length (L .rows-are), overwrite-length (entryRows n S₀) listed₀ (omega (arith, rows-long, M .rows-fit)));
+      rows-are = λ r c h l t. row-is r c h l (sym (laid-same r c h l) ∙ t);
+      values-fit = omega (arith, same-count n);
+    }
+      where
+        starts-long : length (entryStarts n S₀) ≡ n + 1
+        starts-long = entryStarts-length n S₀
+
+        rows-long : length (entryRows n S₀) ≡ setSize n S₀
+        rows-long = entryRows-length n S₀
+
+        row-is : (r c : ℕ) → c ≤ r → r < n → S₀ r c ≡ true → getD listed (position n (columnMarking n scratch) r c) 0 ≡ r
+        row-is r c h l t =
+            let inside = position-below n S₀ r c n h l (omega arith) t in
+            ap (λ (q : ℕ). getD listed q 0) (same-position r c l)
+            ∙ ap (λ (x : List ℕ). getD x (position n S₀ r c) 0) (L .rows-are)
+            ∙ overwrite-at (entryRows n S₀) listed₀ (position n S₀ r c) 0 (omega (arith, rows-long)) ∙ entryRows-at n S₀ r c h l t

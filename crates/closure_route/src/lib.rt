@@ -1,0 +1,101 @@
+// Takahashi's recurrence over a closed set of pairs, columns from the last to the first, after `takahashi_selected_inverse_on_closure`
+// of uncertainty.rs.
+ghost use mathlib.Core.Path.{_≡_};
+ghost use Prim.Native.Nat.{_+_, _<_};
+ghost use lib.ListN.{length};
+ghost use Rattle.lists.specs.Overwrite.{overwrite};
+ghost use Rattle.pairs.specs.ColumnOrder.{columnMarking};
+ghost use Rattle.entries.specs.Entries.{entryValues, floatTable};
+ghost use Rattle.closure_route.specs.Route.{ClosureRoute, ColumnStep, Solved};
+use kept::diagonal;
+use pair_marks::pair_total;
+use route_finish::divide_part;
+use route_finish::store_diagonal;
+use route_sums::store_sums;
+use words::at;
+
+// The entries of column j, once those of the later columns are there: the sums, their division, and last the diagonal's entry.
+fn takahashi_column(
+    n: usize,
+    pairs: usize,
+    j: usize,
+    starts: &[u32],
+    rows: &[u32],
+    values: &[f64],
+    entry_starts: &[u32],
+    entry_rows: &[u32],
+    entry_values: &mut [f64],
+    scratch: &[u32],
+)
+    requires { ⌜ ColumnStep n pairs j (now starts) (now rows) (now values) (now «entry_starts») (now «entry_rows») (now scratch) (now «entry_values») ⌝ }
+    ensures { λ _. ⌜ Solved n (columnMarking n (now (scratch .entry))) (floatTable n (now (starts .entry)) (now (rows .entry)) (now (values .entry))) j
+        (now («entry_values» .entry)) (now («entry_values» .exit)) ⌝ }
+{
+    let s = at(starts, j);
+    let e = at(starts, j + 1);
+    let first = at(entry_starts, j);
+    let last = at(entry_starts, j + 1);
+    let d = diagonal(n, starts, rows, values, j);
+    store_sums(
+        n,
+        pairs,
+        j,
+        first,
+        last,
+        s,
+        e,
+        rows,
+        values,
+        entry_rows,
+        scratch,
+        entry_values,
+    );
+    divide_part(entry_values, entry_rows, first, last, j, d);
+    store_diagonal(
+        n,
+        pairs,
+        j,
+        first,
+        s,
+        e,
+        d,
+        rows,
+        values,
+        scratch,
+        entry_values,
+    );
+}
+
+// The entries of the inverse at the pairs of the closed set that the marks say, laid out as the starts and rows of the result.
+pub fn takahashi_selected_inverse_on_closure(
+    n: usize,
+    starts: &[u32],
+    rows: &[u32],
+    values: &[f64],
+    entry_starts: &[u32],
+    entry_rows: &[u32],
+    entry_values: &mut [f64],
+    scratch: &[u32],
+)
+    requires { ⌜ ClosureRoute n (now starts) (now rows) (now values) (now «entry_starts») (now «entry_rows») (now scratch) (length (now «entry_values»)) ⌝ }
+    ensures { λ _. ⌜ now («entry_values» .exit) ≡ overwrite (entryValues n (columnMarking n (now (scratch .entry)))
+        (floatTable n (now (starts .entry)) (now (rows .entry)) (now (values .entry)))) (now («entry_values» .entry)) ⌝ }
+{
+    let pairs = pair_total(n);
+    let mut j = n;
+    while 0 < j {
+        j -= 1;
+        takahashi_column(
+            n,
+            pairs,
+            j,
+            starts,
+            rows,
+            values,
+            entry_starts,
+            entry_rows,
+            entry_values,
+            scratch,
+        );
+    }
+}

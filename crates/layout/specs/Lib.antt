@@ -1,0 +1,2 @@
+-- The result's layout, while it is written and after.
+pub mod Layout

@@ -1,0 +1,2 @@
+-- What a lookup finds in the lists that a selected inverse fills.
+pub mod ReadBack

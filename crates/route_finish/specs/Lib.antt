@@ -1,0 +1,2 @@
+-- The finishing steps of a column of the inverse.
+pub mod Finish
