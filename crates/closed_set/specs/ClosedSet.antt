@@ -135,7 +135,7 @@ module _ (desc : ℕ → List ℕ) (req : ℕ → ℕ → Bool) where
 module _ (n : ℕ) (desc : ℕ → List ℕ) (req : ℕ → ℕ → Bool) (P : Pattern n desc) (R : Ranged n req) where
   pub member-needed : (r c : ℕ) → c ≤ r → r < n → (member n desc req r c ≡ true) ↔ Needed desc req r c
   unfolding member
-  member-needed r c h l = ((λ e. sound desc req (2 * n) r c h e), (λ s. complete desc req n P R s (2 * n) (omega arith)))
+  member-needed r c h l = ((λ e. sound desc req _ r c h e), (λ s. complete desc req n P R s _ (omega arith)))
 
   pub needed-member : {r c : ℕ} → Needed desc req r c → member n desc req r c ≡ true
   needed-member {r} {c} s = let g = needed-range desc req n P R s in member-needed r c (g .0) (g .1) .1 s
