@@ -30,17 +30,14 @@ use Rattle.exact.specs.Multiple.{Whole}
 use Rattle.exact.specs.Exact.{floats, float-off, float-on, Alike}
 use Rattle.exact.specs.Factor.{factor, factor-triangular}
 use Rattle.exact.specs.ExactCase.{ones, WithinBound, unit-has-inverse, exact-case}
-use Rattle.diagnostics.specs.Diagnosis.{statusOf, completeOf, diagnosis}
-use Rattle.diagnostics.specs.declared.SelectedInverseStatus.{SelectedInverseStatus}
-use Rattle.diagnostics.specs.declared.SelectedInverseStatus.the-variants.{Complete, ClosureTooLarge}
-use Rattle.closure.specs.Closure.{closureOf}
-use Rattle.closure.specs.Diagnosis.{diagnosisOf}
+use Rattle.diagnostics.specs.declared.SelectedInverseStatus.the-variants.{Complete}
 use Rattle.closure.specs.FactorPattern.{factor-pattern}
 use Rattle.entries.specs.Entries.{entryStarts, entryRows, entryValues, floatTable, entryStarts-length}
 use Rattle.result.specs.Lookup.{lookup}
 use Rattle.read_back.specs.ReadBack.{readBack, covered, lookup-filled}
 use Rattle.selection.specs.Selection.{Call, Lent, roomOf, Accepted, accepted, selectedSet, selectedSize, selectedComplete, selectedSteps, selectedAnswer}
 use Rattle.selection.specs.Selection.{startsAfter, rowsAfter, valuesAfter}
+use Rattle.selection.specs.Status.{selected-complete}
 use Rattle.exact_entries.specs.Columns.{desc-ascend, desc-descends, alike-ascend, alike-each, needed-closed}
 
 module _ (x : Call) where
@@ -65,22 +62,6 @@ module _ (x : Call) where
     pub members : selectedAnswer x .status ≡ Complete → (row col : ℕ) → Selected (max row col) (min row col)
         → (v : Float) × (found lent row col ≡ answered v) × Whole v (X row col)
     pub others : selectedAnswer x .status ≡ Complete → (row col : ℕ) → (Selected (max row col) (min row col) → ⊥) → found lent row col ≡ refused 8
-
--- ---- the status
-complete-status : (b : Bool) → completeOf (statusOf b) ≡ b
-complete-status true = refl
-complete-status false = refl
-
-module _ (x : Call) where
-  status-is : selectedAnswer x .status ≡ statusOf (selectedComplete x)
-  unfolding diagnosisOf diagnosis closureOf
-  status-is = refl
-
-  pub selected-complete : (selectedAnswer x .status ≡ Complete) ↔ (selectedSize x ≤ x .limit)
-  selected-complete = (
-    (λ e. leb-true _ _ (sym (complete-status (selectedComplete x)) ∙ ap completeOf (sym status-is ∙ e))),
-    (λ h. status-is ∙ ap statusOf (le-leb _ _ h)),
-  )
 
 -- ---- an accepted call
 module _ (x : Call) (lent : Lent) (passed : Passed (selectedSteps x (roomOf lent))) where

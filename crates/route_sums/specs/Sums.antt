@@ -122,7 +122,7 @@ zero-is = refl
 module _ (rows : List ℕ) (values : List Float) (j : ℕ) (r : ℕ → Float) (s : ℕ) where
   pub sumBetween-none : f0 ≡ sumBetween rows values j r s s
   unfolding sumBetween
-  sumBetween-none = zero-is ∙ ap (λ (l : List ℕ). dot floats r (entriesAt rows values l)) (sym (select-none (keptBelow rows (nonzero values) j) s))
+  sumBetween-none = rw (select-none (keptBelow rows (nonzero values) j) s) zero-is
 
   pub sumBetween-next : (p : ℕ) → s ≤ p → sumBetween rows values j r s (p + 1) ≡ withProduct rows values j r p (sumBetween rows values j r s p)
   unfolding sumBetween

@@ -1,2 +1,3 @@
 -- Selected entries: refusals, answer and lists.
 pub mod Selection
+pub mod Status

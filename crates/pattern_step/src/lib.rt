@@ -1,0 +1,79 @@
+// The last step of a column of the factor-pattern route: the column's own part of the values, from its weights and sums.
+ghost use mathlib.Core.Path.{_≡_};
+ghost use Prim.Native.Nat.{_+_, _-_, _<_, _≤_};
+ghost use lib.ListN.{length, take, drop};
+ghost use lib.Ieee.{nan};
+ghost use Rattle.refusal.specs.Bounds.{maxDimension};
+ghost use Rattle.lists.specs.Overwrite.{splice};
+ghost use Rattle.exact.specs.Exact.{floats, float-off, float-on};
+ghost use Rattle.scatter.specs.Scatter.{steps, stepSum, stepped};
+use refusal::MAX_DIMENSION;
+
+// An entry below the diagonal, from the diagonal d of the factor and the sum s.
+fn entry_below(d: f64, s: f64) -> f64
+    ensures { λ z. ⌜ z ≡ float-off d s ⌝ }
+{
+    -s / d
+}
+
+// The entry on the diagonal.
+fn entry_on_diagonal(d: f64, s: f64) -> f64
+    ensures { λ z. ⌜ z ≡ float-on d s ⌝ }
+{
+    1.0 / (d * d) - s / d
+}
+
+// The m values below the diagonal; returns the diagonal's sum.
+fn column_below(
+    part: &mut [f64],
+    weights: &[f64; MAX_DIMENSION],
+    sums: &[f64; MAX_DIMENSION],
+    d: f64,
+    m: usize,
+) -> f64
+    requires { ⌜ (m < length (now part)) × (m ≤ maxDimension) ⌝ }
+    ensures { λ r. ⌜ r ≡ stepSum floats float-off float-on nan d (now (weights .entry)) (now (sums .entry)) m ⌝ }
+    ensures { λ _. ⌜ now (part .exit) ≡ steps floats float-off float-on nan d (now (sums .entry)) (now (part .entry)) m ⌝ }
+{
+    let mut sum = 0.0;
+    let mut p = 0;
+    while p < m {
+        let z = entry_below(d, sums[p]);
+        part[p + 1] = z;
+        sum = sum + weights[p] * z;
+        p += 1;
+    }
+    sum
+}
+
+// The whole part, the diagonal last.
+fn column_step(
+    part: &mut [f64],
+    weights: &[f64; MAX_DIMENSION],
+    sums: &[f64; MAX_DIMENSION],
+    d: f64,
+    m: usize,
+)
+    requires { ⌜ (m < length (now part)) × (m ≤ maxDimension) ⌝ }
+    ensures { λ _. ⌜ now (part .exit) ≡ stepped floats float-off float-on nan d (now (weights .entry)) (now (sums .entry)) (now (part .entry)) m ⌝ }
+{
+    let sum = column_below(part, weights, sums, d, m);
+    part[0] = entry_on_diagonal(d, sum);
+}
+
+// Lends the column's part of the values, from a to e, to the column step.
+pub fn write_column(
+    values: &mut [f64],
+    a: usize,
+    e: usize,
+    weights: &[f64; MAX_DIMENSION],
+    sums: &[f64; MAX_DIMENSION],
+    d: f64,
+    m: usize,
+)
+    requires { ⌜ (a + m < e) × (e ≤ length (now values)) × (m ≤ maxDimension) ⌝ }
+    ensures { λ _. ⌜ now (values .exit) ≡ splice a (stepped floats float-off float-on nan d (now (weights .entry)) (now (sums .entry))
+        (take (e - a) (drop a (now (values .entry)))) m) (now (values .entry)) ⌝ }
+{
+    column_step(&mut values[a..e], weights, sums, d, m);
+}

@@ -1,0 +1,1 @@
+// The factor-pattern route over any arithmetic. No code.

@@ -1,0 +1,2 @@
+-- Laws of the proofs.
+mod Fill

@@ -1,0 +1,86 @@
+use borrow.Author.Needs.{needs}
+use mathlib.Core.Path.{_≡_, ap, sym, _∙_}
+use denote.Ref.{now}
+use Rattle.refusal.specs.Steps.{Passed}
+use Rattle.refusal.specs.Refusal.{replyOf}
+use Rattle.selection.specs.Selection.{Call, Lent, call, lists, roomOf, accepted, selectedSteps}
+use Rattle.selected.proofs.Fill.{entries-refused, entries-answered}
+use Rattle.selected.proofs.selected_inverse_entries_with_limit.Statement.{statement}
+use Rattle.selected.proofs.selected_inverse_entries_with_limit.Tie as tie
+
+-- the call and the lists that it is lent
+abbrev handed : tie.Start → Call
+handed s =
+    let a = s .args in
+    call (a .n) (now (a .starts)) (now (a .rows)) (now (a .values)) (a .dimension) (now (a .request-rows)) (now (a .request-columns)) (a .limit)
+
+abbrev lent : tie.Start → Lent
+lent s = let a = s .args in lists (now (a .result-starts)) (now (a .result-rows)) (now (a .result-values)) (now (a .scratch))
+
+abbrev begin : tie.After-check-selected → tie.Start
+begin d = d .before .before .before .before .before .before .before .before .before .before
+
+passed : (t : tie.After-enum-told) → let s = begin (t .before .before) in Passed (selectedSteps (handed s) (roomOf (lent s)))
+passed t = sym (t .before .before .check-selected .ensures) ∙ ap replyOf (t .enum-told .given .1)
+
+-- src/lib.rt:98:11
+check-selected-requires : tie.Need-check-selected-requires
+check-selected-requires c κs = search needs
+
+-- src/lib.rt:112:26
+enum-known-why : tie.Need-enum-known-why
+enum-known-why c = search needs
+
+-- src/lib.rt:123:17
+enum-told : tie.Need-enum-told
+enum-told c = search needs
+
+-- src/lib.rt:114:17
+select-entries-requires : tie.Need-select-entries-requires
+select-entries-requires c κs =
+    let t = c .before .before .before .before in
+    accepted (handed (begin (t .before .before))) (roomOf (lent (begin (t .before .before)))) (passed t)
+
+-- src/lib.rt:79:1
+returns : tie.Need-returns
+returns c =
+    let d = c .before .before .before in
+    entries-refused (handed (begin d)) (lent (begin d)) (sym (d .check-selected .ensures) ∙ ap replyOf (c .before .why .given .1))
+
+-- src/lib.rt:79:1
+same-length : tie.Need-same-length
+same-length c = search needs
+
+-- src/lib.rt:79:1
+same-length-2 : tie.Need-same-length-2
+same-length-2 c = search needs
+
+-- src/lib.rt:79:1
+same-length-3 : tie.Need-same-length-3
+same-length-3 c = search needs
+
+-- src/lib.rt:79:1
+same-length-4 : tie.Need-same-length-4
+same-length-4 c = search needs
+
+-- src/lib.rt:79:1
+returns-2 : tie.Need-returns-2
+returns-2 c =
+    let e = c .before .before .before .before .before .before .before .before in
+    let t = e .before .before .before .before .before in
+    entries-answered (handed (begin (t .before .before))) (lent (begin (t .before .before))) (passed t) (e .select-entries .ensures)
+
+pub selected-inverse-entries-with-limit-spec : {M : Type 1} → statement M
+selected-inverse-entries-with-limit-spec =
+    tie.close
+    (tie.spec
+    check-selected-requires
+    enum-known-why
+    enum-told
+    select-entries-requires
+    returns
+    same-length
+    same-length-2
+    same-length-3
+    same-length-4
+    returns-2)

@@ -1,0 +1,2 @@
+-- Selected entries: what the call replies and leaves.
+pub mod Selected

@@ -1,0 +1,2 @@
+-- What the proof of the one function rests on.
+pub mod Read
