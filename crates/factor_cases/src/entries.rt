@@ -1,14 +1,12 @@
-// Cases at the bound on a factor's stored entries and an operator's terms.
+// Cases at the bound on a factor's stored entries.
 ghost use Prim.Native.Nat.{_≤_};
 ghost use lib.ListN.{length};
 use crate::factors;
-use crate::operators;
 use reporting::report::Tally;
 
 fn above(t: Tally, indices: &[u32]) -> Tally {
     let none: [f64; 0] = [];
-    let t = factors::refused(t, b"1,048,577 entries", 2, &[0, 2, 3], indices, &none, 1);
-    operators::refused(t, b"1,048,577 terms", 2, &[0, 2, 3], indices, &none, 1)
+    factors::refused(t, b"1,048,577 entries", 2, &[0, 2, 3], indices, &none, 1)
 }
 
 // The first `most` of them are not too many, and the starts do not fit them.
@@ -17,7 +15,7 @@ fn within(t: Tally, indices: &[u32], most: usize) -> Tally
 {
     let none: [f64; 0] = [];
     let first = &indices[0..most];
-    let t = factors::refused(
+    factors::refused(
         t,
         b"1,048,576 entries, broken",
         2,
@@ -25,15 +23,6 @@ fn within(t: Tally, indices: &[u32], most: usize) -> Tally
         first,
         &none,
         2,
-    );
-    operators::refused(
-        t,
-        b"1,048,576 terms, broken",
-        2,
-        &[0, 2, 3],
-        first,
-        &none,
-        9,
     )
 }
 

@@ -1,14 +1,11 @@
-// Runs calls of the pattern lists, well formed and broken, and compares each reply and each list lent for writing with what document 01 gives.
+// Runs calls of a factor's pattern list, well formed and broken, and compares each reply and each list lent for writing with what document 01 gives.
 // The lists hold 7777 beforehand, which shows the places left as they were.
 mod entries;
 mod factors;
-mod operators;
-mod pairs;
 
 fn main() {
     let t = reporting::report::no_cases();
     let t = factors::run(t);
-    let t = operators::run(t);
     let t = entries::run(t);
     reporting::report::put_tally(t);
 }

@@ -1,6 +1,6 @@
 // Cases of `from_cholesky_factor`.
-use crate::pairs::judge;
-use crate::pairs::reply_of;
+use pattern_reporting::pairs::judge;
+use pattern_reporting::pairs::reply_of;
 use reporting::report::Reply;
 use reporting::report::Tally;
 

@@ -1,0 +1,2 @@
+// What the programs of cases of the pattern lists share.
+pub mod pairs;
