@@ -8,14 +8,17 @@ use mathlib.Core.List.{List, _++_}
 use lib.ListN.{length, take, drop}
 use lib.Seq.{drop-drop}
 use lib.Ieee.{Float}
-use borrow.Author.Tests.{leb-true}
+use lib.Dec.{ltb}
+use borrow.Author.Tests.{leb-true, lt-ltb}
 use Rattle.lists.specs.Tabulate.{tabulate, tabulate-length}
 use Rattle.lists.specs.Overwrite.{overwrite, overwrite-front, filled, cleared}
-use Rattle.refusal.specs.Steps.{Step, answered, refused, verdict, Passed, first-refused, first-passed, after-refused, after-passed}
+use Rattle.refusal.specs.Steps.{Step, answered, refused, verdict, Passed, first-refused, first-passed, after-refused, after-passed, append-refused, first-hit, first-skip}
 use Rattle.refusal.specs.Refusal.{refusalNumber}
 use Rattle.refusal.specs.declared.Refusal.{Refusal}
+use Rattle.refusal.specs.Bounds.{maxDimension, maxEntries}
 use Rattle.pairs.specs.Pair.{pairTotal}
 use Rattle.pairs.specs.ColumnOrder.{columnMarking, setSize, setSize-cong}
+use Rattle.columns.specs.Columns.{boundSteps}
 use Rattle.columns.specs.Kept.{nonzero, pattern}
 use Rattle.closed_set.specs.ClosedSet.{Pattern, Ranged}
 use Rattle.closed_set.specs.Requests.{requested, requested-ranged}
@@ -188,3 +191,13 @@ module _ (x : Call) (lent : Lent) where
     values-are = E .values-are ∙ sym (after-passed steps _ _ p);
     scratch-is = E .scratch-is ∙ sym (after-passed steps _ _ p);
   }
+
+  -- more stored entries than the bound are refused whatever the limit
+  pub too-many : maxEntries < length (x .rows) → verdict steps ≡ refused 1
+  unfolding selectedSteps boundSteps
+  too-many h =
+      append-refused (boundSteps (x .n) (length (x .rows))) _ 1 tt (go (ltb maxDimension (x .n)) refl)
+    where
+      go : (b : Bool) → ltb maxDimension (x .n) ≡ b → verdict (boundSteps (x .n) (length (x .rows))) ≡ refused 1
+      go true e = first-hit 1 _ _ e
+      go false e = first-skip 1 _ _ e (first-hit 1 _ _ (lt-ltb maxEntries (length (x .rows)) h))

@@ -1,5 +1,6 @@
-// Selected entries of the inverse of L·Lᵀ, after `selected_inverse_entries_with_limit` of uncertainty.rs.
-ghost use Rattle.selection.specs.Selection.{call, lists, roomOf, Accepted};
+// Selected entries of the inverse of L·Lᵀ, after `selected_inverse_entries_with_limit` and
+// `selected_inverse_entries` of uncertainty.rs.
+ghost use Rattle.selection.specs.Selection.{call, lists, roomOf, defaultLimit, Accepted};
 ghost use Rattle.selected.specs.Selected.{EntriesPast, SelectedEntries};
 use closure::diagnose;
 use diagnostics::SelectedInverseDiagnostics;
@@ -7,6 +8,7 @@ use diagnostics::SelectedInverseStatus;
 use layout::lay_out;
 use pair_marks::pair_total;
 use refusal::Checked;
+use refusal::MAX_ENTRIES;
 use refusal::Refusal;
 use routes::takahashi_selected_inverse;
 use selected_checks::check_selected;
@@ -130,4 +132,44 @@ pub fn selected_inverse_entries_with_limit(
             Selected::Answered(diagnosis)
         }
     }
+}
+
+// The same with the default limit: 10 times the stored entries, dropped ones counted. Above the bound on entries there is no limit to compute.
+pub fn selected_inverse_entries(
+    n: usize,
+    starts: &[u32],
+    rows: &[u32],
+    values: &[f64],
+    dimension: usize,
+    request_rows: &[u32],
+    request_columns: &[u32],
+    result_starts: &mut [u32],
+    result_rows: &mut [u32],
+    result_values: &mut [f64],
+    scratch: &mut [u32],
+) -> Selected
+    ensures { λ d. ⌜ SelectedEntries
+        (call n (now (starts .entry)) (now (rows .entry)) (now (values .entry)) dimension (now («request_rows» .entry)) (now («request_columns» .entry))
+        (defaultLimit (now (rows .entry))))
+        (lists (now («result_starts» .entry)) (now («result_rows» .entry)) (now («result_values» .entry)) (now (scratch .entry))) d
+        (now («result_starts» .exit)) (now («result_rows» .exit)) (now («result_values» .exit)) (now (scratch .exit)) ⌝ }
+{
+    if MAX_ENTRIES < rows.len() {
+        return Selected::Refused(Refusal::TooLarge);
+    }
+    let limit = 10 * rows.len();
+    selected_inverse_entries_with_limit(
+        n,
+        starts,
+        rows,
+        values,
+        dimension,
+        request_rows,
+        request_columns,
+        limit,
+        result_starts,
+        result_rows,
+        result_values,
+        scratch,
+    )
 }

@@ -1,0 +1,55 @@
+use denote.Ref.{now}
+use borrow.Author.Needs.{needs}
+use Rattle.selection.specs.Selection.{Call, Lent, call, lists, defaultLimit}
+use Rattle.selected.proofs.Fill.{entries-refused, too-many}
+use Rattle.selected.proofs.selected_inverse_entries.Statement.{statement}
+use Rattle.selected.proofs.selected_inverse_entries.Tie as tie
+
+-- the call and the lists that it is lent
+abbrev handed : tie.Start → Call
+handed s =
+    let a = s .args in
+    call (a .n) (now (a .starts)) (now (a .rows)) (now (a .values)) (a .dimension) (now (a .request-rows)) (now (a .request-columns)) (defaultLimit (now (a .rows)))
+
+abbrev lent : tie.Start → Lent
+lent s = let a = s .args in lists (now (a .result-starts)) (now (a .result-rows)) (now (a .result-values)) (now (a .scratch))
+
+returns : tie.Need-returns
+returns c =
+    let s = c .before .before .before .before .before .before .before .before .before .before in
+    entries-refused (handed s) (lent s) (too-many (handed s) (lent s) (c .if1 .taken))
+
+mul-limit : tie.Need-mul-limit
+mul-limit c = search needs
+
+selected-inverse-entries-with-limit-requires :
+    tie.Need-selected-inverse-entries-with-limit-requires
+selected-inverse-entries-with-limit-requires c κs = search needs
+
+same-length : tie.Need-same-length
+same-length c = search needs
+
+same-length-2 : tie.Need-same-length-2
+same-length-2 c = search needs
+
+same-length-3 : tie.Need-same-length-3
+same-length-3 c = search needs
+
+same-length-4 : tie.Need-same-length-4
+same-length-4 c = search needs
+
+returns-2 : tie.Need-returns-2
+returns-2 c = c .before .before .before .before .before .before .before .before .selected-inverse-entries-with-limit .ensures
+
+pub selected-inverse-entries-spec : {M : Type 1} → statement M
+selected-inverse-entries-spec =
+    tie.close
+    (tie.spec
+    returns
+    mul-limit
+    selected-inverse-entries-with-limit-requires
+    same-length
+    same-length-2
+    same-length-3
+    same-length-4
+    returns-2)
