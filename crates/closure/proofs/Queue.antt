@@ -21,10 +21,10 @@ use Rattle.columns.specs.Kept.{f0, nonzero, keptBelow, descPlaces, pattern}
 use Rattle.columns.specs.Factor.{Factor, starts-end}
 use Rattle.columns.specs.Pattern.{pattern-at, pattern-above, pattern-inside}
 use Rattle.closed_set.specs.ClosedSet.{Closed, Pattern, descends, descends-at, descends-found}
-use Rattle.closure.specs.Scratch.{rowOf, columnOf, queueWord, Queued, Marked, Within, Grown, Insert, Inserted}
+use Rattle.pair_queue.specs.Scratch.{rowOf, columnOf, queueWord, Queued, Marked, Within, Grown, Insert, Inserted}
 use Rattle.closure.specs.Queue.{Waiting, Finished}
 use Rattle.closure.specs.FactorPattern.{entry-descends, descends-entry}
-use Rattle.closure.proofs.Insert.{grown-none, grown-trans, grown-mark, count-most}
+use Rattle.pair_queue.specs.Marking.{grown-none, grown-trans, grown-mark, count-most}
 
 -- ---- dependencies that are marked
 

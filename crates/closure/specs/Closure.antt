@@ -2,30 +2,48 @@
 -- Assumes nothing.
 use Prim.Native.Nat.{ℕ, _+_, _≤_, _<_, min}
 use native.Mathlib.Omega.{arith}
-use mathlib.Core.Path.{_≡_, refl}
-use mathlib.Core.Bool.{Bool, true, false}
+use mathlib.Core.Path.{_≡_, refl, sym, ap₂}
+use mathlib.Core.Bool.{Bool, true, false, _&&_}
 use mathlib.Core.List.{List}
-use lib.Dec.{leb}
+use lib.Dec.{leb, ltb}
 use lib.ListN.{length, drop}
-use borrow.Author.Tests.{leb-true, leb-false}
+use borrow.Author.Tests.{leb-true, leb-false, ltb-true, le-leb, lt-ltb}
+use Rattle.lists.specs.Test.{and-left, and-right}
 use Rattle.lists.specs.Sum.{bit}
 use Rattle.refusal.specs.Bounds.{maxDimension}
 use Rattle.pairs.specs.Pair.{pairTotal}
-use Rattle.pairs.specs.ColumnOrder.{columnMark}
+use Rattle.pairs.specs.ColumnOrder.{columnMark, columnMarking}
 use Rattle.columns.specs.Factor.{Factor}
-use Rattle.closed_set.specs.ClosedSet.{member}
-use Rattle.closed_set.specs.Requests.{Requests}
+use Rattle.closed_set.specs.ClosedSet.{member, Ranged}
 use Rattle.closed_set.specs.Size.{closureSize, requestedPairs}
 use Rattle.diagnostics.specs.Diagnosis.{statusOf}
 use Rattle.diagnostics.specs.declared.SelectedInverseStatus.the-variants.{Complete, ClosureTooLarge}
+use Rattle.pair_queue.specs.Scratch.{Marked}
 use Rattle.closure.specs.declared.Closure.{Closure}
 
--- a factor and requests past their checks, and words for marks and queue
-pub record ClosureInput (n : ℕ) (starts rows : List ℕ) (values : ℕ) (rs cs s : List ℕ) : Type 0 where
+-- a factor past its checks, and words with `requested` marked pairs
+pub record ClosureInput (n : ℕ) (starts rows : List ℕ) (values requested : ℕ) (s : List ℕ) : Type 0 where
   pub small : n ≤ maxDimension
   pub factor : Factor n starts rows values
-  pub requests : Requests n rs cs
-  pub room : pairTotal n + pairTotal n ≤ length s
+  pub marked : Marked n s requested
+
+-- the marked pairs are those of the set
+pub record Requested (n : ℕ) (req : ℕ → ℕ → Bool) (s : List ℕ) : Type 0 where
+  pub ranged : Ranged n req
+  pub marks : (r c : ℕ) → c ≤ r → r < n → columnMarking n s r c ≡ req r c
+
+-- there is such a set
+abbrev pub markedSet : ℕ → List ℕ → ℕ → ℕ → Bool
+markedSet n s r c = leb c r && (ltb r n && columnMarking n s r c)
+
+pub marked-requested : (n : ℕ) (s : List ℕ) → Requested n (markedSet n s) s
+marked-requested n s = record {
+  ranged = record {
+    ordered = λ r c e. leb-true c r (and-left (leb c r) _ e);
+    inside = λ r c e. ltb-true r n (and-left (ltb r n) _ (and-right (leb c r) _ e));
+  };
+  marks = λ r c h l. sym (ap₂ (λ (a b : Bool). a && (b && columnMarking n s r c)) (le-leb c r h) (lt-ltb r n l));
+}
 
 -- the answer: the requested pairs, the closed set's size or limit + 1 where it has more, and which of the two
 unfoldable pub closureOf : ℕ → (ℕ → List ℕ) → (ℕ → ℕ → Bool) → ℕ → Closure
@@ -40,6 +58,11 @@ pub record Closing (n : ℕ) (desc : ℕ → List ℕ) (req : ℕ → ℕ → Bo
   pub long : length s ≡ length s₀
   pub marks : closureSize n desc req ≤ limit → (r c : ℕ) → c ≤ r → r < n → columnMark n s r c ≡ bit (member n desc req r c)
   pub later : drop (pairTotal n + pairTotal n) s ≡ drop (pairTotal n + pairTotal n) s₀
+
+-- the answer and the words of closing the marked pairs of s₀, whatever set they are
+pub record Closes (n : ℕ) (desc : ℕ → List ℕ) (limit : ℕ) (s₀ : List ℕ) (k : Closure) (s : List ℕ) : Type 0 where
+  pub answers : (req : ℕ → ℕ → Bool) → Requested n req s₀ → k ≡ closureOf n desc req limit
+  pub leaves : (req : ℕ → ℕ → Bool) → Requested n req s₀ → Closing n desc req limit s₀ s
 
 -- ---- the status
 

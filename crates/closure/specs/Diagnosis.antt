@@ -10,22 +10,26 @@ use Rattle.columns.specs.Kept.{nonzero, pattern, factorPairs}
 use Rattle.columns.specs.Factor.{Factor}
 use Rattle.columns.specs.Pattern.{pattern-cong}
 use Rattle.closed_set.specs.ClosedSet.{member, member-cong}
-use Rattle.closed_set.specs.Requests.{requested}
 use Rattle.closed_set.specs.Size.{closureSize-cong}
 use Rattle.diagnostics.specs.Diagnosis.{diagnosis}
 use Rattle.diagnostics.specs.declared.SelectedInverseDiagnostics.{SelectedInverseDiagnostics}
 use Rattle.closure.specs.declared.Closure.{Closure}
-use Rattle.closure.specs.Closure.{closureOf}
+use Rattle.closure.specs.Closure.{closureOf, Requested, Closing}
 use Rattle.closure.specs.KeptSet.{SameKept, factorPairs-cong}
 
 -- the counts of a closure with the factor's count and the limit
 abbrev pub diagnosed : Closure → ℕ → ℕ → SelectedInverseDiagnostics
 diagnosed k factor limit = diagnosis (k .«requested_pairs») (k .«closure_pairs») factor limit (k .status)
 
--- the diagnosis of a call
-unfoldable pub diagnosisOf : ℕ → List ℕ → List ℕ → List Float → List ℕ → List ℕ → ℕ → SelectedInverseDiagnostics
-diagnosisOf n starts rows values rs cs limit =
-    diagnosed (closureOf n (pattern starts rows (nonzero values)) (requested rs cs) limit) (factorPairs starts rows (nonzero values) n) limit
+-- the diagnosis of a factor, a set of requested pairs and a limit
+unfoldable pub diagnosisOf : ℕ → List ℕ → List ℕ → List Float → (ℕ → ℕ → Bool) → ℕ → SelectedInverseDiagnostics
+diagnosisOf n starts rows values req limit =
+    diagnosed (closureOf n (pattern starts rows (nonzero values)) req limit) (factorPairs starts rows (nonzero values) n) limit
+
+-- the diagnosis of the marked pairs of s₀, whatever set they are, and the words that closing leaves
+pub record Diagnoses (n : ℕ) (starts rows : List ℕ) (values : List Float) (limit : ℕ) (s₀ : List ℕ) (d : SelectedInverseDiagnostics) (s : List ℕ) : Type 0 where
+  pub answers : (req : ℕ → ℕ → Bool) → Requested n req s₀ → d ≡ diagnosisOf n starts rows values req limit
+  pub leaves : (req : ℕ → ℕ → Bool) → Requested n req s₀ → Closing n (pattern starts rows (nonzero values)) req limit s₀ s
 
 -- ---- factors of one dimension with equal kept positions
 
@@ -48,10 +52,10 @@ module _ {n : ℕ} {starts rows starts′ rows′ : List ℕ} {m m′ : ℕ} (nz
 -- and the same diagnosis
 pub diagnosisOf-same : {n : ℕ} {starts rows starts′ rows′ : List ℕ} (values values′ : List Float) → Factor n starts rows (length values)
     → Factor n starts′ rows′ (length values′)
-    → SameKept n starts rows (nonzero values) starts′ rows′ (nonzero values′) → (rs cs : List ℕ) (limit : ℕ)
-    → diagnosisOf n starts rows values rs cs limit ≡ diagnosisOf n starts′ rows′ values′ rs cs limit
+    → SameKept n starts rows (nonzero values) starts′ rows′ (nonzero values′) → (req : ℕ → ℕ → Bool) (limit : ℕ)
+    → diagnosisOf n starts rows values req limit ≡ diagnosisOf n starts′ rows′ values′ req limit
 unfolding diagnosisOf
-diagnosisOf-same {n} values values′ F F′ same rs cs limit =
+diagnosisOf-same {n} values values′ F F′ same req limit =
     ap₂ (λ (k : Closure) (p : ℕ). diagnosed k p limit)
-    (closureOf-same (nonzero values) (nonzero values′) F F′ same (requested rs cs) limit)
+    (closureOf-same (nonzero values) (nonzero values′) F F′ same req limit)
     (factorPairs-cong (nonzero values) (nonzero values′) (F .starts-rise) (F .rows-ascend) (F′ .starts-rise) (F′ .rows-ascend) same)

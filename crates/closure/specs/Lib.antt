@@ -1,6 +1,4 @@
 -- The closure of requested pairs under their dependencies, and its diagnosis.
-pub mod Scratch
-pub mod Requests
 pub mod Queue
 pub mod FactorPattern
 pub mod Closure

@@ -10,7 +10,7 @@ use Rattle.pairs.specs.ColumnOrder.{columnMarking}
 use Rattle.columns.specs.Factor.{Factor}
 use Rattle.columns.specs.Kept.{pattern}
 use Rattle.closed_set.specs.ClosedSet.{Closed}
-use Rattle.closure.specs.Scratch.{Marked, Within, Grown}
+use Rattle.pair_queue.specs.Scratch.{Marked, Within, Grown}
 
 -- a factor, and marked pairs that are within the limit
 pub record Waiting (n pairs : ℕ) (starts rows : List ℕ) (values limit : ℕ) (s : List ℕ) (count : ℕ) : Type 0 where

@@ -9,7 +9,7 @@ ghost use Rattle.pairs.specs.ColumnOrder.{columnMarking};
 ghost use Rattle.columns.specs.Kept.{nonzero, keptPair};
 ghost use Rattle.factor_pattern.specs.Agree.{samePairs};
 ghost use Rattle.factor_pattern.specs.Choice.{ChoiceInput, ChoiceColumn, unmarkedEntry, unmarkedAt};
-use closure::column_place;
+use pair_queue::column_place;
 use words::at;
 
 // Whether an entry of column c, with row r and value l, is kept and its pair not marked.

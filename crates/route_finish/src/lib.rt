@@ -8,7 +8,7 @@ ghost use Rattle.pairs.specs.ColumnOrder.{columnMarking};
 ghost use Rattle.exact.specs.Exact.{float-off, float-on};
 ghost use Rattle.route_sums.specs.Stored.{putIf, entrySum};
 ghost use Rattle.route_finish.specs.Finish.{Divided, PartDivided, DiagonalRoom};
-use closure::column_place;
+use pair_queue::column_place;
 use route_sums::entry_sum;
 use words::at;
 

@@ -8,7 +8,7 @@ ghost use Rattle.pairs.specs.ColumnOrder.{columnPlace};
 ghost use Rattle.columns.specs.Columns.{row};
 ghost use Rattle.route_sums.specs.Sums.{inverseAt, Reading, Adding, Summing, withProduct, sumBetween};
 ghost use Rattle.route_sums.specs.Stored.{StoringOne, Storing, SumsStored, putIf, entrySum};
-use closure::column_place;
+use pair_queue::column_place;
 use words::at;
 
 // The place of the pair of i and k, put in order.

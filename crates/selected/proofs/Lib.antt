@@ -1,2 +1,2 @@
--- Laws of the proofs.
-mod Fill
+-- What the proofs of several functions share.
+pub mod Reply

@@ -6,17 +6,13 @@ use mathlib.Core.List.{List, [], _∷_, _++_}
 use lib.ListN.{length}
 use Rattle.refusal.specs.Steps.{Step}
 use Rattle.columns.specs.Columns.{boundSteps, columnSteps}
-use Rattle.columns.specs.Diagonal.{diagonalSteps}
 use Rattle.requests.specs.Requests.{requestBoundStep, requestSteps}
-use Rattle.selection.specs.Selection.{Call, Room, roomSteps, selectedSteps}
-
--- 6 and 7
-abbrev pub fromDiagonals : Call → Room → List Step
-fromDiagonals x room = diagonalSteps (x .n) (x .starts) (x .rows) (x .values) ++ roomSteps (x .n) (x .limit) room
+use Rattle.selection.specs.Selection.{Room, fillSteps}
+use Rattle.selection.specs.Call.{Call, selectedSteps}
 
 -- 4 to 7
 abbrev pub fromRequests : Call → Room → List Step
-fromRequests x room = requestSteps (x .n) (x .dimension) (x .requestRows) (x .requestColumns) ++ fromDiagonals x room
+fromRequests x room = requestSteps (x .n) (x .dimension) (x .requestRows) (x .requestColumns) ++ fillSteps (x .n) (x .starts) (x .rows) (x .values) (x .limit) room
 
 -- 2 to 7
 abbrev pub fromColumns : Call → Room → List Step

@@ -1,2 +1,3 @@
 -- The later steps of selected entries, group by group.
+pub mod FirstOf
 pub mod Later

@@ -6,8 +6,10 @@ ghost use Rattle.refusal.specs.Bounds.{maxDimension};
 ghost use Rattle.refusal.specs.Steps.{verdict};
 ghost use Rattle.refusal.specs.Refusal.{replyOf};
 ghost use Rattle.columns.specs.Factor.{Factor};
-ghost use Rattle.selection.specs.Selection.{call, room, roomSteps, selectedSteps};
-ghost use Rattle.selected_checks.specs.Later.{fromDiagonals, fromRequests, fromColumns};
+ghost use Rattle.selection.specs.Selection.{room, roomSteps, fillSteps};
+ghost use Rattle.selection.specs.Call.{call, selectedSteps};
+ghost use Rattle.selected_checks.specs.Later.{fromRequests, fromColumns};
+ghost use Rattle.selected_checks.specs.FirstOf.{orElse};
 use pair_marks::pair_total;
 use refusal::Checked;
 use refusal::MAX_ENTRIES;
@@ -51,15 +53,22 @@ fn check_room(
     Checked::Accepted
 }
 
-// Steps 6 and 7, past 1 to 5.
-fn check_from_diagonals(
+// The first of two verdicts that refuses.
+pub fn first_of(a: Checked, b: Checked) -> Checked
+    ensures { λ r. ⌜ replyOf r ≡ orElse (replyOf a) (replyOf b) ⌝ }
+{
+    match a {
+        Checked::Refused(why) => Checked::Refused(why),
+        Checked::Accepted => b,
+    }
+}
+
+// Steps 6 and 7, past the others: what filling result lists asks.
+pub fn check_fill(
     n: usize,
     starts: &[u32],
     rows: &[u32],
     values: &[f64],
-    dimension: usize,
-    request_rows: &[u32],
-    request_columns: &[u32],
     limit: usize,
     result_starts: usize,
     result_rows: usize,
@@ -67,21 +76,12 @@ fn check_from_diagonals(
     scratch: usize,
 ) -> Checked
     requires { ⌜ (n ≤ maxDimension) × Factor n (now starts) (now rows) (length (now values)) ⌝ }
-    ensures { λ r. ⌜ replyOf r ≡ verdict (fromDiagonals
-        (call n (now (starts .entry)) (now (rows .entry)) (now (values .entry)) dimension (now («request_rows» .entry)) (now («request_columns» .entry)) limit)
+    ensures { λ r. ⌜ replyOf r ≡ verdict (fillSteps n (now (starts .entry)) (now (rows .entry)) (now (values .entry)) limit
         (room «result_starts» «result_rows» «result_values» scratch)) ⌝ }
 {
-    match kept::check_diagonals(n, starts, rows, values) {
-        Checked::Refused(why) => Checked::Refused(why),
-        Checked::Accepted => check_room(
-            n,
-            limit,
-            result_starts,
-            result_rows,
-            result_values,
-            scratch,
-        ),
-    }
+    let diagonals = kept::check_diagonals(n, starts, rows, values);
+    let room = check_room(n, limit, result_starts, result_rows, result_values, scratch);
+    first_of(diagonals, room)
 }
 
 // Steps 4 to 7, past 1 to 3.
@@ -106,14 +106,11 @@ fn check_from_requests(
 {
     match requests::check_requests(n, dimension, request_rows, request_columns) {
         Checked::Refused(why) => Checked::Refused(why),
-        Checked::Accepted => check_from_diagonals(
+        Checked::Accepted => check_fill(
             n,
             starts,
             rows,
             values,
-            dimension,
-            request_rows,
-            request_columns,
             limit,
             result_starts,
             result_rows,

@@ -1,13 +1,14 @@
 -- The replies of the call and of the lookup, put together.
 -- Assumes nothing.
-use Prim.Native.Nat.{ℕ, _+_, _-_}
+use Prim.Native.Nat.{ℕ, _+_, _-_, _≤_}
 use native.Mathlib.Omega.{arith}
-use mathlib.Core.Path.{_≡_, refl, sym, ap, ap₂, _∙_}
+use mathlib.Core.Path.{_≡_, refl, sym, ap, subst, _∙_}
 use mathlib.Core.List.{List}
-use lib.ListN.{take, drop}
+use lib.ListN.{length, take, drop}
 use lib.Ieee.{Float}
 use borrow.Author.Tests.{leb-false}
 use Rattle.refusal.specs.Steps.{Step, Reply, refused, answered, first, verdict, settle, Passed, first-refused, first-passed}
+use Rattle.refusal.specs.Bounds.{maxDimension}
 use Rattle.refusal.specs.Refusal.{refusalNumber}
 use Rattle.refusal.specs.declared.Refusal.{Refusal}
 use Rattle.diagnostics.specs.declared.SelectedInverseDiagnostics.{SelectedInverseDiagnostics}
@@ -16,14 +17,16 @@ use Rattle.diagnostics.specs.declared.SelectedInverseStatus.the-variants as sta
 use Rattle.result.specs.Lookup.{lookup}
 use Rattle.inverse.specs.Reply.{entryReply}
 use Rattle.inverse.specs.declared.Entry.{Entry}
-use Rattle.selection.specs.Selection.{Call, Lent, roomOf, Accepted, accepted, selectedSteps, selectedAnswer, startsAfter, rowsAfter, valuesAfter}
+use Rattle.selection.specs.Selection.{Lent, roomOf, selectedAnswer}
+use Rattle.selection.specs.Call.{Call, selectionOf, selectedSteps, accepted}
 use Rattle.selection.specs.Status.{status-tells, selected-complete}
-use Rattle.selected.specs.Selected.{SelectedEntries, selectedReplyOf}
+use Rattle.selected.specs.Selected.{SelectedEntries}
 use Rattle.selected.specs.declared.Selected.{Selected}
 use Rattle.selected.specs.declared.Selected.the-variants as reply
-use Rattle.exact_entries.specs.ExactEntries.{found, exact-entries}
+use Rattle.exact_entries.specs.ExactEntries.{exact-call}
 use Rattle.selected_entry.specs.declared.SelectedEntry.the-variants.{Found, ClosureTooLarge, Refused}
-use Rattle.selected_entry.specs.SelectedEntry.{ReadEntry}
+use Rattle.selected_entry.specs.declared.SelectedEntry.{SelectedEntry}
+use Rattle.selected_entry.specs.SelectedEntry.{ReadEntry, Ready, LookedAt, Looked}
 
 -- ---- a reply tells whether a condition holds
 abbrev number : {A : Type 0} → Reply A → ℕ
@@ -63,66 +66,69 @@ module _ (x : Call) (lent : Lent) where
   abbrev steps : List Step
   steps = selectedSteps x (roomOf lent)
 
-  module _ {r : Selected} {rs rr : List ℕ} {rv : List Float} {s : List ℕ} (E : SelectedEntries x lent r rs rr rv s) where
-    -- ---- refused
-    pub read-refused : (row col : ℕ) {why : Refusal} → r ≡ reply.Refused why → ReadEntry x lent row col (Refused why) rs rr rv s
-    read-refused row col is = record {
-      replies = told-refused steps (selectedAnswer x) (ap selectedReplyOf (sym is) ∙ E .replies);
-      exact = λ whole C X inv. tt;
-      starts-are = E .starts-are;
-      rows-are = E .rows-are;
-      values-are = E .values-are;
-      scratch-is = E .scratch-is;
-    }
+  abbrev answerOf : SelectedInverseDiagnostics
+  answerOf = selectedAnswer (selectionOf x)
 
-    -- ---- answered
-    module _ {d : SelectedInverseDiagnostics} (is : r ≡ reply.Answered d) where
-      answer : answered d ≡ first steps (selectedAnswer x)
-      answer = ap selectedReplyOf (sym is) ∙ E .replies
+  -- an answered call has starts to look up in
+  pub read-ready : {rs rr : List ℕ} {rv : List Float} {s : List ℕ} (r : Selected) → SelectedEntries x lent r rs rr rv s
+      → length rs ≡ length (lent .resultStarts) → Ready (x .n) rs r
+  read-ready (reply.Answered d) E e =
+      let A = accepted x (roomOf lent) (told-passed steps answerOf (E .replies)) in
+      (A .small, omega (arith, A .starts-room))
+  read-ready (reply.Refused why) E e = tt
 
-      pub read-passed : Passed steps
-      read-passed = told-passed steps (selectedAnswer x) answer
+  module _ {rs rr : List ℕ} {rv : List Float} {s : List ℕ} (row col : ℕ) where
+    module _ {d : SelectedInverseDiagnostics} (E : SelectedEntries x lent (reply.Answered d) rs rr rv s) where
+      passed : Passed steps
+      passed = told-passed steps answerOf (E .replies)
 
-      pub read-accepted : Accepted x (roomOf lent)
-      read-accepted = accepted x (roomOf lent) read-passed
+      status-same : (v : SelectedInverseStatus) → d .status ≡ v → answerOf .status ≡ v
+      status-same v e = ap (λ (y : SelectedInverseDiagnostics). y .status) (sym (told-answer steps answerOf (E .replies))) ∙ e
 
-      status-same : (v : SelectedInverseStatus) → d .status ≡ v → selectedAnswer x .status ≡ v
-      status-same v e = ap (λ (y : SelectedInverseDiagnostics). y .status) (sym (told-answer steps (selectedAnswer x) answer)) ∙ e
+      at-status : (v : SelectedInverseStatus) → d .status ≡ v → (r : SelectedEntry) → LookedAt (x .n) row col rs rr rv v r → ReadEntry x lent row col r rs rr rv s
+      at-status status.ClosureTooLarge e r h =
+          let large = status-tells (selectionOf x) status.ClosureTooLarge (status-same status.ClosureTooLarge e) in
+          subst (λ (q : SelectedEntry). ReadEntry x lent row col q rs rr rv s) (sym h)
+          (record { replies = (passed, large); exact = λ whole C X inv. leb-false _ _ large; left = E .left })
+      at-status status.Complete e r h =
+          let st = status-same status.Complete e in
+          subst (λ (q : SelectedEntry). ReadEntry x lent row col q rs rr rv s) (sym (h .1))
+          (record {
+            replies = (passed, status-tells (selectionOf x) status.Complete st, h .2);
+            exact = λ whole C X inv.
+                let B = exact-call x lent passed whole C X inv (E .left) in (
+                  selected-complete (selectionOf x) .0 st,
+                  (λ p. let m = B .members st row col p in (m .0, h .2 ∙ m .1, m .2)),
+                  (λ none. h .2 ∙ B .others st row col none),
+                );
+            left = E .left;
+          })
 
-      pub read-large : (row col : ℕ) → d .status ≡ status.ClosureTooLarge → ReadEntry x lent row col ClosureTooLarge rs rr rv s
-      read-large row col e =
-          let large = status-tells x status.ClosureTooLarge (status-same status.ClosureTooLarge e) in
-          record {
-            replies = (read-passed, large);
-            exact = λ whole C X inv. leb-false _ _ large;
-            starts-are = E .starts-are;
-            rows-are = E .rows-are;
-            values-are = E .values-are;
-            scratch-is = E .scratch-is;
-          }
+    -- the lookup after a call is what is promised of both
+    pub read-entry : (a : Selected) → SelectedEntries x lent a rs rr rv s → (r : SelectedEntry) → Looked (x .n) row col rs rr rv a r
+        → ReadEntry x lent row col r rs rr rv s
+    read-entry (reply.Answered d) E r h = at-status E (d .status) refl r h
+    read-entry (reply.Refused why) E r h =
+        subst (λ (q : SelectedEntry). ReadEntry x lent row col q rs rr rv s) (sym h)
+        (record { replies = told-refused steps answerOf (E .replies); exact = λ whole C X inv. tt; left = E .left })
 
-      pub read-found : (row col : ℕ) → d .status ≡ status.Complete → {f : Entry}
-          → entryReply f ≡ lookup (take (x .n + 1 - 0) (drop 0 rs)) rr rv row col
-          → ReadEntry x lent row col (Found f) rs rr rv s
-      read-found row col e {f} q = record {
-        replies = (read-passed, status-tells x status.Complete st, is-found);
-        exact = λ whole C X inv.
-            let B = exact-entries x lent read-passed whole C X inv in (
-              selected-complete x .0 st,
-              (λ p. let m = B .members st row col p in (m .0, is-found ∙ m .1, m .2)),
-              (λ none. is-found ∙ B .others st row col none),
-            );
-        starts-are = E .starts-are;
-        rows-are = E .rows-are;
-        values-are = E .values-are;
-        scratch-is = E .scratch-is;
-      }
-        where
-          st : selectedAnswer x .status ≡ status.Complete
-          st = status-same status.Complete e
+-- ---- the lookup itself
 
-          is-found : entryReply f ≡ found x lent row col
-          is-found =
-              q ∙ ap (λ (l : List ℕ). lookup l rr rv row col) (front (x .n + 1) rs)
-              ∙ ap (λ (l : List ℕ). lookup (take (x .n + 1) l) rr rv row col) (E .starts-are)
-              ∙ ap₂ (λ (l : List ℕ) (v : List Float). lookup (take (x .n + 1) (startsAfter x lent)) l v row col) (E .rows-are) (E .values-are)
+module _ (n row col : ℕ) (rs rr : List ℕ) (rv : List Float) (a : Selected) where
+  pub looked-refused : (why : Refusal) → a ≡ reply.Refused why → Looked n row col rs rr rv a (Refused why)
+  looked-refused why e = subst (λ (q : Selected). Looked n row col rs rr rv q (Refused why)) (sym e) refl
+
+  module _ (d : SelectedInverseDiagnostics) (e : a ≡ reply.Answered d) where
+    pub ready-answered : Ready n rs a → (n ≤ maxDimension) × (n + 1 ≤ length rs)
+    ready-answered h = subst (Ready n rs) e h
+
+    looked-status : (v : SelectedInverseStatus) → d .status ≡ v → (r : SelectedEntry) → LookedAt n row col rs rr rv v r → Looked n row col rs rr rv a r
+    looked-status v q r h =
+        subst (λ (y : Selected). Looked n row col rs rr rv y r) (sym e) (subst (λ (y : SelectedInverseStatus). LookedAt n row col rs rr rv y r) (sym q) h)
+
+    pub looked-large : d .status ≡ status.ClosureTooLarge → Looked n row col rs rr rv a ClosureTooLarge
+    looked-large q = looked-status status.ClosureTooLarge q ClosureTooLarge refl
+
+    pub looked-found : d .status ≡ status.Complete → (f : Entry) → entryReply f ≡ lookup (take (n + 1 - 0) (drop 0 rs)) rr rv row col
+        → Looked n row col rs rr rv a (Found f)
+    looked-found q f h = looked-status status.Complete q (Found f) (f, refl, h ∙ ap (λ (l : List ℕ). lookup l rr rv row col) (front (n + 1) rs))

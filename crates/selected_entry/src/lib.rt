@@ -1,11 +1,13 @@
 // One selected entry: the call for selected entries, then the lookup of a pair in its result. Its contract holds the exact case.
-ghost use Rattle.selection.specs.Selection.{call, lists};
-ghost use Rattle.selected_entry.specs.SelectedEntry.{ReadEntry};
+ghost use Rattle.selection.specs.Selection.{lists, defaultLimit};
+ghost use Rattle.selection.specs.Call.{call};
+ghost use Rattle.selected_entry.specs.SelectedEntry.{Ready, Looked, ReadEntry};
 use diagnostics::SelectedInverseStatus;
 use inverse::Entry;
 use inverse::get;
 use refusal::Refusal;
 use selected::Selected;
+use selected::selected_inverse_entries;
 use selected::selected_inverse_entries_with_limit;
 
 // What the lookup finds, or why there is no result; `Told` of specs/SelectedEntry.antt says which.
@@ -15,8 +17,37 @@ pub enum SelectedEntry {
     Refused(Refusal),
 }
 
+// The lookup after a call's answer.
+fn look_up(
+    n: usize,
+    answer: Selected,
+    result_starts: &[u32],
+    result_rows: &[u32],
+    result_values: &[f64],
+    row: usize,
+    col: usize,
+) -> SelectedEntry
+    requires { ⌜ Ready n (now «result_starts») answer ⌝ }
+    ensures { λ r. ⌜ Looked n row col (now («result_starts» .entry)) (now («result_rows» .entry)) (now («result_values» .entry)) answer r ⌝ }
+{
+    match answer {
+        Selected::Refused(why) => SelectedEntry::Refused(why),
+        Selected::Answered(diagnosis) => {
+            let status = diagnosis.status;
+            match status {
+                SelectedInverseStatus::ClosureTooLarge => SelectedEntry::ClosureTooLarge,
+                SelectedInverseStatus::Complete => {
+                    let end = n + 1;
+                    let entry = get(&result_starts[0..end], result_rows, result_values, row, col);
+                    SelectedEntry::Found(entry)
+                }
+            }
+        }
+    }
+}
+
 // The entry at a row and a column, of those selected by the requests.
-pub fn selected_inverse_entry(
+pub fn selected_inverse_entry_with_limit(
     n: usize,
     starts: &[u32],
     rows: &[u32],
@@ -51,18 +82,58 @@ pub fn selected_inverse_entry(
         result_values,
         scratch,
     );
-    match answer {
-        Selected::Refused(why) => SelectedEntry::Refused(why),
-        Selected::Answered(diagnosis) => {
-            let status = diagnosis.status;
-            match status {
-                SelectedInverseStatus::ClosureTooLarge => SelectedEntry::ClosureTooLarge,
-                SelectedInverseStatus::Complete => {
-                    let end = n + 1;
-                    let entry = get(&result_starts[0..end], result_rows, result_values, row, col);
-                    SelectedEntry::Found(entry)
-                }
-            }
-        }
-    }
+    look_up(
+        n,
+        answer,
+        result_starts,
+        result_rows,
+        result_values,
+        row,
+        col,
+    )
+}
+
+// The same with the default limit.
+pub fn selected_inverse_entry(
+    n: usize,
+    starts: &[u32],
+    rows: &[u32],
+    values: &[f64],
+    dimension: usize,
+    request_rows: &[u32],
+    request_columns: &[u32],
+    row: usize,
+    col: usize,
+    result_starts: &mut [u32],
+    result_rows: &mut [u32],
+    result_values: &mut [f64],
+    scratch: &mut [u32],
+) -> SelectedEntry
+    ensures { λ r. ⌜ ReadEntry
+        (call n (now (starts .entry)) (now (rows .entry)) (now (values .entry)) dimension (now («request_rows» .entry)) (now («request_columns» .entry)) (defaultLimit (now (rows .entry))))
+        (lists (now («result_starts» .entry)) (now («result_rows» .entry)) (now («result_values» .entry)) (now (scratch .entry))) row col r
+        (now («result_starts» .exit)) (now («result_rows» .exit)) (now («result_values» .exit)) (now (scratch .exit)) ⌝ }
+{
+    let answer = selected_inverse_entries(
+        n,
+        starts,
+        rows,
+        values,
+        dimension,
+        request_rows,
+        request_columns,
+        result_starts,
+        result_rows,
+        result_values,
+        scratch,
+    );
+    look_up(
+        n,
+        answer,
+        result_starts,
+        result_rows,
+        result_values,
+        row,
+        col,
+    )
 }

@@ -1,3 +1,5 @@
 -- Selected entries: refusals, answer and lists.
 pub mod Selection
 pub mod Status
+pub mod Call
+pub mod SamePositions

@@ -1,38 +1,36 @@
--- Selected entries: what a call is handed, what it refuses in document 01's order, what it answers, and what its lists hold afterwards.
+-- Selected entries of the inverse for a factor, a set of requested pairs and a limit: what is answered, and what the lists hold afterwards.
+-- Every call that fills result lists is said in these words.
 -- Assumes nothing.
-use Prim.Native.Nat.{ℕ, _+_, _*_, _≤_, _<_, min}
-use mathlib.Core.Path.{_≡_}
+use Prim.Native.Nat.{ℕ, _+_, _-_, _*_, _≤_, min}
+use native.Mathlib.Omega.{arith}
+use mathlib.Core.Path.{_≡_, refl, sym, ap, _∙_}
 use mathlib.Core.Bool.{Bool, cond}
 use mathlib.Core.List.{List, [], _∷_, _++_}
 use lib.Dec.{ltb, leb}
-use lib.ListN.{length}
+use lib.ListN.{length, drop}
+use lib.Seq.{drop-drop}
 use lib.Ieee.{Float}
-use borrow.Author.Tests.{ltb-false}
-use Rattle.lists.specs.Overwrite.{overwrite, cleared}
-use Rattle.refusal.specs.Bounds.{maxDimension, maxEntries}
-use Rattle.refusal.specs.Steps.{Step, Reply, first, after, Passed, passed-clear, passed-front, passed-back}
+use Rattle.lists.specs.Tabulate.{tabulate, tabulate-length}
+use Rattle.lists.specs.Overwrite.{overwrite, filled, cleared}
+use Rattle.refusal.specs.Bounds.{maxDimension}
+use Rattle.refusal.specs.Steps.{Step, refused, first, verdict, after, after-refused, after-passed, Passed}
 use Rattle.pairs.specs.Pair.{pairTotal}
-use Rattle.columns.specs.Columns.{boundSteps, columnSteps}
 use Rattle.columns.specs.Kept.{nonzero, pattern}
-use Rattle.columns.specs.Factor.{Bounded, boundSteps-sound, Factor, columnSteps-sound}
-use Rattle.columns.specs.Diagonal.{diagonalSteps, Diagonals, diagonalSteps-sound}
-use Rattle.closed_set.specs.ClosedSet.{member}
-use Rattle.closed_set.specs.Requests.{requested, Requests}
+use Rattle.columns.specs.Factor.{Factor}
+use Rattle.columns.specs.Diagonal.{diagonalSteps, Diagonals}
+use Rattle.closed_set.specs.ClosedSet.{member, Ranged}
 use Rattle.closed_set.specs.Size.{closureSize}
-use Rattle.requests.specs.Requests.{requestBoundStep, requestSteps, requestSteps-dimension, requestSteps-sound}
 use Rattle.diagnostics.specs.declared.SelectedInverseDiagnostics.{SelectedInverseDiagnostics}
 use Rattle.closure.specs.Diagnosis.{diagnosisOf}
 use Rattle.entries.specs.Entries.{entryStarts, entryRows, entryValues, floatTable}
 
--- what a call is handed to read: a factor, requests and a limit
-pub record Call : Type 0 where
+-- a factor, the set of requested pairs, and a limit
+pub record Selection : Type 0 where
   pub n : ℕ
   pub starts : List ℕ
   pub rows : List ℕ
   pub values : List Float
-  pub dimension : ℕ
-  pub requestRows : List ℕ
-  pub requestColumns : List ℕ
+  pub requests : ℕ → ℕ → Bool
   pub limit : ℕ
 
 -- the lists lent for writing
@@ -49,24 +47,15 @@ pub record Room : Type 0 where
   pub resultValues : ℕ
   pub scratch : ℕ
 
--- a call, lengths and lists, from a function's parameters in their order
-abbrev pub call : ℕ → List ℕ → List ℕ → List Float → ℕ → List ℕ → List ℕ → ℕ → Call
-call n starts rows values dimension requestRows requestColumns limit = record {
-  n = n;
-  starts = starts;
-  rows = rows;
-  values = values;
-  dimension = dimension;
-  requestRows = requestRows;
-  requestColumns = requestColumns;
-  limit = limit;
-}
-
+-- lengths and lists, from a function's parameters in their order
 abbrev pub room : ℕ → ℕ → ℕ → ℕ → Room
 room resultStarts resultRows resultValues scratch = record { resultStarts = resultStarts; resultRows = resultRows; resultValues = resultValues; scratch = scratch }
 
 abbrev pub lists : List ℕ → List ℕ → List Float → List ℕ → Lent
 lists resultStarts resultRows resultValues scratch = record { resultStarts = resultStarts; resultRows = resultRows; resultValues = resultValues; scratch = scratch }
+
+abbrev pub selection : ℕ → List ℕ → List ℕ → List Float → (ℕ → ℕ → Bool) → ℕ → Selection
+selection n starts rows values requests limit = record { n = n; starts = starts; rows = rows; values = values; requests = requests; limit = limit }
 
 -- the lengths of lists
 abbrev pub roomOf : Lent → Room
@@ -94,112 +83,114 @@ roomSteps n limit lengths =
     ∷ (7, ltb (lengths .scratch) (scratchWords n))
     ∷ []
 
-module _ (x : Call) where
-  -- the closed set of the call's requests
+-- what filling result lists asks: 6, then 7
+abbrev pub fillSteps : ℕ → List ℕ → List ℕ → List Float → ℕ → Room → List Step
+fillSteps n starts rows values limit lengths = diagonalSteps n starts rows values ++ roomSteps n limit lengths
+
+module _ (x : Selection) where
+  -- the closed set of the requested pairs
   abbrev pub selectedSet : ℕ → ℕ → Bool
-  selectedSet = member (x .n) (pattern (x .starts) (x .rows) (nonzero (x .values))) (requested (x .requestRows) (x .requestColumns))
+  selectedSet = member (x .n) (pattern (x .starts) (x .rows) (nonzero (x .values))) (x .requests)
 
   -- how many pairs it has
   abbrev pub selectedSize : ℕ
-  selectedSize = closureSize (x .n) (pattern (x .starts) (x .rows) (nonzero (x .values))) (requested (x .requestRows) (x .requestColumns))
+  selectedSize = closureSize (x .n) (pattern (x .starts) (x .rows) (nonzero (x .values))) (x .requests)
 
   -- it is within the limit
   abbrev pub selectedComplete : Bool
   selectedComplete = leb selectedSize (x .limit)
 
-  -- refusals 1 to 7
-  unfoldable pub selectedSteps : Room → List Step
-  selectedSteps lengths =
-      boundSteps (x .n) (length (x .rows))
-      ++ (requestBoundStep (length (x .requestRows))
-      ∷ (columnSteps (x .n) (x .starts) (x .rows) (length (x .values))
-      ++ (requestSteps (x .n) (x .dimension) (x .requestRows) (x .requestColumns)
-      ++ (diagonalSteps (x .n) (x .starts) (x .rows) (x .values)
-      ++ roomSteps (x .n) (x .limit) lengths))))
-
-  -- the answer
+  -- the diagnosis
   abbrev pub selectedAnswer : SelectedInverseDiagnostics
-  selectedAnswer = diagnosisOf (x .n) (x .starts) (x .rows) (x .values) (x .requestRows) (x .requestColumns) (x .limit)
+  selectedAnswer = diagnosisOf (x .n) (x .starts) (x .rows) (x .values) (x .requests) (x .limit)
 
-  -- the reply
-  abbrev pub selectedReply : Lent → Reply SelectedInverseDiagnostics
-  selectedReply lent = first (selectedSteps (roomOf lent)) selectedAnswer
+  -- the values: Takahashi's recurrence in f64
+  abbrev pub selectedTable : ℕ → ℕ → Float
+  selectedTable = floatTable (x .n) (x .starts) (x .rows) (x .values)
 
-  -- the result lists afterwards: written where the set is within the limit; the scratch's first words end 0
-  abbrev pub startsAfter : Lent → List ℕ
-  startsAfter lent =
-      after (selectedSteps (roomOf lent)) (cond selectedComplete (overwrite (entryStarts (x .n) selectedSet) (lent .resultStarts)) (lent .resultStarts)) (lent .resultStarts)
+  -- the result lists, written where the set is within the limit
+  abbrev pub filledStarts : Lent → List ℕ
+  filledStarts lent = cond selectedComplete (overwrite (entryStarts (x .n) selectedSet) (lent .resultStarts)) (lent .resultStarts)
 
-  abbrev pub rowsAfter : Lent → List ℕ
-  rowsAfter lent =
-      after (selectedSteps (roomOf lent)) (cond selectedComplete (overwrite (entryRows (x .n) selectedSet) (lent .resultRows)) (lent .resultRows)) (lent .resultRows)
+  abbrev pub filledRows : Lent → List ℕ
+  filledRows lent = cond selectedComplete (overwrite (entryRows (x .n) selectedSet) (lent .resultRows)) (lent .resultRows)
 
-  abbrev pub valuesAfter : Lent → List Float
-  valuesAfter lent =
-      after (selectedSteps (roomOf lent))
-      (cond selectedComplete (overwrite (entryValues (x .n) selectedSet (floatTable (x .n) (x .starts) (x .rows) (x .values))) (lent .resultValues)) (lent .resultValues))
-      (lent .resultValues)
+  abbrev pub filledValues : Lent → List Float
+  filledValues lent = cond selectedComplete (overwrite (entryValues (x .n) selectedSet selectedTable) (lent .resultValues)) (lent .resultValues)
 
-  abbrev pub scratchAfter : Lent → List ℕ
-  scratchAfter lent = after (selectedSteps (roomOf lent)) (cleared (scratchWords (x .n)) (lent .scratch)) (lent .scratch)
+  -- the scratch, whose first words end 0
+  abbrev pub clearedScratch : Lent → List ℕ
+  clearedScratch lent = cleared (scratchWords (x .n)) (lent .scratch)
 
--- what an accepted call has
-pub record Accepted (x : Call) (lengths : Room) : Type 0 where
+-- the lists after a call with these refusals: as they were where one holds, else the result lists written and the scratch cleared
+pub record ResultLists (steps : List Step) (x : Selection) (lent : Lent) (starts rows : List ℕ) (values : List Float) (scratch : List ℕ) : Type 0 where
+  pub starts-are : starts ≡ after steps (filledStarts x lent) (lent .resultStarts)
+  pub rows-are : rows ≡ after steps (filledRows x lent) (lent .resultRows)
+  pub values-are : values ≡ after steps (filledValues x lent) (lent .resultValues)
+  pub scratch-is : scratch ≡ after steps (clearedScratch x lent) (lent .scratch)
+
+-- what a call has that passed its checks
+pub record Accepted (x : Selection) (lengths : Room) : Type 0 where
   pub small : x .n ≤ maxDimension
   pub factor : Factor (x .n) (x .starts) (x .rows) (length (x .values))
-  pub requests : Requests (x .n) (x .requestRows) (x .requestColumns)
+  pub requests : Ranged (x .n) (x .requests)
   pub diagonals : Diagonals (x .n) (x .starts) (x .rows) (x .values)
   pub starts-room : x .n + 1 ≤ lengths .resultStarts
   pub rows-room : min (x .limit) (pairTotal (x .n)) ≤ lengths .resultRows
   pub values-room : min (x .limit) (pairTotal (x .n)) ≤ lengths .resultValues
   pub scratch-room : scratchWords (x .n) ≤ lengths .scratch
 
--- the steps pass exactly for an accepted call
-module _ (x : Call) (lengths : Room) (p : Passed (selectedSteps x lengths)) where
-  a1 : List Step
-  a1 = boundSteps (x .n) (length (x .rows))
+-- ---- cleared words
 
-  a2 : List Step
-  a2 = requestBoundStep (length (x .requestRows)) ∷ []
+abbrev zeros : ℕ → ℕ
+zeros _ = 0
 
-  a3 : List Step
-  a3 = columnSteps (x .n) (x .starts) (x .rows) (length (x .values))
+-- words that agree from k on are the same once their first m are cleared
+pub cleared-same : (k m : ℕ) (s s′ : List ℕ) → k ≤ m → drop k s ≡ drop k s′ → cleared m s ≡ cleared m s′
+unfolding filled overwrite
+cleared-same k m s s′ h e =
+    ap (λ (l : List ℕ). tabulate zeros m ++ l) (back s ∙ ap (drop (m - k)) e ∙ sym (back s′))
+  where
+    back : (l : List ℕ) → drop (length (tabulate zeros m)) l ≡ drop (m - k) (drop k l)
+    back l =
+        let q : length (tabulate zeros m) ≡ k + (m - k) = omega (arith, tabulate-length zeros m) in
+        ap (λ (j : ℕ). drop j l) q ∙ sym (drop-drop (m - k) k l)
 
-  a4 : List Step
-  a4 = requestSteps (x .n) (x .dimension) (x .requestRows) (x .requestColumns)
+-- ---- the lists of a refused call, and of one that passed
 
-  a5 : List Step
-  a5 = diagonalSteps (x .n) (x .starts) (x .rows) (x .values)
+pub nothing-refused : Passed []
+unfolding first
+nothing-refused = refl
 
-  a6 : List Step
-  a6 = roomSteps (x .n) (x .limit) lengths
+module _ (steps : List Step) (x : Selection) (lent : Lent) where
+  pub lists-refused : {k : ℕ} → verdict steps ≡ refused k
+      → ResultLists steps x lent (lent .resultStarts) (lent .resultRows) (lent .resultValues) (lent .scratch)
+  lists-refused {k} e = record {
+    starts-are = sym (after-refused steps k _ _ e);
+    rows-are = sym (after-refused steps k _ _ e);
+    values-are = sym (after-refused steps k _ _ e);
+    scratch-is = sym (after-refused steps k _ _ e);
+  }
 
-  past1 : Passed (a2 ++ (a3 ++ (a4 ++ (a5 ++ a6))))
-  unfolding selectedSteps a1 a2 a3 a4 a5 a6
-  past1 = passed-back a1 (a2 ++ (a3 ++ (a4 ++ (a5 ++ a6)))) p
+  module _ (p : Passed steps) {starts rows : List ℕ} {values : List Float} {scratch : List ℕ} where
+    pub lists-passed : starts ≡ filledStarts x lent → rows ≡ filledRows x lent → values ≡ filledValues x lent → scratch ≡ clearedScratch x lent
+        → ResultLists steps x lent starts rows values scratch
+    lists-passed a b c d = record {
+      starts-are = a ∙ sym (after-passed steps _ _ p);
+      rows-are = b ∙ sym (after-passed steps _ _ p);
+      values-are = c ∙ sym (after-passed steps _ _ p);
+      scratch-is = d ∙ sym (after-passed steps _ _ p);
+    }
 
-  past2 : Passed (a3 ++ (a4 ++ (a5 ++ a6)))
-  past2 = passed-back a2 (a3 ++ (a4 ++ (a5 ++ a6))) past1
+    module _ (L : ResultLists steps x lent starts rows values scratch) where
+      pub passed-starts : starts ≡ filledStarts x lent
+      passed-starts = L .starts-are ∙ after-passed steps _ _ p
 
-  past3 : Passed (a4 ++ (a5 ++ a6))
-  past3 = passed-back a3 (a4 ++ (a5 ++ a6)) past2
+      pub passed-rows : rows ≡ filledRows x lent
+      passed-rows = L .rows-are ∙ after-passed steps _ _ p
 
-  past4 : Passed (a5 ++ a6)
-  past4 = passed-back a4 (a5 ++ a6) past3
+      pub passed-values : values ≡ filledValues x lent
+      passed-values = L .values-are ∙ after-passed steps _ _ p
 
-  pub accepted : Accepted x lengths
-  unfolding selectedSteps roomSteps a1 a2 a3 a4 a5 a6
-  accepted =
-      let B = boundSteps-sound (x .n) (length (x .rows)) (passed-front a1 (a2 ++ (a3 ++ (a4 ++ (a5 ++ a6)))) p) in
-      let F = columnSteps-sound (x .n) (x .starts) (x .rows) (length (x .values)) (passed-front a3 (a4 ++ (a5 ++ a6)) past2) in
-      let r = passed-clear a6 (passed-back a5 a6 past4) in
-      record {
-        small = B .small;
-        factor = F;
-        requests = requestSteps-sound (x .n) (x .dimension) (x .requestRows) (x .requestColumns) (passed-front a4 (a5 ++ a6) past3);
-        diagonals = diagonalSteps-sound (x .n) (x .starts) (x .rows) (x .values) (F .rows-ascend) (passed-front a5 a6 past4);
-        starts-room = ltb-false _ _ (r .0);
-        rows-room = ltb-false _ _ (r .1 .0);
-        values-room = ltb-false _ _ (r .1 .1 .0);
-        scratch-room = ltb-false _ _ (r .1 .1 .1 .0);
-      }
+      pub passed-scratch : scratch ≡ clearedScratch x lent
+      passed-scratch = L .scratch-is ∙ after-passed steps _ _ p

@@ -1,4 +1,4 @@
--- The status of a call's answer: Complete exactly when the closed set is within the limit; and its counts.
+-- The status of an answer: Complete exactly when the closed set is within the limit; and its counts.
 -- Assumes nothing.
 use Prim.Native.Nat.{ℕ, _+_, _≤_, min}
 use mathlib.Core.Path.{_≡_, refl, sym, ap, _∙_}
@@ -11,13 +11,13 @@ use Rattle.diagnostics.specs.declared.SelectedInverseStatus.{SelectedInverseSta
 use Rattle.diagnostics.specs.declared.SelectedInverseStatus.the-variants.{Complete}
 use Rattle.closure.specs.Closure.{closureOf}
 use Rattle.closure.specs.Diagnosis.{diagnosisOf}
-use Rattle.selection.specs.Selection.{Call, selectedSize, selectedComplete, selectedAnswer}
+use Rattle.selection.specs.Selection.{Selection, selectedSize, selectedComplete, selectedAnswer}
 
 complete-status : (b : Bool) → completeOf (statusOf b) ≡ b
 complete-status true = refl
 complete-status false = refl
 
-module _ (x : Call) where
+module _ (x : Selection) where
   status-is : selectedAnswer x .status ≡ statusOf (selectedComplete x)
   unfolding diagnosisOf diagnosis closureOf
   status-is = refl

@@ -53,10 +53,10 @@ repeated-untouched = refl
 
 -- the diagnosis of F2 and of F3 with requests and a limit
 abbrev pub F2 : List ℕ → List ℕ → ℕ → SelectedInverseDiagnostics
-F2 = diagnosisOf 2 F2-starts F2-rows F2-values
+F2 rs cs = diagnosisOf 2 F2-starts F2-rows F2-values (requested rs cs)
 
 abbrev pub F3 : List ℕ → List ℕ → ℕ → SelectedInverseDiagnostics
-F3 = diagnosisOf 3 F3-starts F3-rows F3-values
+F3 rs cs = diagnosisOf 3 F3-starts F3-rows F3-values (requested rs cs)
 
 -- the test has that outcome
 abbrev pub agrees : Bool → Bool → Bool
@@ -119,7 +119,7 @@ unfolding any sumTo picked select cellCount ofInt ofBits ne factorPairs reach me
 f3-limited = refl
 
 -- no columns: Complete, and the ratio 0.0
-pub none-none : diagnosisOf 0 (0 ∷ []) [] [] [] [] 3 ≡ diagnosis 0 0 0 3 Complete
+pub none-none : diagnosisOf 0 (0 ∷ []) [] [] (requested [] []) 3 ≡ diagnosis 0 0 0 3 Complete
 unfolding any sumTo picked select cellCount ofInt ofBits ne factorPairs reach member requested closureOf diagnosisOf
 none-none = refl
 

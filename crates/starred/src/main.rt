@@ -33,13 +33,18 @@ fn f2(request_rows: &[u32], request_columns: &[u32], limit: usize) -> SelectedIn
     ensures { λ r. ⌜ r ≡ F2 (now («request_rows» .entry)) (now («request_columns» .entry)) limit ⌝ }
 {
     let mut scratch = [7u32; 6];
+    let requested_pairs = request_marks::mark_requests(
+        2,
+        request_rows,
+        request_columns,
+        &mut scratch,
+    );
     closure::diagnose(
         2,
         &[0, 2, 3],
         &[0, 1, 1],
         &[1.0, 2.0, 1.0],
-        request_rows,
-        request_columns,
+        requested_pairs,
         limit,
         &mut scratch,
     )
@@ -51,13 +56,18 @@ fn f3(request_rows: &[u32], request_columns: &[u32], limit: usize) -> SelectedIn
     ensures { λ r. ⌜ r ≡ F3 (now («request_rows» .entry)) (now («request_columns» .entry)) limit ⌝ }
 {
     let mut scratch = [7u32; 12];
+    let requested_pairs = request_marks::mark_requests(
+        3,
+        request_rows,
+        request_columns,
+        &mut scratch,
+    );
     closure::diagnose(
         3,
         &[0, 3, 4, 5],
         &[0, 1, 2, 1, 2],
         &[1.0, 2.0, 3.0, 1.0, 1.0],
-        request_rows,
-        request_columns,
+        requested_pairs,
         limit,
         &mut scratch,
     )

@@ -1,7 +1,7 @@
 use mathlib.Core.Bool.{true}
 use Rattle.closure.proofs.Queue.{Serving, Column, serving-none, serving-next, serving-more, head-words, head-pairs, word-starts}
 use Rattle.closure.proofs.Queue.{column-none, column-skip, column-more, entry-rows, entry-values, entry-insert, finished, finished-past, above-dropped, zero-dropped, entry-kept, nonzero-not}
-use Rattle.closure.specs.Scratch.{columnOf}
+use Rattle.pair_queue.specs.Scratch.{columnOf}
 use Rattle.columns.specs.Kept.{nonzero, keptBelow}
 use Rattle.columns.specs.Columns.{start}
 use denote.Ref.{now}

@@ -1,34 +1,45 @@
 use denote.Ref.{now}
-use Rattle.closure.proofs.Diagnosis.{counts-small, counts-diagnosis}
 use borrow.Author.Needs.{needs}
+use Rattle.closure.specs.Closure.{markedSet, marked-requested}
+use Rattle.closure.proofs.Diagnosis.{counts-small, counts-diagnosis}
 use Rattle.closure.proofs.diagnose.Statement.{statement}
 use Rattle.closure.proofs.diagnose.Tie as tie
 
 abbrev begin : tie.After-takahashi-dependency-closure → tie.Start
-begin k = k .before .before .before .before .before .before .before .before .before
+begin k = k .before .before .before .before .before .before .before
 
+-- src/lib.rt:125:9
 factor-pairs-requires : tie.Need-factor-pairs-requires
 factor-pairs-requires c κs = search needs
 
+-- src/lib.rt:126:9
 takahashi-dependency-closure-requires : tie.Need-takahashi-dependency-closure-requires
 takahashi-dependency-closure-requires c κs = search needs
 
+-- src/lib.rt:136:5
 selected-inverse-diagnostics-requires : tie.Need-selected-inverse-diagnostics-requires
 selected-inverse-diagnostics-requires c κs =
     let k = c .before .before in
-    counts-small (now (begin k .args .values)) (begin k .args .limit) (begin k .pre)
-    (k .takahashi-dependency-closure .ensures .0) (k .before .before .factor-pairs .ensures)
+    let a = begin k .args in
+    let S = markedSet (a .n) (now (a .scratch)) in
+    counts-small (now (a .values)) (a .limit) (begin k .pre) S
+    (k .takahashi-dependency-closure .ensures .answers S (marked-requested (a .n) (now (a .scratch)))) (k .before .before .factor-pairs .ensures)
 
+-- src/lib.rt:113:1
 same-length : tie.Need-same-length
 same-length c = search needs
 
+-- src/lib.rt:113:1
 returns : tie.Need-returns
 returns c =
     let k = c .before .before .before in
     let e = k .takahashi-dependency-closure .ensures in
     let f = k .before .before .factor-pairs .ensures in
-    let d = c .selected-inverse-diagnostics .ensures in
-    (counts-diagnosis (now (begin k .args .values)) (begin k .args .limit) (begin k .pre) (e .0) f d, e .1)
+    let a = begin k .args in
+    record {
+      answers = λ req R. counts-diagnosis (now (a .values)) (a .limit) (begin k .pre) req (e .answers req R) f (c .selected-inverse-diagnostics .ensures);
+      leaves = e .leaves;
+    }
 
 pub diagnose-spec : {M : Type 1} → statement M
 diagnose-spec =

@@ -1,88 +1,63 @@
-use Rattle.closure.proofs.Answer.{cleared-ready, requests-past, queue-past, queue-complete}
+use Rattle.closure.proofs.Answer.{closes, requests-past, queue-past, queue-complete}
 use Rattle.columns.specs.Kept.{nonzero}
 use denote.Ref.{now}
 use borrow.Author.Needs.{needs}
 use Rattle.closure.proofs.takahashi_dependency_closure.Statement.{statement}
 use Rattle.closure.proofs.takahashi_dependency_closure.Tie as tie
 
--- ---- places of the code
+-- where the queue starts
+abbrev begin : tie.After-close-queue → tie.Start
+begin q = q .before .before .before .before .before .before .before .before
 
-abbrev begin : tie.After-clear → tie.Start
-begin z = z .before .before .before .before .before .before .before .before .before
+-- src/lib.rt:83:28
+add-t11 : tie.Need-add-t11
+add-t11 c = search needs
 
-abbrev cleared : tie.After-insert-requests → tie.After-clear
-cleared i = i .before .before .before .before
+-- src/lib.rt:81:9
+returns : tie.Need-returns
+returns c =
+    let s = c .before .before .before .before .before in
+    closes (λ req R. requests-past (nonzero (now (s .args .values))) (s .args .limit) (s .pre) req R (c .if1 .taken))
 
-abbrev asked : tie.After-close-queue → tie.After-insert-requests
-asked q = q .before .before .before .before .before
-
--- ---- the needs
-
+-- src/lib.rt:87:9
 pair-total-requires : tie.Need-pair-total-requires
 pair-total-requires c κs = search needs
 
-clear-requires : tie.Need-clear-requires
-clear-requires c κs = search needs
-
-insert-requests-requires : tie.Need-insert-requests-requires
-insert-requests-requires c κs =
-    let z = c .before .before .before in
-    let s = begin z in
-    cleared-ready (nonzero (now (s .args .values))) (s .args .limit) (s .pre) (z .before .before .pair-total .ensures .0) (z .clear .ensures)
-
-add-t18 : tie.Need-add-t18
-add-t18 c = search needs
-
-same-length : tie.Need-same-length
-same-length c = search needs
-
-returns : tie.Need-returns
-returns c =
-    let i = c .before .before .before in
-    let z = cleared i in
-    let s = begin z in
-    requests-past (nonzero (now (s .args .values))) (s .args .limit) (s .pre) (z .before .before .pair-total .ensures .0) (z .clear .ensures)
-    (i .insert-requests .ensures) (c .if1 .taken)
-
+-- src/lib.rt:88:9
 close-queue-requires : tie.Need-close-queue-requires
 close-queue-requires c κs = search needs
 
-same-length-2 : tie.Need-same-length-2
-same-length-2 c = search needs
+-- src/lib.rt:99:9
+same-length : tie.Need-same-length
+same-length c = search needs
 
+-- src/lib.rt:99:9
 returns-2 : tie.Need-returns-2
 returns-2 c =
     let q = c .before .before .before in
-    let i = asked q in
-    let z = cleared i in
-    let s = begin z in
-    queue-past (nonzero (now (s .args .values))) (s .args .limit) (s .pre) (z .before .before .pair-total .ensures .0) (z .clear .ensures)
-    (i .insert-requests .ensures) (q .close-queue .ensures) (c .if2 .taken)
+    let s = begin q in
+    closes (λ req R. queue-past (nonzero (now (s .args .values))) (s .args .limit) (s .pre) req R (q .close-queue .ensures) (c .if2 .taken))
 
-same-length-3 : tie.Need-same-length-3
-same-length-3 c = search needs
+-- src/lib.rt:68:1
+same-length-2 : tie.Need-same-length-2
+same-length-2 c = search needs
 
+-- src/lib.rt:68:1
 returns-3 : tie.Need-returns-3
 returns-3 c =
     let q = c .before .before .before in
-    let i = asked q in
-    let z = cleared i in
-    let s = begin z in
-    queue-complete (nonzero (now (s .args .values))) (s .args .limit) (s .pre) (z .before .before .pair-total .ensures .0) (z .clear .ensures)
-    (i .insert-requests .ensures) (q .close-queue .ensures) (c .if2 .left)
+    let s = begin q in
+    closes (λ req R. queue-complete (nonzero (now (s .args .values))) (s .args .limit) (s .pre) req R (q .close-queue .ensures) (c .if2 .left))
 
 pub takahashi-dependency-closure-spec : {M : Type 1} → statement M
 takahashi-dependency-closure-spec =
     tie.close
     (tie.spec
-    pair-total-requires
-    clear-requires
-    insert-requests-requires
-    add-t18
-    same-length
+    add-t11
     returns
+    pair-total-requires
     close-queue-requires
-    same-length-2
+    same-length
     returns-2
-    same-length-3
+    same-length-2
     returns-3)

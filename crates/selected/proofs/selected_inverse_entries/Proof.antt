@@ -1,7 +1,8 @@
 use denote.Ref.{now}
 use borrow.Author.Needs.{needs}
-use Rattle.selection.specs.Selection.{Call, Lent, call, lists, defaultLimit}
-use Rattle.selected.proofs.Fill.{entries-refused, too-many}
+use Rattle.selection.specs.Selection.{Lent, lists, defaultLimit}
+use Rattle.selection.specs.Call.{Call, call}
+use Rattle.selected.proofs.Reply.{entries-refused, too-many}
 use Rattle.selected.proofs.selected_inverse_entries.Statement.{statement}
 use Rattle.selected.proofs.selected_inverse_entries.Tie as tie
 

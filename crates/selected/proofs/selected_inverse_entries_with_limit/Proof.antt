@@ -1,10 +1,13 @@
 use borrow.Author.Needs.{needs}
 use mathlib.Core.Path.{_≡_, ap, sym, _∙_}
+use native.Mathlib.Omega.{arith}
 use denote.Ref.{now}
 use Rattle.refusal.specs.Steps.{Passed}
 use Rattle.refusal.specs.Refusal.{replyOf}
-use Rattle.selection.specs.Selection.{Call, Lent, call, lists, roomOf, accepted, selectedSteps}
-use Rattle.selected.proofs.Fill.{entries-refused, entries-answered}
+use Rattle.selection.specs.Selection.{Lent, lists, roomOf}
+use Rattle.selection.specs.Call.{Call, call, selectedSteps, accepted, accepted-requests}
+use Rattle.fill.specs.Fill.{marked-input, marked-answer, marked-lists}
+use Rattle.selected.proofs.Reply.{entries-refused, entries-answered}
 use Rattle.selected.proofs.selected_inverse_entries_with_limit.Statement.{statement}
 use Rattle.selected.proofs.selected_inverse_entries_with_limit.Tie as tie
 
@@ -35,11 +38,21 @@ enum-known-why c = search needs
 enum-told : tie.Need-enum-told
 enum-told c = search needs
 
--- src/lib.rt:114:17
-select-entries-requires : tie.Need-select-entries-requires
-select-entries-requires c κs =
-    let t = c .before .before .before .before in
-    accepted (handed (begin (t .before .before))) (roomOf (lent (begin (t .before .before)))) (passed t)
+mark-requests-requires : tie.Need-mark-requests-requires
+mark-requests-requires c κs =
+    let t = c .before in
+    let x = handed (begin (t .before .before)) in
+    let r = roomOf (lent (begin (t .before .before))) in
+    let A = accepted x r (passed t) in
+    record { small = A .small; requests = accepted-requests x r (passed t); room = omega (arith, A .scratch-room) }
+
+fill-entries-requires : tie.Need-fill-entries-requires
+fill-entries-requires c κs =
+    let m = c .before .before .before .before .before .before in
+    let t = m .before .before in
+    let x = handed (begin (t .before .before)) in
+    let l = lent (begin (t .before .before)) in
+    marked-input (l .resultStarts) (l .resultRows) (l .resultValues) (accepted x (roomOf l) (passed t)) (m .mark-requests .ensures)
 
 -- src/lib.rt:79:1
 returns : tie.Need-returns
@@ -67,8 +80,14 @@ same-length-4 c = search needs
 returns-2 : tie.Need-returns-2
 returns-2 c =
     let e = c .before .before .before .before .before .before .before .before in
-    let t = e .before .before .before .before .before in
-    entries-answered (handed (begin (t .before .before))) (lent (begin (t .before .before))) (passed t) (e .select-entries .ensures)
+    let m = e .before .before .before .before .before .before .before in
+    let t = m .before .before in
+    let x = handed (begin (t .before .before)) in
+    let l = lent (begin (t .before .before)) in
+    let A = accepted x (roomOf l) (passed t) in
+    entries-answered x l (passed t)
+    (marked-answer (l .resultStarts) (l .resultRows) (l .resultValues) A (m .mark-requests .ensures) (e .fill-entries .ensures))
+    (marked-lists (l .resultStarts) (l .resultRows) (l .resultValues) A (m .mark-requests .ensures) (e .fill-entries .ensures) (selectedSteps x (roomOf l)) (passed t))
 
 pub selected-inverse-entries-with-limit-spec : {M : Type 1} → statement M
 selected-inverse-entries-with-limit-spec =
@@ -77,7 +96,8 @@ selected-inverse-entries-with-limit-spec =
     check-selected-requires
     enum-known-why
     enum-told
-    select-entries-requires
+    mark-requests-requires
+    fill-entries-requires
     returns
     same-length
     same-length-2

@@ -18,8 +18,8 @@ enum-known-why c = search needs
 enum-told : tie.Need-enum-told
 enum-told c = search needs
 
-check-from-diagonals-requires : tie.Need-check-from-diagonals-requires
-check-from-diagonals-requires c κs = c .before .before .before .before .before .before .before .before .pre
+check-fill-requires : tie.Need-check-fill-requires
+check-fill-requires c κs = c .before .before .before .before .before .before .before .before .pre
 
 returns : tie.Need-returns
 returns c =
@@ -32,8 +32,8 @@ returns-2 c =
     let t = c .before in
     let d = t .before .before in
     let a = d .before .before .before .before .before .before .args in
-    c .check-from-diagonals .ensures ∙ sym (append-passed (requestSteps (a .n) (a .dimension) (now (a .request-rows)) (now (a .request-columns))) _ tt (sym (d .check-requests .ensures) ∙ ap replyOf (t .enum-told .given .1)))
+    c .check-fill .ensures ∙ sym (append-passed (requestSteps (a .n) (a .dimension) (now (a .request-rows)) (now (a .request-columns))) _ tt (sym (d .check-requests .ensures) ∙ ap replyOf (t .enum-told .given .1)))
 
 pub check-from-requests-spec : {M : Type 1} → statement M
 check-from-requests-spec =
-    tie.close (tie.spec check-requests-requires enum-known-why enum-told check-from-diagonals-requires returns returns-2)
+    tie.close (tie.spec check-requests-requires enum-known-why enum-told check-fill-requires returns returns-2)

@@ -7,7 +7,7 @@ use Rattle.refusal.specs.Steps.{verdict, first-hit, first-skip, append-refused,
 use Rattle.refusal.specs.Refusal.{replyOf}
 use Rattle.columns.specs.Columns.{boundSteps}
 use Rattle.columns.specs.Factor.{boundSteps-sound}
-use Rattle.selection.specs.Selection.{selectedSteps}
+use Rattle.selection.specs.Call.{selectedSteps}
 use Rattle.selected_checks.proofs.check_selected.Statement.{statement}
 use Rattle.selected_checks.proofs.check_selected.Tie as tie
 

@@ -1,35 +1,61 @@
 use lib.Dec.{lit≤}
 use lib.Ieee.{ofBits, ofInt}
+use denote.Ref.{now}
 use borrow.Author.Needs.{needs}
 use Rattle.pairs.specs.Pair.{pairTotal}
+use Rattle.closed_set.specs.Requests.{requested, requested-ranged}
 use Rattle.starred.proofs.Facts.{F3-factor}
 use Rattle.starred.proofs.f3.Statement.{statement}
 use Rattle.starred.proofs.f3.Tie as tie
 
+-- src/main.rt:63:9
+slice-aggregate-mark-requests : tie.Need-slice-aggregate-mark-requests
+slice-aggregate-mark-requests c = search needs
+
+-- src/main.rt:59:9
+mark-requests-requires : tie.Need-mark-requests-requires
+unfolding pairTotal
+mark-requests-requires c κs = record { small = lit≤ tt; requests = c .before .before .before .pre; room = lit≤ tt }
+
+-- src/main.rt:67:9
 slice-aggregate-diagnose : tie.Need-slice-aggregate-diagnose
 slice-aggregate-diagnose c = search needs
 
+-- src/main.rt:68:9
 slice-aggregate-diagnose-2 : tie.Need-slice-aggregate-diagnose-2
 slice-aggregate-diagnose-2 c = search needs
 
+-- src/main.rt:69:9
 slice-aggregate-diagnose-3 : tie.Need-slice-aggregate-diagnose-3
 slice-aggregate-diagnose-3 c = search needs
 
+-- src/main.rt:72:9
 slice-aggregate-diagnose-4 : tie.Need-slice-aggregate-diagnose-4
 slice-aggregate-diagnose-4 c = search needs
 
+-- src/main.rt:65:5
 diagnose-requires : tie.Need-diagnose-requires
-unfolding pairTotal
-diagnose-requires c κs = record { small = lit≤ tt; factor = F3-factor; requests = c .before .before .before .before .before .before .pre; room = lit≤ tt }
+diagnose-requires c κs =
+    let m = c .before .before .before .before .before in
+    record { small = lit≤ tt; factor = F3-factor; marked = m .mark-requests .ensures .marked }
 
+-- src/main.rt:54:1
 returns : tie.Need-returns
 unfolding ofBits ofInt
-returns c = c .before .diagnose .ensures .0
+returns c =
+    let d = c .before in
+    let m = d .before .before .before .before .before .before in
+    let s = m .before .before .before .before in
+    let rs = now (s .args .request-rows) in
+    let cs = now (s .args .request-columns) in
+    d .diagnose .ensures .answers (requested rs cs) (record { ranged = requested-ranged rs cs 3 (s .pre); marks = m .mark-requests .ensures .marks })
 
 pub f3-spec : {M : Type 1} → statement M
 f3-spec =
     tie.close
     (tie.spec
+    slice-aggregate-mark-requests
+    mark-requests-requires
     slice-aggregate-diagnose
     slice-aggregate-diagnose-2
     slice-aggregate-diagnose-3

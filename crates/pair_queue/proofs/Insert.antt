@@ -15,53 +15,13 @@ use Rattle.lists.specs.Sum.{sumTo-zero, sumTo-most, sumTo-room, sumTo-one}
 use Rattle.refusal.specs.Bounds.{maxDimension}
 use Rattle.pairs.specs.Pair.{pairTotal}
 use Rattle.pairs.specs.ColumnOrder.{columnPlace, columnMark, columnPlace-below, columnPlace-same}
-use Rattle.closure.specs.Scratch.{packed, rowOf, columnOf, queueWord, Queued, Marked, Within, Grown, Insert, Inserted}
-
--- ---- words that grow
-
-pub grown-none : (n : ℕ) (s : List ℕ) (count : ℕ) → Grown n s count s count
-grown-none n s count = record { long = refl; more = omega arith; marks = λ p l e. e; words = λ j l. refl; later = refl }
-
-pub grown-trans : {n : ℕ} {s : List ℕ} {a : ℕ} {s′ : List ℕ} {b : ℕ} {s″ : List ℕ} {d : ℕ} → Grown n s a s′ b → Grown n s′ b s″ d → Grown n s a s″ d
-grown-trans G H = record {
-  long = H .long ∙ G .long;
-  more = omega (arith, G .more, H .more);
-  marks = λ p l e. H .marks p l (G .marks p l e);
-  words = λ j l. H .words j (omega (arith, G .more)) ∙ G .words j l;
-  later = H .later ∙ G .later;
-}
-
--- a marked pair stays marked
-pub grown-mark : {n : ℕ} {s : List ℕ} {a : ℕ} {s′ : List ℕ} {b : ℕ} → Grown n s a s′ b → (r c : ℕ) → c ≤ r → r < n → columnMark n s r c ≡ 1
-    → columnMark n s′ r c ≡ 1
-grown-mark {n} G r c h l e = G .marks (columnPlace n r c) (columnPlace-below n r c h l) e
-
-pub queued-grown : {n : ℕ} {s : List ℕ} {a : ℕ} {s′ : List ℕ} {b : ℕ} (w : ℕ) → Grown n s a s′ b → Queued n s w → Queued n s′ w
-queued-grown w G Q = record { ordered = Q .ordered; inside = Q .inside; marked = grown-mark G (rowOf w) (columnOf w) (Q .ordered) (Q .inside) (Q .marked) }
-
--- ---- no pair
-
-module _ (n : ℕ) (s : List ℕ) (z : (p : ℕ) → p < pairTotal n → getD s p 0 ≡ 0) where
-  pub marked-none : pairTotal n + pairTotal n ≤ length s → Marked n s 0
-  marked-none h = record {
-    room = h;
-    bits = λ p l. omega (arith, z p l);
-    size = sym (sumTo-zero _ (pairTotal n) z);
-    queued = λ j l. absurd (not-suc-le-zero l);
-    found = λ r c l m e. absurd (omega (arith, z (columnPlace n r c) (columnPlace-below n r c l m)));
-  }
-
-  pub within-none : (S : ℕ → ℕ → Bool) → Within n S s
-  within-none S r c l m e = absurd (omega (arith, z (columnPlace n r c) (columnPlace-below n r c l m)))
+use Rattle.pair_queue.specs.Marking.{grown-none, grown-trans, grown-mark, queued-grown}
+use Rattle.pair_queue.specs.Scratch.{packed, rowOf, columnOf, queueWord, Queued, Marked, Within, Grown, Insert, Inserted}
 
 -- ---- how many
 
 module _ (n : ℕ) (s : List ℕ) (count : ℕ) (M : Marked n s count) where
-  -- there are at most as many marked pairs as pairs
-  pub count-most : count ≤ pairTotal n
-  count-most = omega (arith, M .size, sumTo-most (λ p. getD s p 0) (pairTotal n) (M .bits))
-
-  -- and fewer where one is not marked
+  -- fewer pairs are marked than there are, where one is not marked
   pub count-room : (r c : ℕ) → c ≤ r → r < n → columnMark n s r c ≡ 0 → count < pairTotal n
   count-room r c h l e = omega (arith, M .size, sumTo-room (λ p. getD s p 0) (pairTotal n) (columnPlace n r c) (columnPlace-below n r c h l) e (M .bits))
 

@@ -1,7 +1,7 @@
-use Rattle.closure.proofs.Insert.{inserted-turned}
+use Rattle.pair_queue.proofs.Insert.{inserted-turned}
 use borrow.Author.Needs.{needs}
-use Rattle.closure.proofs.insert_closure_pair.Statement.{statement}
-use Rattle.closure.proofs.insert_closure_pair.Tie as tie
+use Rattle.pair_queue.proofs.insert_closure_pair.Statement.{statement}
+use Rattle.pair_queue.proofs.insert_closure_pair.Tie as tie
 
 insert-ordered-pair-requires : tie.Need-insert-ordered-pair-requires
 insert-ordered-pair-requires c κs = search needs

@@ -1,11 +1,11 @@
-use Rattle.closure.proofs.Insert.{place-words, end-words, inserted-old, inserted-new}
+use Rattle.pair_queue.proofs.Insert.{place-words, end-words, inserted-old, inserted-new}
 use lib.ListN.{length-set}
 use denote.Ref.{now}
 use borrow.Author.Needs.{needs}
 use Prim.Native.Nat.{_<_, _+_}
 use lib.ListN.{length}
-use Rattle.closure.proofs.insert_ordered_pair.Statement.{statement}
-use Rattle.closure.proofs.insert_ordered_pair.Tie as tie
+use Rattle.pair_queue.proofs.insert_ordered_pair.Statement.{statement}
+use Rattle.pair_queue.proofs.insert_ordered_pair.Tie as tie
 
 column-place-requires : tie.Need-column-place-requires
 column-place-requires c κs = search needs

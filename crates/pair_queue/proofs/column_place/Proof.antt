@@ -2,8 +2,8 @@ use Rattle.pairs.specs.ColumnOrder.{colStart-half, colStart-product}
 use Rattle.refusal.specs.Bounds.{maxDimension}
 use borrow.Author.Needs.{needs}
 use native.Mathlib.Omega.{arith}
-use Rattle.closure.proofs.column_place.Statement.{statement}
-use Rattle.closure.proofs.column_place.Tie as tie
+use Rattle.pair_queue.proofs.column_place.Statement.{statement}
+use Rattle.pair_queue.proofs.column_place.Tie as tie
 
 mul-result : tie.Need-mul-result
 mul-result c = search needs

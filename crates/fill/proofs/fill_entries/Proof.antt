@@ -4,27 +4,51 @@ use Prim.Native.Nat.{ℕ, _+_, _*_}
 use mathlib.Core.Path.{_≡_, refl, ap, sym, _∙_}
 use lib.ListN.{length, getD}
 use denote.Ref.{now}
-use Rattle.selection.specs.Selection.{Call, Lent, call, lists, scratchWords}
+use mathlib.Core.Bool.{Bool}
+use Rattle.selection.specs.Selection.{Selection, selection, Lent, lists, roomOf, Accepted, scratchWords}
+use Rattle.closure.specs.Closure.{Requested, markedSet, marked-requested}
 use Rattle.pairs.specs.Pair.{pairTotal}
-use Rattle.selected.proofs.Fill.{fill-layout, fill-route, fill-words, fill-done, large-words, large-done}
-use Rattle.selected.proofs.select_entries.Statement.{statement}
-use Rattle.selected.proofs.select_entries.Tie as tie
+use Rattle.fill.proofs.Fill.{fill-layout, fill-route, fill-words, fill-done, large-words, large-done}
+use Rattle.fill.proofs.fill_entries.Statement.{statement}
+use Rattle.fill.proofs.fill_entries.Tie as tie
 
--- the call and the lists that it is lent
-abbrev handed : tie.Start → Call
+-- the selection of the marked pairs, or of another set that they are, and the lists lent
+abbrev handed : tie.Start → Selection
 handed s =
     let a = s .args in
-    call (a .n) (now (a .starts)) (now (a .rows)) (now (a .values)) (a .dimension) (now (a .request-rows)) (now (a .request-columns)) (a .limit)
+    selection (a .n) (now (a .starts)) (now (a .rows)) (now (a .values)) (markedSet (a .n) (now (a .scratch))) (a .limit)
+
+abbrev asked : tie.Start → (ℕ → ℕ → Bool) → Selection
+asked s req = let a = s .args in selection (a .n) (now (a .starts)) (now (a .rows)) (now (a .values)) req (a .limit)
 
 abbrev lent : tie.Start → Lent
 lent s = let a = s .args in lists (now (a .result-starts)) (now (a .result-rows)) (now (a .result-values)) (now (a .scratch))
 
 -- where the call starts, and the diagnosis
 abbrev begin : tie.After-pair-total → tie.Start
-begin p = p .before .before .before .before .before .before .before .before .before .before
+begin p = p .before .before .before .before .before .before .before .before
 
 abbrev counted : tie.After-diagnose → tie.After-pair-total
 counted d = d .before .before
+
+-- the marked pairs are a set
+set : (d : tie.After-diagnose) → let a = begin (counted d) .args in Requested (a .n) (markedSet (a .n) (now (a .scratch))) (now (a .scratch))
+set d = let a = begin (counted d) .args in marked-requested (a .n) (now (a .scratch))
+
+-- an accepted selection stays so for another set that the marked pairs are
+other : (s : tie.Start) (req : ℕ → ℕ → Bool) → Requested (s .args .n) req (now (s .args .scratch)) → Accepted (asked s req) (roomOf (lent s))
+other s req R =
+    let A = s .pre .accepted in
+    record {
+      small = A .small;
+      factor = A .factor;
+      requests = R .ranged;
+      diagonals = A .diagonals;
+      starts-room = A .starts-room;
+      rows-room = A .rows-room;
+      values-room = A .values-room;
+      scratch-room = A .scratch-room;
+    }
 
 -- T, and the words that the call uses
 all : (p : tie.After-pair-total) → p .pair-total .result ≡ pairTotal (begin p .args .n)
@@ -62,7 +86,7 @@ lay-out-requires : tie.Need-lay-out-requires
 lay-out-requires c κs =
     let t = c .before .before .before in
     let d = t .before .before .before .before in
-    fill-layout (handed (begin (counted d))) (lent (begin (counted d))) (begin (counted d) .pre) (d .diagnose .ensures .1) (d .diagnose .ensures .0) (t .enum-told .given .1)
+    fill-layout (handed (begin (counted d))) (lent (begin (counted d))) (begin (counted d) .pre .accepted) (d .diagnose .ensures .leaves _ (set d)) (d .diagnose .ensures .answers _ (set d)) (t .enum-told .given .1)
 
 -- src/lib.rt:58:13
 takahashi-selected-inverse-requires :
@@ -71,7 +95,7 @@ takahashi-selected-inverse-requires c κs =
     let l = c .before .before .before .before .before .before .before .before .before .before in
     let t = l .before .before .before .before in
     let d = t .before .before .before .before in
-    fill-route (handed (begin (counted d))) (lent (begin (counted d))) (begin (counted d) .pre) (d .diagnose .ensures .1) (d .diagnose .ensures .0) (t .enum-told .given .1) (l .lay-out .ensures)
+    fill-route (handed (begin (counted d))) (lent (begin (counted d))) (begin (counted d) .pre .accepted) (d .diagnose .ensures .leaves _ (set d)) (d .diagnose .ensures .answers _ (set d)) (t .enum-told .given .1) (l .lay-out .ensures)
 
 -- src/lib.rt:68:13
 clear-requires : tie.Need-clear-requires
@@ -80,7 +104,7 @@ clear-requires c κs =
     let l = k .before .before .before .before .before .before .before .before .before .before .before in
     let t = l .before .before .before .before in
     let d = t .before .before .before .before in
-    omega (arith, all (counted d), fill-words (handed (begin (counted d))) (lent (begin (counted d))) (begin (counted d) .pre) (d .diagnose .ensures .1) (d .diagnose .ensures .0) (t .enum-told .given .1) (l .lay-out .ensures))
+    omega (arith, all (counted d), fill-words (handed (begin (counted d))) (lent (begin (counted d))) (begin (counted d) .pre .accepted) (d .diagnose .ensures .leaves _ (set d)) (d .diagnose .ensures .answers _ (set d)) (t .enum-told .given .1) (l .lay-out .ensures))
 
 -- src/lib.rt:72:19
 enum-told-2 : tie.Need-enum-told-2
@@ -91,7 +115,7 @@ clear-requires-2 : tie.Need-clear-requires-2
 clear-requires-2 c κs =
     let t = c .before in
     let d = t .before .before .before .before in
-    omega (arith, all (counted d), large-words (handed (begin (counted d))) (lent (begin (counted d))) (begin (counted d) .pre) (d .diagnose .ensures .1) (d .diagnose .ensures .0) (t .enum-told2 .given .1))
+    omega (arith, all (counted d), large-words (handed (begin (counted d))) (lent (begin (counted d))) (begin (counted d) .pre .accepted) (d .diagnose .ensures .leaves _ (set d)) (d .diagnose .ensures .answers _ (set d)) (t .enum-told2 .given .1))
 
 -- src/lib.rt:22:1
 same-length : tie.Need-same-length
@@ -117,8 +141,13 @@ returns c =
     let l = k .before .before .before .before .before .before .before .before .before .before .before in
     let t = l .before .before .before .before in
     let d = t .before .before .before .before in
-    fill-done (handed (begin (counted d))) (lent (begin (counted d))) (begin (counted d) .pre) (d .diagnose .ensures .1) (d .diagnose .ensures .0) (t .enum-told .given .1) (l .lay-out .ensures)
-    (k .takahashi-selected-inverse .ensures) (used (counted d)) (m .clear .ensures)
+    let s = begin (counted d) in
+    record {
+      answers = d .diagnose .ensures .answers;
+      leaves = λ req R.
+          fill-done (asked s req) (lent s) (other s req R) (d .diagnose .ensures .leaves req R) (d .diagnose .ensures .answers req R) (t .enum-told .given .1)
+          (l .lay-out .ensures) (k .takahashi-selected-inverse .ensures) (used (counted d)) (m .clear .ensures);
+    }
 
 -- src/lib.rt:22:1
 same-length-5 : tie.Need-same-length-5
@@ -130,10 +159,16 @@ returns-2 c =
     let m = c .before .before in
     let t = m .before .before in
     let d = t .before .before .before .before in
-    large-done (handed (begin (counted d))) (lent (begin (counted d))) (begin (counted d) .pre) (d .diagnose .ensures .1) (d .diagnose .ensures .0) (t .enum-told2 .given .1) (used (counted d)) (m .clear2 .ensures)
+    let s = begin (counted d) in
+    record {
+      answers = d .diagnose .ensures .answers;
+      leaves = λ req R.
+          large-done (asked s req) (lent s) (other s req R) (d .diagnose .ensures .leaves req R) (d .diagnose .ensures .answers req R) (t .enum-told2 .given .1)
+          (used (counted d)) (m .clear2 .ensures);
+    }
 
-pub select-entries-spec : {M : Type 1} → statement M
-select-entries-spec =
+pub fill-entries-spec : {M : Type 1} → statement M
+fill-entries-spec =
     tie.close
     (tie.spec
     pair-total-requires

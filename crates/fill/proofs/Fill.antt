@@ -1,0 +1,128 @@
+-- From the marks of the closed set to the result's lists, and the words that a call leaves.
+-- Assumes nothing.
+use Prim.Native.Nat.{ℕ, _+_, _≤_, _<_, min}
+use native.Mathlib.Omega.{arith}
+use mathlib.Core.Path.{_≡_, refl, sym, ap, ap₂, _∙_}
+use mathlib.Core.Bool.{Bool, true, false, cond}
+use mathlib.Core.List.{List, []}
+use lib.ListN.{length, take}
+use lib.Ieee.{Float}
+use borrow.Author.Tests.{leb-true}
+use Rattle.lists.specs.Overwrite.{overwrite, overwrite-front, cleared}
+use Rattle.pairs.specs.Pair.{pairTotal}
+use Rattle.pairs.specs.ColumnOrder.{columnMarking, setSize, setSize-cong}
+use Rattle.columns.specs.Kept.{nonzero, pattern}
+use Rattle.closed_set.specs.ClosedSet.{Pattern}
+use Rattle.closed_set.specs.Size.{closureSize-most}
+use Rattle.entries.specs.Entries.{entryStarts, entryRows, entryValues, entryStarts-length, entryRows-length}
+use Rattle.entries.specs.Position.{entryStarts-cong, entryRows-cong, entryValues-cong}
+use Rattle.diagnostics.specs.declared.SelectedInverseDiagnostics.{SelectedInverseDiagnostics}
+use Rattle.diagnostics.specs.declared.SelectedInverseStatus.the-variants.{Complete, ClosureTooLarge}
+use Rattle.closure.specs.Closure.{Closing}
+use Rattle.closure.specs.FactorPattern.{factor-pattern}
+use Rattle.layout.specs.Layout.{LayOut, LaidOut}
+use Rattle.closure_route.specs.Route.{laid-same, laid-route}
+use Rattle.closure_route.specs.Members.{marked-member, marked-size, marked-closed}
+use Rattle.routes.specs.Routes.{RoutesInput}
+use Rattle.selection.specs.Selection.{Selection, Lent, roomOf, Accepted, scratchWords, selectedSet, selectedSize, selectedComplete, selectedAnswer, selectedTable}
+use Rattle.selection.specs.Selection.{ResultLists, lists-passed, cleared-same, nothing-refused}
+use Rattle.selection.specs.Status.{status-tells, factor-pairs-are, closure-pairs-are}
+
+module _ (x : Selection) where
+  abbrev pat : ℕ → List ℕ
+  pat = pattern (x .starts) (x .rows) (nonzero (x .values))
+
+module _ (x : Selection) (lent : Lent) (A : Accepted x (roomOf lent)) where
+  P : Pattern (x .n) (pat x)
+  P = factor-pattern (nonzero (x .values)) (A .factor)
+
+  module _ {s₁ : List ℕ} (K : Closing (x .n) (pat x) (x .requests) (x .limit) (lent .scratch) s₁) {d : SelectedInverseDiagnostics} (D : d ≡ selectedAnswer x) where
+    -- ---- within the limit
+    module _ (told : d .status ≡ Complete) where
+      complete : selectedComplete x ≡ true
+      complete = status-tells x Complete (ap (λ (y : SelectedInverseDiagnostics). y .status) (sym D) ∙ told)
+
+      within : selectedSize x ≤ x .limit
+      within = leb-true _ _ complete
+
+      same : (r c : ℕ) → c ≤ r → r < x .n → columnMarking (x .n) s₁ r c ≡ selectedSet x r c
+      same = marked-member (x .n) (pat x) (x .requests) s₁ (K .marks within)
+
+      size : setSize (x .n) (columnMarking (x .n) s₁) ≡ selectedSize x
+      size = marked-size (x .n) (pat x) (x .requests) s₁ (K .marks within)
+
+      most : selectedSize x ≤ min (x .limit) (pairTotal (x .n))
+      most = omega (arith, within, closureSize-most (x .n) (pat x) (x .requests))
+
+      -- what the layout asks
+      pub fill-layout : LayOut (x .n) (lent .resultStarts) (lent .resultRows) s₁
+      fill-layout = record {
+        small = A .small;
+        room = omega (arith, K .long, A .scratch-room);
+        starts-fit = A .starts-room;
+        rows-fit = omega (arith, size, most, A .rows-room);
+      }
+
+      module _ {rs rr s₂ : List ℕ} {count : ℕ} (L : LaidOut (x .n) (lent .resultStarts) (lent .resultRows) s₁ rs rr s₂ count) where
+        laid : (r c : ℕ) → c ≤ r → r < x .n → columnMarking (x .n) s₁ r c ≡ columnMarking (x .n) s₂ r c
+        laid r c h l = sym (laid-same fill-layout L r c h l)
+
+        marked : setSize (x .n) (columnMarking (x .n) s₁) ≡ setSize (x .n) (columnMarking (x .n) s₂)
+        marked = setSize-cong (x .n) (columnMarking (x .n) s₁) (columnMarking (x .n) s₂) laid
+
+        -- what the routes ask
+        pub fill-route : RoutesInput (x .n) (x .starts) (x .rows) (x .values) (d .«factor_pairs») (d .«closure_pairs») rs rr s₂ (length (lent .resultValues))
+        fill-route = record {
+          route =
+              laid-route fill-layout L (A .factor) (A .diagonals) P (marked-closed (x .n) (pat x) (x .requests) s₁ (K .marks within) P (A .requests))
+              (omega (arith, size, most, A .values-room));
+          kept-is = ap (λ (y : SelectedInverseDiagnostics). y .«factor_pairs») D ∙ factor-pairs-are x;
+          closed-is =
+              ap (λ (y : SelectedInverseDiagnostics). y .«closure_pairs») D
+              ∙ omega (arith, closure-pairs-are x, within, size, marked);
+          starts-laid =
+              ap₂ take (sym (entryStarts-length (x .n) (columnMarking (x .n) s₁))) (L .starts-are)
+              ∙ overwrite-front (entryStarts (x .n) (columnMarking (x .n) s₁)) (lent .resultStarts)
+              ∙ entryStarts-cong (x .n) (columnMarking (x .n) s₁) (columnMarking (x .n) s₂) laid;
+          rows-laid =
+              ap₂ take (sym marked ∙ sym (entryRows-length (x .n) (columnMarking (x .n) s₁))) (L .rows-are)
+              ∙ overwrite-front (entryRows (x .n) (columnMarking (x .n) s₁)) (lent .resultRows)
+              ∙ entryRows-cong (x .n) (columnMarking (x .n) s₁) (columnMarking (x .n) s₂) laid;
+        }
+
+        pub fill-words : scratchWords (x .n) ≤ length s₂
+        fill-words = omega (arith, K .long, L .long, A .scratch-room)
+
+        -- what is left
+        pub fill-done : {rv : List Float} {s₃ : List ℕ} {used : ℕ} → rv ≡ overwrite (entryValues (x .n) (columnMarking (x .n) s₂) (selectedTable x)) (lent .resultValues)
+            → used ≡ scratchWords (x .n) → s₃ ≡ cleared used s₂ → ResultLists [] x lent rs rr rv s₃
+        fill-done {rv} {s₃} {used} ev eu es =
+            lists-passed [] x lent nothing-refused
+            (L .starts-are ∙ ap (λ (l : List ℕ). overwrite l (lent .resultStarts)) (entryStarts-cong (x .n) (columnMarking (x .n) s₁) (selectedSet x) same)
+            ∙ sym (ap (λ (b : Bool). cond b (overwrite (entryStarts (x .n) (selectedSet x)) (lent .resultStarts)) (lent .resultStarts)) complete))
+            (L .rows-are ∙ ap (λ (l : List ℕ). overwrite l (lent .resultRows)) (entryRows-cong (x .n) (columnMarking (x .n) s₁) (selectedSet x) same)
+            ∙ sym (ap (λ (b : Bool). cond b (overwrite (entryRows (x .n) (selectedSet x)) (lent .resultRows)) (lent .resultRows)) complete))
+            (ev
+            ∙ ap (λ (l : List Float). overwrite l (lent .resultValues))
+            (entryValues-cong (x .n) (columnMarking (x .n) s₂) (selectedSet x) (λ r c h l. laid-same fill-layout L r c h l ∙ same r c h l) (selectedTable x))
+            ∙ sym (ap (λ (b : Bool). cond b (overwrite (entryValues (x .n) (selectedSet x) (selectedTable x)) (lent .resultValues)) (lent .resultValues)) complete))
+            (es ∙ ap (λ (m : ℕ). cleared m s₂) eu
+            ∙ cleared-same (pairTotal (x .n) + pairTotal (x .n)) (scratchWords (x .n)) s₂ (lent .scratch) (omega arith) (L .later ∙ K .later))
+
+    -- ---- beyond the limit
+    module _ (told : d .status ≡ ClosureTooLarge) where
+      large : selectedComplete x ≡ false
+      large = status-tells x ClosureTooLarge (ap (λ (y : SelectedInverseDiagnostics). y .status) (sym D) ∙ told)
+
+      pub large-words : scratchWords (x .n) ≤ length s₁
+      large-words = omega (arith, K .long, A .scratch-room)
+
+      pub large-done : {s₃ : List ℕ} {used : ℕ} → used ≡ scratchWords (x .n) → s₃ ≡ cleared used s₁
+          → ResultLists [] x lent (lent .resultStarts) (lent .resultRows) (lent .resultValues) s₃
+      large-done {s₃} {used} eu es =
+          lists-passed [] x lent nothing-refused
+          (sym (ap (λ (b : Bool). cond b (overwrite (entryStarts (x .n) (selectedSet x)) (lent .resultStarts)) (lent .resultStarts)) large))
+          (sym (ap (λ (b : Bool). cond b (overwrite (entryRows (x .n) (selectedSet x)) (lent .resultRows)) (lent .resultRows)) large))
+          (sym (ap (λ (b : Bool). cond b (overwrite (entryValues (x .n) (selectedSet x) (selectedTable x)) (lent .resultValues)) (lent .resultValues)) large))
+          (es ∙ ap (λ (m : ℕ). cleared m s₁) eu
+          ∙ cleared-same (pairTotal (x .n) + pairTotal (x .n)) (scratchWords (x .n)) s₁ (lent .scratch) (omega arith) (K .later))

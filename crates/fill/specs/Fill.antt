@@ -1,0 +1,68 @@
+-- Filling result lists from marked pairs: what it asks and leaves.
+-- Assumes nothing.
+use Prim.Native.Nat.{ℕ, _+_}
+use native.Mathlib.Omega.{arith}
+use mathlib.Core.Path.{_≡_, sym, _∙_}
+use mathlib.Core.Bool.{Bool}
+use mathlib.Core.List.{List, []}
+use lib.Ieee.{Float}
+use Rattle.diagnostics.specs.declared.SelectedInverseDiagnostics.{SelectedInverseDiagnostics}
+use Rattle.refusal.specs.Steps.{Step, Passed}
+use Rattle.pairs.specs.Pair.{pairTotal}
+use Rattle.pair_queue.specs.Scratch.{Marked}
+use Rattle.pair_queue.specs.Marking.{MarkedPairs}
+use Rattle.closure.specs.Closure.{Requested, markedSet, marked-requested}
+use Rattle.selection.specs.Selection.{selection, lists, Lent, roomOf, scratchWords, Accepted, selectedAnswer, ResultLists}
+use Rattle.selection.specs.Selection.{lists-passed, passed-starts, passed-rows, passed-values, passed-scratch, nothing-refused, cleared-same}
+
+-- a call past its checks, with the requested pairs marked in the scratch
+pub record FillInput (n : ℕ) (starts rows : List ℕ) (values : List Float) (requested limit : ℕ) (lent : Lent) : Type 0 where
+  pub marked : Marked n (lent .scratch) requested
+  pub accepted : Accepted (selection n starts rows values (markedSet n (lent .scratch)) limit) (roomOf lent)
+
+-- the diagnosis and the lists, whatever set the marked pairs are
+pub record Fills (n : ℕ) (starts rows : List ℕ) (values : List Float) (limit : ℕ) (lent : Lent) (d : SelectedInverseDiagnostics) (rs rr : List ℕ)
+    (rv : List Float) (s : List ℕ) : Type 0 where
+  pub answers : (req : ℕ → ℕ → Bool) → Requested n req (lent .scratch) → d ≡ selectedAnswer (selection n starts rows values req limit)
+  pub leaves : (req : ℕ → ℕ → Bool) → Requested n req (lent .scratch) → ResultLists [] (selection n starts rows values req limit) lent rs rr rv s
+
+-- ---- once a set of requested pairs is marked
+
+module _ {n : ℕ} {starts rows : List ℕ} {values : List Float} {req : ℕ → ℕ → Bool} {limit : ℕ} (rs₀ rr₀ : List ℕ) (rv₀ : List Float) {s₀ s₁ : List ℕ}
+    {count : ℕ} (A : Accepted (selection n starts rows values req limit) (roomOf (lists rs₀ rr₀ rv₀ s₀))) (M : MarkedPairs n req s₀ s₁ count) where
+  pub marked-are : Requested n req s₁
+  marked-are = record { ranged = A .requests; marks = M .marks }
+
+  -- the lists can be filled
+  pub marked-input : FillInput n starts rows values count limit (lists rs₀ rr₀ rv₀ s₁)
+  marked-input = record {
+    marked = M .marked;
+    accepted = record {
+      small = A .small;
+      factor = A .factor;
+      requests = marked-requested n s₁ .ranged;
+      diagonals = A .diagonals;
+      starts-room = A .starts-room;
+      rows-room = A .rows-room;
+      values-room = A .values-room;
+      scratch-room = omega (arith, A .scratch-room, M .long);
+    };
+  }
+
+  -- and are those of the call
+  module _ {d : SelectedInverseDiagnostics} {rs rr : List ℕ} {rv : List Float} {s : List ℕ}
+      (F : Fills n starts rows values limit (lists rs₀ rr₀ rv₀ s₁) d rs rr rv s) where
+    pub marked-answer : d ≡ selectedAnswer (selection n starts rows values req limit)
+    marked-answer = F .answers req marked-are
+
+    pub marked-lists : (steps : List Step) → Passed steps → ResultLists steps (selection n starts rows values req limit) (lists rs₀ rr₀ rv₀ s₀) rs rr rv s
+    marked-lists steps p =
+        let L = F .leaves req marked-are in
+        let x = selection n starts rows values req limit in
+        let lent = lists rs₀ rr₀ rv₀ s₁ in
+        lists-passed steps x (lists rs₀ rr₀ rv₀ s₀) p
+        (passed-starts [] x lent nothing-refused L)
+        (passed-rows [] x lent nothing-refused L)
+        (passed-values [] x lent nothing-refused L)
+        (passed-scratch [] x lent nothing-refused L
+        ∙ cleared-same (pairTotal n + pairTotal n) (scratchWords n) s₁ s₀ (omega arith) (M .later))

@@ -1,0 +1,2 @@
+-- Filling result lists from marked pairs.
+pub mod Fill

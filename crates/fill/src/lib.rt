@@ -1,0 +1,57 @@
+// Filling result lists: what every call does past its checks, once the requested pairs are marked.
+ghost use Rattle.selection.specs.Selection.{lists};
+ghost use Rattle.fill.specs.Fill.{FillInput, Fills};
+use closure::diagnose;
+use diagnostics::SelectedInverseDiagnostics;
+use diagnostics::SelectedInverseStatus;
+use layout::lay_out;
+use pair_marks::pair_total;
+use routes::takahashi_selected_inverse;
+use words::clear;
+
+// The diagnosis; where the closed set of the marked pairs is within the limit the result lists are filled. The scratch ends cleared.
+pub fn fill_entries(
+    n: usize,
+    starts: &[u32],
+    rows: &[u32],
+    values: &[f64],
+    requested_pairs: usize,
+    limit: usize,
+    result_starts: &mut [u32],
+    result_rows: &mut [u32],
+    result_values: &mut [f64],
+    scratch: &mut [u32],
+) -> SelectedInverseDiagnostics
+    requires { ⌜ FillInput n (now starts) (now rows) (now values) «requested_pairs» limit
+        (lists (now «result_starts») (now «result_rows») (now «result_values») (now scratch)) ⌝ }
+    ensures { λ d. ⌜ Fills n (now (starts .entry)) (now (rows .entry)) (now (values .entry)) limit
+        (lists (now («result_starts» .entry)) (now («result_rows» .entry)) (now («result_values» .entry)) (now (scratch .entry))) d
+        (now («result_starts» .exit)) (now («result_rows» .exit)) (now («result_values» .exit)) (now (scratch .exit)) ⌝ }
+{
+    let used = 2 * pair_total(n) + 4 * n;
+    let diagnosis = diagnose(n, starts, rows, values, requested_pairs, limit, scratch);
+    let status = diagnosis.status;
+    match status {
+        SelectedInverseStatus::Complete => {
+            lay_out(n, result_starts, result_rows, scratch);
+            takahashi_selected_inverse(
+                n,
+                starts,
+                rows,
+                values,
+                diagnosis.factor_pairs,
+                diagnosis.closure_pairs,
+                result_starts,
+                result_rows,
+                result_values,
+                scratch,
+            );
+            clear(scratch, used);
+            diagnosis
+        }
+        SelectedInverseStatus::ClosureTooLarge => {
+            clear(scratch, used);
+            diagnosis
+        }
+    }
+}

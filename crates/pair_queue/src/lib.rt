@@ -1,0 +1,59 @@
+// The words that closing uses: marks of pairs, column by column, and behind them a queue of the marked pairs, after
+// `insert_closure_pair` of uncertainty.rs.
+ghost use mathlib.Core.Path.{_≡_};
+ghost use Prim.Native.Nat.{_<_, _≤_};
+ghost use Rattle.refusal.specs.Bounds.{maxDimension};
+ghost use Rattle.pairs.specs.ColumnOrder.{columnPlace};
+ghost use Rattle.pair_queue.specs.Scratch.{Insert, Inserted};
+
+// A pair is one word of the queue: row times PACKING, and the column.
+pub const PACKING: usize = 4096;
+
+// The place of (r, c): columns one after the other, each from its diagonal down.
+pub fn column_place(n: usize, r: usize, c: usize) -> usize
+    requires { ⌜ (n ≤ maxDimension) × (c ≤ r) × (r < n) ⌝ }
+    ensures { λ p. ⌜ p ≡ columnPlace n r c ⌝ }
+{
+    c * (2 * n + 1 - c) / 2 + (r - c)
+}
+
+// Marks the pair (r, c), in order, and puts it at the queue's end, unless it is marked; returns how many are marked.
+fn insert_ordered_pair(
+    n: usize,
+    pairs: usize,
+    r: usize,
+    c: usize,
+    count: usize,
+    scratch: &mut [u32],
+) -> usize
+    requires { ⌜ (c ≤ r) × Insert n pairs r c (now scratch) count ⌝ }
+    ensures { λ m. ⌜ Inserted n r c (now (scratch .entry)) count (now (scratch .exit)) m ⌝ }
+{
+    let p = column_place(n, r, c);
+    if scratch[p] != 0 {
+        return count;
+    }
+    scratch[p] = 1;
+    let end = pairs + count;
+    let w = r * PACKING + c;
+    scratch[end] = w as u32;
+    count + 1
+}
+
+// The same for a pair in either order.
+pub fn insert_closure_pair(
+    n: usize,
+    pairs: usize,
+    a: usize,
+    b: usize,
+    count: usize,
+    scratch: &mut [u32],
+) -> usize
+    requires { ⌜ Insert n pairs a b (now scratch) count ⌝ }
+    ensures { λ m. ⌜ Inserted n a b (now (scratch .entry)) count (now (scratch .exit)) m ⌝ }
+{
+    if a < b {
+        return insert_ordered_pair(n, pairs, b, a, count, scratch);
+    }
+    insert_ordered_pair(n, pairs, a, b, count, scratch)
+}

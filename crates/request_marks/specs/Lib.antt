@@ -1,0 +1,2 @@
+-- Marking the pairs of two request lists.
+pub mod Requests

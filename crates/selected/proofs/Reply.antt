@@ -1,0 +1,42 @@
+-- The reply and the lists of a call, refused or answered.
+-- Assumes nothing.
+use Prim.Native.Nat.{ℕ, _<_}
+use mathlib.Core.Path.{_≡_, refl, sym, ap, _∙_}
+use mathlib.Core.Bool.{Bool, true, false}
+use mathlib.Core.List.{List}
+use lib.ListN.{length}
+use lib.Ieee.{Float}
+use lib.Dec.{ltb}
+use borrow.Author.Tests.{lt-ltb}
+use Rattle.refusal.specs.Steps.{Step, answered, refused, verdict, Passed, first-refused, first-passed, append-refused, first-hit, first-skip}
+use Rattle.refusal.specs.Refusal.{refusalNumber}
+use Rattle.refusal.specs.declared.Refusal.{Refusal}
+use Rattle.refusal.specs.Bounds.{maxDimension, maxEntries}
+use Rattle.columns.specs.Columns.{boundSteps}
+use Rattle.diagnostics.specs.declared.SelectedInverseDiagnostics.{SelectedInverseDiagnostics}
+use Rattle.selection.specs.Selection.{Lent, roomOf, selectedAnswer, ResultLists, lists-refused}
+use Rattle.selection.specs.Call.{Call, selectionOf, selectedSteps}
+use Rattle.selected.specs.declared.Selected.the-variants.{Answered, Refused}
+use Rattle.selected.specs.Selected.{SelectedEntries}
+
+module _ (x : Call) (lent : Lent) where
+  abbrev steps : List Step
+  steps = selectedSteps x (roomOf lent)
+
+  pub entries-refused : {why : Refusal} → verdict steps ≡ refused (refusalNumber why)
+      → SelectedEntries x lent (Refused why) (lent .resultStarts) (lent .resultRows) (lent .resultValues) (lent .scratch)
+  entries-refused e = record { replies = sym (first-refused steps _ _ e); left = lists-refused steps (selectionOf x) lent e }
+
+  pub entries-answered : Passed steps → {d : SelectedInverseDiagnostics} {rs rr : List ℕ} {rv : List Float} {s : List ℕ} → d ≡ selectedAnswer (selectionOf x)
+      → ResultLists steps (selectionOf x) lent rs rr rv s → SelectedEntries x lent (Answered d) rs rr rv s
+  entries-answered p e L = record { replies = ap (λ (y : SelectedInverseDiagnostics). answered y) e ∙ sym (first-passed steps _ p); left = L }
+
+  -- more stored entries than the bound are refused whatever the limit
+  pub too-many : maxEntries < length (x .rows) → verdict steps ≡ refused 1
+  unfolding selectedSteps boundSteps
+  too-many h =
+      append-refused (boundSteps (x .n) (length (x .rows))) _ 1 tt (go (ltb maxDimension (x .n)) refl)
+    where
+      go : (b : Bool) → ltb maxDimension (x .n) ≡ b → verdict (boundSteps (x .n) (length (x .rows))) ≡ refused 1
+      go true e = first-hit 1 _ _ e
+      go false e = first-skip 1 _ _ e (first-hit 1 _ _ (lt-ltb maxEntries (length (x .rows)) h))

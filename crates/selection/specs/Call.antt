@@ -1,0 +1,143 @@
+-- Selected entries: what a call is handed, and what it refuses in document 01's order.
+-- Assumes nothing.
+use Prim.Native.Nat.{ℕ, _+_, _≤_, _<_, min}
+use mathlib.Core.List.{List, [], _∷_, _++_}
+use lib.ListN.{length}
+use lib.Ieee.{Float}
+use borrow.Author.Tests.{ltb-false}
+use Rattle.refusal.specs.Bounds.{maxDimension}
+use Rattle.refusal.specs.Steps.{Step, Reply, first, Passed, passed-clear, passed-front, passed-back}
+use Rattle.pairs.specs.Pair.{pairTotal}
+use Rattle.columns.specs.Columns.{boundSteps, columnSteps}
+use Rattle.columns.specs.Factor.{Factor, boundSteps-sound, columnSteps-sound}
+use Rattle.columns.specs.Diagonal.{diagonalSteps, diagonalSteps-sound}
+use Rattle.closed_set.specs.ClosedSet.{Ranged}
+use Rattle.closed_set.specs.Requests.{requested, Requests, requested-ranged}
+use Rattle.requests.specs.Requests.{requestBoundStep, requestSteps, requestSteps-sound}
+use Rattle.diagnostics.specs.declared.SelectedInverseDiagnostics.{SelectedInverseDiagnostics}
+use Rattle.selection.specs.Selection.{Selection, Lent, Room, roomOf, scratchWords, roomSteps, fillSteps, selectedAnswer, Accepted}
+
+-- what a call is handed to read: a factor, two lists of requests with their dimension, and a limit
+pub record Call : Type 0 where
+  pub n : ℕ
+  pub starts : List ℕ
+  pub rows : List ℕ
+  pub values : List Float
+  pub dimension : ℕ
+  pub requestRows : List ℕ
+  pub requestColumns : List ℕ
+  pub limit : ℕ
+
+-- a call, from a function's parameters in their order
+abbrev pub call : ℕ → List ℕ → List ℕ → List Float → ℕ → List ℕ → List ℕ → ℕ → Call
+call n starts rows values dimension requestRows requestColumns limit = record {
+  n = n;
+  starts = starts;
+  rows = rows;
+  values = values;
+  dimension = dimension;
+  requestRows = requestRows;
+  requestColumns = requestColumns;
+  limit = limit;
+}
+
+module _ (x : Call) where
+  -- the requests as a set of pairs
+  abbrev pub selectionOf : Selection
+  selectionOf = record {
+    n = x .n;
+    starts = x .starts;
+    rows = x .rows;
+    values = x .values;
+    requests = requested (x .requestRows) (x .requestColumns);
+    limit = x .limit;
+  }
+
+  -- refusals 1 to 7
+  unfoldable pub selectedSteps : Room → List Step
+  selectedSteps lengths =
+      boundSteps (x .n) (length (x .rows))
+      ++ (requestBoundStep (length (x .requestRows))
+      ∷ (columnSteps (x .n) (x .starts) (x .rows) (length (x .values))
+      ++ (requestSteps (x .n) (x .dimension) (x .requestRows) (x .requestColumns)
+      ++ fillSteps (x .n) (x .starts) (x .rows) (x .values) (x .limit) lengths)))
+
+  -- the reply
+  abbrev pub selectedReply : Lent → Reply SelectedInverseDiagnostics
+  selectedReply lent = first (selectedSteps (roomOf lent)) (selectedAnswer selectionOf)
+
+-- ---- calls that pass
+
+-- what the steps of 7 tell
+pub record Roomy (n limit : ℕ) (lengths : Room) : Type 0 where
+  pub starts-room : n + 1 ≤ lengths .resultStarts
+  pub rows-room : min limit (pairTotal n) ≤ lengths .resultRows
+  pub values-room : min limit (pairTotal n) ≤ lengths .resultValues
+  pub scratch-room : scratchWords n ≤ lengths .scratch
+
+pub roomSteps-sound : (n limit : ℕ) (lengths : Room) → Passed (roomSteps n limit lengths) → Roomy n limit lengths
+unfolding roomSteps
+roomSteps-sound n limit lengths p =
+    let r = passed-clear (roomSteps n limit lengths) p in
+    record {
+      starts-room = ltb-false _ _ (r .0);
+      rows-room = ltb-false _ _ (r .1 .0);
+      values-room = ltb-false _ _ (r .1 .1 .0);
+      scratch-room = ltb-false _ _ (r .1 .1 .1 .0);
+    }
+
+-- a factor and requests past their checks, and lists that can be filled
+pub fill-accepted : (x : Selection) (lengths : Room) → x .n ≤ maxDimension → Factor (x .n) (x .starts) (x .rows) (length (x .values))
+    → Ranged (x .n) (x .requests) → Passed (fillSteps (x .n) (x .starts) (x .rows) (x .values) (x .limit) lengths) → Accepted x lengths
+fill-accepted x lengths small F R p =
+    let a = diagonalSteps (x .n) (x .starts) (x .rows) (x .values) in
+    let b = roomSteps (x .n) (x .limit) lengths in
+    let room = roomSteps-sound (x .n) (x .limit) lengths (passed-back a b p) in
+    record {
+      small = small;
+      factor = F;
+      requests = R;
+      diagonals = diagonalSteps-sound (x .n) (x .starts) (x .rows) (x .values) (F .rows-ascend) (passed-front a b p);
+      starts-room = room .starts-room;
+      rows-room = room .rows-room;
+      values-room = room .values-room;
+      scratch-room = room .scratch-room;
+    }
+
+-- the steps pass only for a call that has all this
+module _ (x : Call) (lengths : Room) (p : Passed (selectedSteps x lengths)) where
+  a1 : List Step
+  a1 = boundSteps (x .n) (length (x .rows))
+
+  a2 : List Step
+  a2 = requestBoundStep (length (x .requestRows)) ∷ []
+
+  a3 : List Step
+  a3 = columnSteps (x .n) (x .starts) (x .rows) (length (x .values))
+
+  a4 : List Step
+  a4 = requestSteps (x .n) (x .dimension) (x .requestRows) (x .requestColumns)
+
+  a5 : List Step
+  a5 = fillSteps (x .n) (x .starts) (x .rows) (x .values) (x .limit) lengths
+
+  past1 : Passed (a2 ++ (a3 ++ (a4 ++ a5)))
+  unfolding selectedSteps a1 a2 a3 a4 a5
+  past1 = passed-back a1 (a2 ++ (a3 ++ (a4 ++ a5))) p
+
+  past2 : Passed (a3 ++ (a4 ++ a5))
+  past2 = passed-back a2 (a3 ++ (a4 ++ a5)) past1
+
+  past3 : Passed (a4 ++ a5)
+  past3 = passed-back a3 (a4 ++ a5) past2
+
+  pub accepted-requests : Requests (x .n) (x .requestRows) (x .requestColumns)
+  unfolding a4
+  accepted-requests = requestSteps-sound (x .n) (x .dimension) (x .requestRows) (x .requestColumns) (passed-front a4 a5 past3)
+
+  pub accepted : Accepted (selectionOf x) lengths
+  unfolding selectedSteps a1 a2 a3 a4 a5
+  accepted =
+      let B = boundSteps-sound (x .n) (length (x .rows)) (passed-front a1 (a2 ++ (a3 ++ (a4 ++ a5))) p) in
+      let F = columnSteps-sound (x .n) (x .starts) (x .rows) (length (x .values)) (passed-front a3 (a4 ++ a5) past2) in
+      fill-accepted (selectionOf x) lengths (B .small) F (requested-ranged (x .requestRows) (x .requestColumns) (x .n) accepted-requests) (passed-back a4 a5 past3)
