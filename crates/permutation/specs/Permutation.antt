@@ -45,7 +45,11 @@ roomStep perm room = (7, ltb room (length perm))
 abbrev pub permutationSteps : List ℕ → List Step
 permutationSteps perm = each (indexSteps perm) (length perm)
 
--- those, then 7 for an output of that length
+-- 4, it is not n long; then those
+abbrev pub orderSteps : ℕ → List ℕ → List Step
+orderSteps n perm = (4, not (eqb (length perm) n)) ∷ permutationSteps perm
+
+-- 10 and 11, then 7 for an output of that length
 abbrev pub acceptSteps : List ℕ → ℕ → List Step
 acceptSteps perm room = permutationSteps perm ++ roomStep perm room ∷ []
 

@@ -9,7 +9,7 @@ ghost use Rattle.lists.specs.Overwrite.{overwrite};
 ghost use Rattle.refusal.specs.Bounds.{maxDimension};
 ghost use Rattle.refusal.specs.Steps.{verdict, after, each};
 ghost use Rattle.refusal.specs.Refusal.{replyOf};
-ghost use Rattle.permutation.specs.Permutation.{index, elementSteps, acceptSteps, validateSteps, invertSteps, permuteSteps, inverseOf, reordered, Permutation};
+ghost use Rattle.permutation.specs.Permutation.{index, elementSteps, orderSteps, acceptSteps, validateSteps, invertSteps, permuteSteps, inverseOf, reordered, Permutation};
 use refusal::Checked;
 use refusal::MAX_DIMENSION;
 use refusal::Refusal;
@@ -50,6 +50,17 @@ fn check_elements(orig_to_perm: &[u32], perm_to_orig: &[u32], compared: bool) ->
         i += 1;
     }
     Checked::Accepted
+}
+
+// 4 for a list that is not n long, then 10 and 11 element by element.
+pub fn check_order(n: usize, orig_to_perm: &[u32]) -> Checked
+    requires { ⌜ n ≤ maxDimension ⌝ }
+    ensures { λ r. ⌜ replyOf r ≡ verdict (orderSteps n (now («orig_to_perm» .entry))) ⌝ }
+{
+    if orig_to_perm.len() != n {
+        return Checked::Refused(Refusal::DimensionMismatch);
+    }
+    check_elements(orig_to_perm, orig_to_perm, false)
 }
 
 // 10 and 11 element by element, then 7 for an output of that length.

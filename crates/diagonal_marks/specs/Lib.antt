@@ -1,0 +1,2 @@
+-- Marking all diagonals.
+pub mod Diagonals

@@ -1,0 +1,152 @@
+-- The reply and the lists of a call, refused, uncovered or answered; and the diagonal as the first entry of each column.
+-- Assumes nothing.
+use Prim.Native.Nat.{ℕ, _+_, _≤_, _<_, min}
+use native.Mathlib.Omega.{arith}
+use native.Mathlib.Nat.{le-refl}
+use mathlib.Core.Path.{_≡_, refl, sym, ap, ap₂, subst, _∙_}
+use mathlib.Core.Bool.{Bool, true, false, not, cond}
+use mathlib.Core.List.{List, [], _∷_, _++_}
+use lib.ListN.{length, getD}
+use lib.Ieee.{Float, nan}
+use borrow.Author.Tests.{leb-true}
+use Rattle.lists.specs.Tabulate.{tabulate, tabulate-at, tabulate-length, tabulate-cong}
+use Rattle.lists.specs.Overwrite.{overwrite, overwrite-at, overwrite-length}
+use Rattle.refusal.specs.Steps.{Step, answered, refused, verdict, first, Passed, append-refused, append-passed, first-hit, first-skip, first-end, first-passed}
+use Rattle.refusal.specs.Steps.{after-refused, after-passed}
+use Rattle.refusal.specs.Refusal.{refusalNumber}
+use Rattle.refusal.specs.declared.Refusal.{Refusal}
+use Rattle.refusal.specs.declared.Refusal.the-variants.{NotCovered}
+use Rattle.pairs.specs.Pair.{pairTotal}
+use Rattle.columns.specs.Kept.{nonzero, pattern}
+use Rattle.closed_set.specs.ClosedSet.{member-holds}
+use Rattle.closed_set.specs.Size.{closureSize-most}
+use Rattle.closure.specs.FactorPattern.{factor-pattern}
+use Rattle.entries.specs.Entries.{columnCount, position, entryStarts, entryValues, entryStarts-length, entryValues-length}
+use Rattle.entries.specs.Position.{position-first, position-below, entryValues-at}
+use Rattle.permutation.specs.Permutation.{index, reordered}
+use Rattle.diagnostics.specs.declared.SelectedInverseDiagnostics.{SelectedInverseDiagnostics}
+use Rattle.selection.specs.Selection.{Selection, Lent, roomOf, Accepted, selectedSet, selectedSize, selectedComplete, selectedAnswer, selectedTable}
+use Rattle.selection.specs.Selection.{ResultLists, lists-refused, passed-starts, passed-values}
+use Rattle.selected.specs.declared.Selected.the-variants.{Answered, Refused}
+use Rattle.diagonal_marks.specs.Diagonals.{diagonal-requested, diagonals-ranged}
+use Rattle.original_diagonal.specs.Original.{OriginalCall, originalSelection, originalSteps, coveredSteps, factorDiagonal, OriginalDiagonal, FirstEntries, firstEntries}
+use Rattle.original_diagonal.specs.Original.{AcceptedOriginal}
+
+module _ (x : OriginalCall) (lent : Lent) (output : List Float) where
+  abbrev steps : List Step
+  steps = originalSteps x (roomOf lent) (length output)
+
+  abbrev sel : Selection
+  sel = originalSelection x
+
+  abbrev eight : List Step
+  eight = (8, not (selectedComplete sel)) ∷ []
+
+  -- ---- refused
+  pub original-refused : {why : Refusal} → verdict steps ≡ refused (refusalNumber why)
+      → OriginalDiagonal x lent output (Refused why) (lent .resultStarts) (lent .resultRows) (lent .resultValues) (lent .scratch) output
+  original-refused e = record {
+    replies = sym (append-refused steps eight _ (selectedAnswer sel) e);
+    left = lists-refused steps sel lent e;
+    output-is = sym (after-refused (steps ++ eight) _ _ output (append-refused steps eight _ tt e));
+  }
+
+  module _ (passed : Passed steps) {rs rr : List ℕ} {rv : List Float} {s : List ℕ} (L : ResultLists steps sel lent rs rr rv s) where
+    -- ---- the set is beyond the limit
+    pub original-large : selectedComplete sel ≡ false → OriginalDiagonal x lent output (Refused NotCovered) rs rr rv s output
+    original-large large = record {
+      replies = sym (append-passed steps eight (selectedAnswer sel) passed ∙ first-hit 8 [] (selectedAnswer sel) (ap not large));
+      left = L;
+      output-is = sym (after-refused (steps ++ eight) 8 _ output (append-passed steps eight tt passed ∙ first-hit 8 [] tt (ap not large)));
+    }
+
+    -- ---- within the limit
+    module _ (A : AcceptedOriginal x (roomOf lent) (length output)) (complete : selectedComplete sel ≡ true) where
+      within : selectedSize sel ≤ sel .limit
+      within = leb-true _ _ complete
+
+      size : selectedSize sel ≤ length (lent .resultValues)
+      size =
+          omega (arith, within, closureSize-most (x .n) (pattern (x .starts) (x .rows) (nonzero (x .values))) (sel .requests), A .accepted .values-room)
+
+      starts-are : rs ≡ overwrite (entryStarts (x .n) (selectedSet sel)) (lent .resultStarts)
+      starts-are =
+          passed-starts steps sel lent passed L
+          ∙ ap (λ (b : Bool). cond b (overwrite (entryStarts (x .n) (selectedSet sel)) (lent .resultStarts)) (lent .resultStarts)) complete
+
+      values-are : rv ≡ overwrite (entryValues (x .n) (selectedSet sel) (selectedTable sel)) (lent .resultValues)
+      values-are =
+          passed-values steps sel lent passed L
+          ∙ ap (λ (b : Bool). cond b (overwrite (entryValues (x .n) (selectedSet sel) (selectedTable sel)) (lent .resultValues)) (lent .resultValues)) complete
+
+      module _ (j : ℕ) (l : j < x .n) where
+        start-is : index rs j ≡ columnCount (x .n) (selectedSet sel) j
+        start-is =
+            ap (λ (q : List ℕ). getD q j 0) starts-are
+            ∙ overwrite-at (entryStarts (x .n) (selectedSet sel)) (lent .resultStarts) j 0 (omega (arith, entryStarts-length (x .n) (selectedSet sel)))
+            ∙ tabulate-at (columnCount (x .n) (selectedSet sel)) (x .n + 1) j 0 (omega arith)
+
+        covered : selectedSet sel j j ≡ true
+        covered =
+            member-holds (x .n) (pattern (x .starts) (x .rows) (nonzero (x .values))) (sel .requests)
+            (factor-pattern (nonzero (x .values)) (A .accepted .factor)) (diagonals-ranged (x .n)) j j (diagonal-requested (x .n) j l)
+
+        place : index rs j ≡ position (x .n) (selectedSet sel) j j
+        place = start-is ∙ sym (position-first (x .n) (selectedSet sel) j)
+
+        place-below : index rs j < selectedSize sel
+        place-below =
+            subst (λ (k : ℕ). k < selectedSize sel) (sym place)
+            (position-below (x .n) (selectedSet sel) j j (x .n) (le-refl j) l l covered)
+
+        -- the first entry of a column is its diagonal
+        first-is : getD rv (index rs j) nan ≡ selectedTable sel j j
+        first-is =
+            ap₂ (λ (v : List Float) (k : ℕ). getD v k nan) values-are place
+            ∙ overwrite-at (entryValues (x .n) (selectedSet sel) (selectedTable sel)) (lent .resultValues) (position (x .n) (selectedSet sel) j j) nan
+            (omega (arith, place, place-below, entryValues-length (x .n) (selectedSet sel) (selectedTable sel)))
+            ∙ entryValues-at (x .n) (selectedSet sel) (selectedTable sel) nan j j (le-refl j) l covered
+
+      inside : (i : ℕ) → i < x .n → index (x .perm) i < x .n
+      inside i l = omega (arith, A .order .inside i (omega (arith, A .long)), A .long)
+
+      pub original-input : FirstEntries (x .n) (x .perm) rs rv output
+      original-input = record {
+        long = A .long;
+        room = A .room;
+        columns = λ i l. omega (arith, inside i l, A .accepted .starts-room, starts-long);
+        places = λ i l. omega (arith, place-below (index (x .perm) i) (inside i l), size, values-long);
+      }
+        where
+          starts-long : length rs ≡ length (lent .resultStarts)
+          starts-long =
+              ap length starts-are
+              ∙ overwrite-length (entryStarts (x .n) (selectedSet sel)) (lent .resultStarts)
+              (omega (arith, entryStarts-length (x .n) (selectedSet sel), A .accepted .starts-room))
+
+          values-long : length rv ≡ length (lent .resultValues)
+          values-long =
+              ap length values-are
+              ∙ overwrite-length (entryValues (x .n) (selectedSet sel) (selectedTable sel)) (lent .resultValues)
+              (omega (arith, entryValues-length (x .n) (selectedSet sel) (selectedTable sel), size))
+
+      written : firstEntries (x .n) (x .perm) rs rv ≡ reordered (x .perm) (factorDiagonal x)
+      unfolding reordered
+      written =
+          tabulate-cong (λ i. getD rv (index rs (index (x .perm) i)) nan) (λ i. getD (factorDiagonal x) (index (x .perm) i) nan) (x .n)
+          (λ i l. first-is (index (x .perm) i) (inside i l)
+          ∙ sym (tabulate-at (λ j. selectedTable sel j j) (x .n) (index (x .perm) i) nan (inside i l)))
+          ∙ ap (tabulate (λ i. getD (factorDiagonal x) (index (x .perm) i) nan)) (sym (A .long))
+
+      pub original-done : {d : SelectedInverseDiagnostics} {out : List Float} → d ≡ selectedAnswer sel → out ≡ overwrite (firstEntries (x .n) (x .perm) rs rv) output
+          → OriginalDiagonal x lent output (Answered d) rs rr rv s out
+      original-done {d} {out} e w = record {
+        replies = ap (λ (y : SelectedInverseDiagnostics). answered y) e ∙ sym (first-passed (steps ++ eight) (selectedAnswer sel) all);
+        left = L;
+        output-is =
+            w ∙ ap (λ (l : List Float). overwrite l output) written
+            ∙ sym (after-passed (steps ++ eight) (overwrite (reordered (x .perm) (factorDiagonal x)) output) output all);
+      }
+        where
+          all : Passed (steps ++ eight)
+          all = append-passed steps eight tt passed ∙ first-skip 8 [] tt (ap not complete) (first-end tt)

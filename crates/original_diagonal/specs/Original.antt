@@ -1,0 +1,139 @@
+-- The diagonal of the inverse in original order: what a call is handed, what it refuses in document 01's order, what it answers and leaves.
+-- Assumes nothing.
+use Prim.Native.Nat.{ℕ, _≤_, _<_}
+use mathlib.Core.Path.{_≡_}
+use mathlib.Core.Bool.{Bool, not}
+use mathlib.Core.List.{List, [], _∷_, _++_}
+use lib.Dec.{ltb, eqb}
+use lib.ListN.{length, getD}
+use lib.Ieee.{Float, nan}
+use borrow.Author.Tests.{ltb-false, eqb-true, not-false}
+use Rattle.lists.specs.Tabulate.{tabulate}
+use Rattle.lists.specs.Overwrite.{overwrite}
+use Rattle.refusal.specs.Bounds.{maxEntries}
+use Rattle.refusal.specs.Steps.{Step, Reply, first, after, Passed, passed-clear, passed-front, passed-back}
+use Rattle.columns.specs.Columns.{factorSteps}
+use Rattle.columns.specs.Factor.{Factor, factorSteps-bounded, factorSteps-sound}
+use Rattle.permutation.specs.Permutation.{index, orderSteps, permutationSteps, reordered, Permutation}
+use Rattle.permutation.specs.Laws.{passed-distinct, distinct-permutation}
+use Rattle.diagnostics.specs.declared.SelectedInverseDiagnostics.{SelectedInverseDiagnostics}
+use Rattle.selection.specs.Selection.{Selection, Lent, Room, roomOf, defaultLimit, fillSteps, selectedComplete, selectedAnswer, selectedTable, Accepted}
+use Rattle.selection.specs.Selection.{ResultLists}
+use Rattle.selection.specs.Call.{fill-accepted}
+use Rattle.selected.specs.declared.Selected.{Selected}
+use Rattle.selected.specs.Selected.{selectedReplyOf}
+use Rattle.diagonal_marks.specs.Diagonals.{diagonalPairs, diagonals-ranged}
+
+-- what a call is handed to read: a factor and a permutation, orig_to_perm
+pub record OriginalCall : Type 0 where
+  pub n : ℕ
+  pub starts : List ℕ
+  pub rows : List ℕ
+  pub values : List Float
+  pub perm : List ℕ
+
+-- a call, from a function's parameters in their order
+abbrev pub originalCall : ℕ → List ℕ → List ℕ → List Float → List ℕ → OriginalCall
+originalCall n starts rows values perm = record { n = n; starts = starts; rows = rows; values = values; perm = perm }
+
+module _ (x : OriginalCall) where
+  -- the requests are all diagonals, the limit is the default one
+  abbrev pub originalSelection : Selection
+  originalSelection = record {
+    n = x .n;
+    starts = x .starts;
+    rows = x .rows;
+    values = x .values;
+    requests = diagonalPairs (x .n);
+    limit = defaultLimit (x .rows);
+  }
+
+  -- refusals 1, 2, 3, then 4, 10, 11, then 6, 7, with an output of that length
+  unfoldable pub originalSteps : Room → ℕ → List Step
+  originalSteps lengths output =
+      factorSteps (x .n) (x .starts) (x .rows) (length (x .values))
+      ++ (orderSteps (x .n) (x .perm)
+      ++ (fillSteps (x .n) (x .starts) (x .rows) (x .values) (defaultLimit (x .rows)) lengths
+      ++ ((7, ltb output (x .n)) ∷ [])))
+
+  -- then 8: the default limit is passed
+  abbrev pub coveredSteps : Room → ℕ → List Step
+  coveredSteps lengths output = originalSteps lengths output ++ ((8, not (selectedComplete originalSelection)) ∷ [])
+
+  -- the reply
+  abbrev pub originalReply : Lent → ℕ → Reply SelectedInverseDiagnostics
+  originalReply lent output = first (coveredSteps (roomOf lent) output) (selectedAnswer originalSelection)
+
+  -- the diagonal, in factor order
+  abbrev pub factorDiagonal : List Float
+  factorDiagonal = tabulate (λ j. selectedTable originalSelection j j) (x .n)
+
+  -- the output afterwards: output i is the diagonal at orig_to_perm i
+  abbrev pub originalAfter : Lent → List Float → List Float
+  originalAfter lent output =
+      after (coveredSteps (roomOf lent) (length output)) (overwrite (reordered (x .perm) factorDiagonal) output) output
+
+-- the reply and the lists of a call
+pub record OriginalDiagonal (x : OriginalCall) (lent : Lent) (output : List Float) (reply : Selected) (starts rows : List ℕ) (values : List Float)
+    (scratch : List ℕ) (out : List Float) : Type 0 where
+  pub replies : selectedReplyOf reply ≡ originalReply x lent (length output)
+  pub left : ResultLists (originalSteps x (roomOf lent) (length output)) (originalSelection x) lent starts rows values scratch
+  pub output-is : out ≡ originalAfter x lent output
+
+-- ---- the first entry of each column, in original order
+
+-- what is read: a list of starts and one of values at those places
+pub record FirstEntries (n : ℕ) (perm starts : List ℕ) (values output : List Float) : Type 0 where
+  pub long : length perm ≡ n
+  pub room : n ≤ length output
+  pub columns : (i : ℕ) → i < n → index perm i < length starts
+  pub places : (i : ℕ) → i < n → index starts (index perm i) < length values
+
+abbrev pub firstEntries : ℕ → List ℕ → List ℕ → List Float → List Float
+firstEntries n perm starts values = tabulate (λ i. getD values (index starts (index perm i)) nan) n
+
+-- ---- a call that passed
+
+-- what it has
+pub record AcceptedOriginal (x : OriginalCall) (lengths : Room) (output : ℕ) : Type 0 where
+  pub accepted : Accepted (originalSelection x) lengths
+  pub few : length (x .rows) ≤ maxEntries
+  pub order : Permutation (x .perm)
+  pub long : length (x .perm) ≡ x .n
+  pub room : x .n ≤ output
+
+module _ (x : OriginalCall) (lengths : Room) (output : ℕ) (p : Passed (originalSteps x lengths output)) where
+  a1 : List Step
+  a1 = factorSteps (x .n) (x .starts) (x .rows) (length (x .values))
+
+  a2 : List Step
+  a2 = orderSteps (x .n) (x .perm)
+
+  a3 : List Step
+  a3 = fillSteps (x .n) (x .starts) (x .rows) (x .values) (defaultLimit (x .rows)) lengths
+
+  a4 : List Step
+  a4 = (7, ltb output (x .n)) ∷ []
+
+  past1 : Passed (a2 ++ (a3 ++ a4))
+  unfolding originalSteps a1 a2 a3 a4
+  past1 = passed-back a1 (a2 ++ (a3 ++ a4)) p
+
+  past2 : Passed (a3 ++ a4)
+  past2 = passed-back a2 (a3 ++ a4) past1
+
+  pub original-accepted : AcceptedOriginal x lengths output
+  unfolding originalSteps a1 a2 a3 a4
+  original-accepted =
+      let front = passed-front a1 (a2 ++ (a3 ++ a4)) p in
+      let four : List Step = (4, not (eqb (length (x .perm)) (x .n))) ∷ [] in
+      let o = passed-front a2 (a3 ++ a4) past1 in
+      record {
+        accepted =
+            fill-accepted (originalSelection x) lengths (factorSteps-bounded _ _ _ _ front .small) (factorSteps-sound _ _ _ _ front) (diagonals-ranged (x .n))
+            (passed-front a3 a4 past2);
+        few = factorSteps-bounded _ _ _ _ front .few;
+        order = distinct-permutation (x .perm) (passed-distinct (x .perm) (passed-back four (permutationSteps (x .perm)) o));
+        long = eqb-true _ _ (not-false _ (passed-clear four (passed-front four (permutationSteps (x .perm)) o) .0));
+        room = ltb-false _ _ (passed-clear a4 (passed-back a3 a4 past2) .0);
+      }
