@@ -1,0 +1,3 @@
+-- A floor under variances.
+pub mod Floor
+pub mod Laws
