@@ -35,6 +35,18 @@ pub fn put_count(label: &[u8], count: usize) {
     io::print_decimal(1, count as u64);
 }
 
+// Writes the answer; whether it is as expected.
+fn answered(s: Stabilized, floor: f64, hits: usize) -> bool {
+    let a = answer(s);
+    let found = a.floor;
+    put_values(b"; floor", &[found]);
+    put_count(b"; hits ", a.floor_hits);
+    if a.floor_hits != hits {
+        return false;
+    }
+    same_values(&[found], &[floor])
+}
+
 // Calls it with an output, and compares reply, floor, hits and what the output then holds.
 fn case(
     t: Tally,
@@ -48,20 +60,11 @@ fn case(
 ) -> Tally {
     let s = stabilize_variances(values, how, output);
     let reply = number(s);
-    let a = answer(s);
-    let found = a.floor;
-    let found_hits = a.floor_hits;
     put_reply(name, Reply::Number(reply));
-    put_values(b"; floor", &[found]);
-    put_count(b"; hits ", found_hits);
+    let same = answered(s, floor, hits);
     put_values(b"; output", output);
-    finish(
-        t,
-        reply == 0
-            && found_hits == hits
-            && same_values(&[found], &[floor])
-            && same_values(output, left),
-    )
+    let rest = same_values(output, left);
+    finish(t, (reply == 0) & same & rest)
 }
 
 pub fn mean(scale: f64) -> VarianceFloor {
