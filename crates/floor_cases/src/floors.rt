@@ -1,4 +1,7 @@
 // Cases of `stabilize_variances` that are answered.
+ghost use mathlib.Core.Path.{_≡_};
+ghost use Rattle.floor.specs.Floor.{stabilizedReply};
+ghost use Rattle.replies.specs.Number.{replyNumber};
 use floor::Stabilized;
 use floor::StabilizedVariance;
 use floor::VarianceFloor;
@@ -12,7 +15,9 @@ use reporting::report::put_reply;
 use reporting::report::put_values;
 
 // The reply's number, 0 where it is answered.
-pub fn number(s: Stabilized) -> u32 {
+pub fn number(s: Stabilized) -> u32
+    ensures { λ k. ⌜ k ≡ replyNumber (stabilizedReply s) ⌝ }
+{
     match s {
         Stabilized::Answered(_) => 0,
         Stabilized::Refused(why) => refusal_number(why),
