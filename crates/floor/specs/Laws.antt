@@ -3,9 +3,9 @@
 use Prim.Native.Nat.{ℕ, zero, suc, _+_, _<_, _≤_}
 use native.Mathlib.Omega.{arith}
 use native.Mathlib.Numerals.{add-one}
-use mathlib.Core.Path.{_≡_, refl, sym, ap, subst, _∙_}
+use mathlib.Core.Path.{_≡_, refl, ap, _∙_}
 use mathlib.Core.Bool.{Bool, true, false, not, cond}
-use mathlib.Core.List.{List, [], _∷_}
+use mathlib.Core.List.{List}
 use mathlib.Core.Logic.{_⊎_, inl, inr}
 use borrow.Author.Tests.{ltb-false, le-ltb, not-true, not-false}
 use lib.ListN.{length, getD}
@@ -14,7 +14,7 @@ use lib.Ieee.Scale.{finite}
 use Rattle.lists.specs.Sum.{bit}
 use Rattle.lists.specs.Select.{tally, tally-none, tally-next, select, select-at, select-holds}
 use Rattle.lists.specs.Tabulate.{tabulate-length, tabulate-at}
-use Rattle.lists.specs.Test.{any, any-below, any-all}
+use Rattle.lists.specs.Test.{any-below, any-all}
 use Rattle.refusal.specs.Bounds.{maxEntries}
 use Rattle.refusal.specs.Steps.{Passed, passed-clear, clear-passed}
 use Rattle.columns.specs.Columns.{value}
