@@ -5,18 +5,21 @@ use mathlib.Core.Path.{_≡_, refl}
 use mathlib.Core.List.{List, [], _∷_}
 use mathlib.Core.Bool.{Bool, true, false, not, _&&_}
 use lib.Dec.{eqb}
-use lib.Ieee.{div, ofInt, ofBits, ne}
+use lib.Ieee.{Float, div, ofInt, ofBits, eq, ne}
 use Rattle.lists.specs.Test.{any}
 use Rattle.lists.specs.Tabulate.{tabulate}
 use Rattle.lists.specs.Overwrite.{overwrite}
 use Rattle.lists.specs.Place.{placeFrom}
-use Rattle.refusal.specs.Steps.{refused, answered, first, verdict, after, each}
+use Rattle.refusal.specs.Steps.{Reply, refused, answered, first, verdict, after, each}
 use Rattle.permutation.specs.Permutation.{validateSteps, invertSteps, inverseOf}
 use Rattle.lists.specs.Sum.{sumTo}
 use Rattle.lists.specs.Select.{picked, select}
 use Rattle.lists.specs.Cells.{cellCount}
 use Rattle.columns.specs.Kept.{f0, factorPairs}
-use Rattle.columns.specs.Examples.{F2-starts, F2-rows, F2-values, F3-starts, F3-rows, F3-values}
+use Rattle.floor.specs.declared.StabilizedVariance.{StabilizedVariance}
+use Rattle.floor.specs.Floor.{floorSteps, floorOf, floored, stabilizedOf}
+use Rattle.floor.specs.Examples.{half, variances, worked-reply, worked-output}
+use Rattle.columns.specs.Examples.{whole, F2-starts, F2-rows, F2-values, F3-starts, F3-rows, F3-values}
 use Rattle.closed_set.specs.ClosedSet.{reach, member}
 use Rattle.closed_set.specs.Requests.{requested}
 use Rattle.diagnostics.specs.declared.SelectedInverseStatus.the-variants.{Complete, ClosureTooLarge}
@@ -48,6 +51,20 @@ repeated-refused = refl
 pub repeated-untouched : after (invertSteps (0 ∷ 0 ∷ 9 ∷ []) 3) (overwrite (inverseOf (0 ∷ 0 ∷ 9 ∷ [])) (7 ∷ 7 ∷ 7 ∷ [])) (7 ∷ 7 ∷ 7 ∷ []) ≡ 7 ∷ 7 ∷ 7 ∷ []
 unfolding after first each any overwrite inverseOf tabulate placeFrom
 repeated-untouched = refl
+
+-- ---- Values 4, -2, 0, scale 0.5: floor 2, output 4 2 2, 2 hits
+
+pub floor-answered : first (floorSteps half variances 3) (stabilizedOf half variances) ≡ answered (record { floor = whole 2; «floor_hits» = 2 })
+floor-answered = worked-reply
+
+pub floor-written : (a b c : Float) → after (floorSteps half variances 3) (overwrite (floored (floorOf half variances) variances) (a ∷ b ∷ c ∷ [])) (a ∷ b ∷ c ∷ [])
+    ≡ whole 4 ∷ whole 2 ∷ whole 2 ∷ []
+floor-written = worked-output
+
+-- an answer has this floor and these hits
+abbrev pub stabilizedAs : Reply StabilizedVariance → Float → ℕ → Bool
+stabilizedAs (answered v) floor hits = eqb (v .«floor_hits») hits && eq (v .floor) floor
+stabilizedAs (refused k) floor hits = false
 
 -- ---- the closed set and the counts: requested pairs, closure pairs, factor pairs, limit, status
 

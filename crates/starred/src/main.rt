@@ -1,9 +1,13 @@
 // Document 01's starred cases, called and compared; that each comparison holds is proved from the contracts and specs/Table.antt.
 ghost use mathlib.Core.Path.{_≡_};
 ghost use Rattle.closed_set.specs.Requests.{Requests};
-ghost use Rattle.starred.specs.Table.{F2, F3, countedOf};
+ghost use Rattle.starred.specs.Table.{F2, F3, countedOf, stabilizedAs};
+ghost use Rattle.floor.specs.Floor.{stabilizedReply};
 use check::expect;
 use diagnostics::SelectedInverseDiagnostics;
+use floor::Stabilized;
+use floor::VarianceFloor;
+use floor::stabilize_variances;
 use replies::checked_number;
 
 // Permutation 2 0 1 has inverse 1 2 0.
@@ -25,6 +29,32 @@ fn repeated() {
     expect(list[0] == 7);
     expect(list[1] == 7);
     expect(list[2] == 7);
+}
+
+// Whether a call is answered with this floor and these hits.
+fn stabilized(s: Stabilized, floor: f64, hits: usize) -> bool
+    ensures { λ r. ⌜ r ≡ stabilizedAs (stabilizedReply s) floor hits ⌝ }
+{
+    match s {
+        Stabilized::Answered(v) => {
+            if v.floor_hits != hits {
+                return false;
+            }
+            v.floor == floor
+        }
+        Stabilized::Refused(_) => false,
+    }
+}
+
+// Values 4, -2, 0 with scale 0.5: floor 2, output 4 2 2, 2 hits.
+fn floored() {
+    let mut list = [7.0; 3];
+    let half = VarianceFloor::PositiveMean { scale: 0.5 };
+    let s = stabilize_variances(&[4.0, -2.0, 0.0], half, &mut list);
+    expect(stabilized(s, 2.0, 2));
+    expect(list[0] == 4.0);
+    expect(list[1] == 2.0);
+    expect(list[2] == 2.0);
 }
 
 // The diagnosis of F2.
@@ -128,4 +158,5 @@ fn main() {
     closed_sets_of_f2();
     closed_sets_of_f3();
     limits();
+    floored();
 }

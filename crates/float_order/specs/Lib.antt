@@ -1,0 +1,2 @@
+-- The order of floats.
+pub mod Order

@@ -1,0 +1,4 @@
+-- A floor under variances.
+pub mod Floor
+pub mod Laws
+pub mod Examples

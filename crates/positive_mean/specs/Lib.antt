@@ -1,0 +1,3 @@
+-- The mean of the positive values.
+pub mod PositiveMean
+pub mod Laws
