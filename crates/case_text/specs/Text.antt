@@ -8,8 +8,8 @@ use mathlib.Core.Bool.{Bool, true, false, cond, not, _&&_}
 use mathlib.Core.List.{List}
 use lib.Dec.{ltb, leb, eqb}
 use lib.ListN.{length, getD}
-use borrow.Author.Tests.{le-leb, lt-leb}
-use Rattle.lists.specs.Test.{any, any-hit}
+use borrow.Author.Tests.{le-leb, lt-leb, leb-true}
+use Rattle.lists.specs.Test.{any, any-hit, and-left}
 
 -- the first place from p on where the test fails, of k places at most
 unfoldable pub pastRun : (ℕ → Bool) → ℕ → ℕ → ℕ
@@ -50,14 +50,14 @@ numberFrom base text x p (suc k) =
 abbrev pub numberAt : ℕ → List ℕ → ℕ → ℕ
 numberAt base text p = numberFrom base text 0 p (length text - p)
 
--- the first place from p on with no digit of the base
-abbrev pub pastNumber : ℕ → List ℕ → ℕ → ℕ
-pastNumber base text p = pastRun (digitAt base text) p (length text - p)
-
 -- the bytes of the label stand from p on
 unfoldable pub begins : List ℕ → ℕ → List ℕ → Bool
 begins text p label =
     leb (p + length label) (length text) && not (any (λ i. not (eqb (getD text (p + i) 0) (getD label i 0))) (length label))
+
+-- the place after the label that stands first from p on; the text's end where another does
+unfoldable pub pastLabel : List ℕ → ℕ → List ℕ → ℕ
+pastLabel text p label = cond (begins text (pastBlanks text p) label) (pastBlanks text p + length label) (length text)
 
 -- ---- laws: a place more, and the end
 module _ (test : ℕ → Bool) where
@@ -112,3 +112,17 @@ pub begins-same : (text : List ℕ) (p : ℕ) (label : List ℕ) → p + length 
     any (differs text p label) (length label) ≡ false → true ≡ begins text p label
 unfolding begins
 begins-same text p label h d = rw (le-leb (p + length label) (length text) h, d)
+
+pub begins-within : (text : List ℕ) (p : ℕ) (label : List ℕ) → begins text p label ≡ true → p + length label ≤ length text
+unfolding begins
+begins-within text p label e = leb-true (p + length label) (length text) (and-left _ _ e)
+
+pub pastLabel-there : (text : List ℕ) (p : ℕ) (label : List ℕ) (at : ℕ) → at ≡ pastBlanks text p → begins text at label ≡ true →
+    at + length label ≡ pastLabel text p label
+unfolding pastLabel
+pastLabel-there text p label at a e = rw (← a) (rw e)
+
+pub pastLabel-absent : (text : List ℕ) (p : ℕ) (label : List ℕ) (at : ℕ) → at ≡ pastBlanks text p → begins text at label ≡ false →
+    length text ≡ pastLabel text p label
+unfolding pastLabel
+pastLabel-absent text p label at a e = rw (← a) (rw e)

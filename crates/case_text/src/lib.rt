@@ -1,20 +1,8 @@
-// Reading the text of cases: a text and a place in it go in, what stands there and the place after it come out.
+// Reading the text of cases: what stands at a place, and the place after it.
 ghost use mathlib.Core.Path.{_≡_};
 ghost use Prim.Native.Nat.{_≤_, _<_};
 ghost use lib.Ieee.{binary64, ofBits};
-ghost use Rattle.case_text.specs.Text.{pastBlanks, pastWord, digitOf, digitMore, numberAt, pastNumber, begins as Text·begins};
-
-// A number, and the place after it.
-pub struct Number {
-    pub value: u64,
-    pub next: usize,
-}
-
-// A value, and the place after it.
-pub struct Value {
-    pub value: f64,
-    pub next: usize,
-}
+ghost use Rattle.case_text.specs.Text.{pastBlanks, pastWord, digitOf, digitMore, numberAt, pastLabel, begins as Text·begins};
 
 fn wide(b: u8) -> u64
     ensures { λ r. ⌜ r ≡ b ⌝ }
@@ -81,26 +69,26 @@ fn digit_more(base: u64, x: u64, d: u64) -> u64
 }
 
 // The number in the base whose digits start at p.
-fn number_in_base(text: &[u8], p: usize, base: u64) -> Number
+fn number_in_base(text: &[u8], p: usize, base: u64) -> u64
     requires { ⌜ base ≤ 16 ⌝ }
-    ensures { λ r. ⌜ (r .value ≡ numberAt base (now (text .entry)) p) × (r .next ≡ pastNumber base (now (text .entry)) p) ⌝ }
+    ensures { λ r. ⌜ r ≡ numberAt base (now (text .entry)) p ⌝ }
 {
     let mut value = 0;
     let mut i = p;
     while i < text.len() {
         let d = digit(text[i]);
         if d >= base {
-            return Number { value, next: i };
+            return value;
         }
         value = digit_more(base, value, d);
         i += 1;
     }
-    Number { value, next: i }
+    value
 }
 
 // The decimal number at p.
-pub fn decimal(text: &[u8], p: usize) -> Number
-    ensures { λ r. ⌜ (r .value ≡ numberAt 10 (now (text .entry)) p) × (r .next ≡ pastNumber 10 (now (text .entry)) p) ⌝ }
+pub fn decimal(text: &[u8], p: usize) -> u64
+    ensures { λ r. ⌜ r ≡ numberAt 10 (now (text .entry)) p ⌝ }
 {
     number_in_base(text, p, 10)
 }
@@ -116,14 +104,10 @@ fn of_bits(bits: u64) -> f64
 }
 
 // The value whose bits are the hexadecimal number at p.
-pub fn float_value(text: &[u8], p: usize) -> Value
-    ensures { λ r. ⌜ (r .value ≡ ofBits binary64 (numberAt 16 (now (text .entry)) p)) × (r .next ≡ pastNumber 16 (now (text .entry)) p) ⌝ }
+pub fn float_value(text: &[u8], p: usize) -> f64
+    ensures { λ r. ⌜ r ≡ ofBits binary64 (numberAt 16 (now (text .entry)) p) ⌝ }
 {
-    let bits = number_in_base(text, p, 16);
-    Value {
-        value: of_bits(bits.value),
-        next: bits.next,
-    }
+    of_bits(number_in_base(text, p, 16))
 }
 
 // Whether the bytes of the label stand from p on.
@@ -144,4 +128,15 @@ pub fn begins(text: &[u8], p: usize, label: &[u8]) -> bool
         i += 1;
     }
     true
+}
+
+// The place after the label, where it stands first from p on; else the text's end.
+pub fn past_label(text: &[u8], p: usize, label: &[u8]) -> usize
+    ensures { λ r. ⌜ r ≡ pastLabel (now (text .entry)) p (now (label .entry)) ⌝ }
+{
+    let at = skip_blanks(text, p);
+    if begins(text, at, label) {
+        return at + label.len();
+    }
+    text.len()
 }

@@ -11,17 +11,17 @@ use Rattle.case_text.proofs.float_value.Lts as lts
 use Rattle.case_text.proofs.number_in_base.Reads as number-in-base-reads
 use Rattle.case_text.proofs.of_bits.Reads as of-bits-reads
 
--- src/lib.rt:122:9
+-- src/lib.rt:110:13
 number-in-base-requires : tie.Need-number-in-base-requires
 number-in-base-requires c κs = search needs
 
--- src/lib.rt:124:16
+-- src/lib.rt:110:5
 of-bits-requires : tie.Need-of-bits-requires
 of-bits-requires c κs = search needs
 
--- src/lib.rt:119:1
+-- src/lib.rt:107:1
 returns : tie.Need-returns
-returns c = let n = c .before .number-in-base in (c .of-bits .ensures ∙ ap (ofBits binary64) (n .ensures .0), n .ensures .1)
+returns c = c .of-bits .ensures ∙ ap (ofBits binary64) (c .before .number-in-base .ensures)
 
 pub float-value-spec : {M : Type 1} → statement M
 float-value-spec = tie.close (tie.spec number-in-base-requires of-bits-requires returns)

@@ -2,7 +2,7 @@ use denote.Ref.{now}
 use borrow.Author.Tests.{lt-ltb, le-ltb}
 use lib.Dec.{ltb}
 use mathlib.Core.Bool.{true, false}
-use Rattle.case_text.specs.Text.{digitMore, digitOf, digitAt, numberFrom, numberAt, pastNumber, pastRun-end, pastRun-stop, pastRun-more, numberFrom-end, numberFrom-stop, numberFrom-more}
+use Rattle.case_text.specs.Text.{digitMore, digitOf, digitAt, numberFrom, numberAt, numberFrom-end, numberFrom-stop, numberFrom-more}
 use borrow.Author.Needs.{needs}
 use native.Mathlib.Omega.{arith}
 use Prim.Native.Nat.{ℕ, _≤_, _<_, _-_, _+_}
@@ -16,14 +16,14 @@ use Rattle.case_text.proofs.digit.Reads as digit-reads
 use Rattle.case_text.proofs.digit_more.Reads as digit-more-reads
 
 abbrev Inv-loop : tie.InvT-loop
-Inv-loop text p base value₀ i₀ value i = (numberAt base text p ≡ numberFrom base text value i (length text - i)) × (pastNumber base text p ≡ pastNumber base text i)
+Inv-loop text p base value₀ i₀ value i = numberAt base text p ≡ numberFrom base text value i (length text - i)
 
 abbrev μ-loop : tie.MeasureT-loop
 μ-loop text p base value₀ i₀ value i = length text - i
 
 -- src/lib.rt:91:5
 loop-holds : tie.Need-loop-holds Inv-loop μ-loop
-loop-holds c = (refl, refl)
+loop-holds c = refl
 
 -- src/lib.rt:92:23
 shared-slice-read-digit : tie.Need-shared-slice-read-digit Inv-loop μ-loop
@@ -39,7 +39,7 @@ returns c =
     let at = c .before .before .before .before .loop in
     let a = c .before .before .before .before .before .before .args in
     let h : digitAt (a .base) (now (a .text)) (at .i) ≡ false = ap (λ (d : ℕ). ltb d (a .base)) (sym (c .before .digit .ensures)) ∙ le-ltb _ _ (c .if1 .taken) in
-    (sym (at .inv .0 ∙ numberFrom-stop _ _ _ _ _ h), sym (at .inv .1 ∙ pastRun-stop _ _ _ h))
+    sym (at .inv ∙ numberFrom-stop _ _ _ _ _ h)
 
 -- src/lib.rt:96:9
 digit-more-requires : tie.Need-digit-more-requires Inv-loop μ-loop
@@ -61,16 +61,14 @@ loop-again c =
     let d = c .before .before .digit .ensures in
     let h : digitAt (a .base) (now (a .text)) (at .i) ≡ true = ap (λ (d : ℕ). ltb d (a .base)) (sym d) ∙ lt-ltb _ _ (c .before .if1 .left) in
     let l : at .i < length (now (a .text)) = search needs in
-    let m = ap (digitMore (a .base) (at .value)) (sym d) ∙ sym (c .digit-more .ensures) in (
-      at .inv .0 ∙ numberFrom-more _ _ _ _ _ l h ∙ ap (λ (x : ℕ). numberFrom (a .base) (now (a .text)) x (at .i + 1) (length (now (a .text)) - (at .i + 1))) m,
-      at .inv .1 ∙ pastRun-more _ _ _ l h,
-    )
+    let m = ap (digitMore (a .base) (at .value)) (sym d) ∙ sym (c .digit-more .ensures) in
+    at .inv ∙ numberFrom-more _ _ _ _ _ l h ∙ ap (λ (x : ℕ). numberFrom (a .base) (now (a .text)) x (at .i + 1) (length (now (a .text)) - (at .i + 1))) m
 
 -- src/lib.rt:85:1
 returns-2 : tie.Need-returns-2 Inv-loop μ-loop
 returns-2 c =
     let at = c .before .loop in
-    (sym (at .inv .0 ∙ numberFrom-end _ _ _ _ _ (search needs)), sym (at .inv .1 ∙ pastRun-end _ _ _ (search needs)))
+    sym (at .inv ∙ numberFrom-end _ _ _ _ _ (search needs))
 
 pub number-in-base-spec : {M : Type 1} → statement M
 number-in-base-spec =
