@@ -1,21 +1,15 @@
+use Prim.Native.Nat.{ℕ, _≤_, _<_, _-_}
 use Rattle.case_lists.specs.Items.{pastItems, pastItems-none, pastItems-more, valueAt, filled-step}
 use Rattle.case_text.specs.Text.{pastBlanks, pastWord, numberAt}
 use Rattle.lists.specs.Overwrite.{filled, filled-none}
-use lib.Ieee.{Float, binary64, ofBits}
-use lib.ListN.{length-set}
-use denote.Ref.{now}
 use borrow.Author.Needs.{needs}
+use denote.Ref.{now}
+use lib.Ieee.{binary64, ofBits}
+use lib.ListN.{length-set, length}
+use mathlib.Core.Path.{_≡_, refl, ap, _∙_}
 use native.Mathlib.Omega.{arith}
-use Prim.Native.Nat.{ℕ, _≤_, _<_, _-_, _+_}
-use mathlib.Core.Path.{_≡_, refl, ap, sym, _∙_}
-use lib.ListN.{length, getD}
 use Rattle.case_lists.proofs.put_values.Statement.{statement}
 use Rattle.case_lists.proofs.put_values.Tie as tie
-use Rattle.case_lists.proofs.put_values.Reads as reads
-use Rattle.case_lists.proofs.put_values.Lts as lts
-use Rattle.case_text.proofs.float_value.Reads as float-value-reads
-use Rattle.case_text.proofs.skip_blanks.Reads as skip-blanks-reads
-use Rattle.case_text.proofs.skip_word.Reads as skip-word-reads
 
 abbrev Inv-loop : tie.InvT-loop
 Inv-loop text p count list₀ q₀ i₀ list q i = (i ≤ count) × (length list ≡ length list₀) × (q ≡ pastItems text p i) × (list ≡ filled (valueAt text p) i list₀)
@@ -23,39 +17,30 @@ Inv-loop text p count list₀ q₀ i₀ list q i = (i ≤ count) × (length list
 abbrev μ-loop : tie.MeasureT-loop
 μ-loop text p count list₀ q₀ i₀ list q i = count - i
 
--- src/lib.rt:71:5
 loop-holds : tie.Need-loop-holds Inv-loop μ-loop
 loop-holds c = (search needs, refl, pastItems-none _ _, filled-none _ _)
 
--- src/lib.rt:72:9
 skip-blanks-requires : tie.Need-skip-blanks-requires Inv-loop μ-loop
 skip-blanks-requires c κs = search needs
 
--- src/lib.rt:73:19
 float-value-requires : tie.Need-float-value-requires Inv-loop μ-loop
 float-value-requires c κs = search needs
 
--- src/lib.rt:73:9
 mul-list : tie.Need-mul-list Inv-loop μ-loop
 mul-list c = search needs
 
--- src/lib.rt:73:9
 slice-write-list : tie.Need-slice-write-list Inv-loop μ-loop
 slice-write-list c = search needs
 
--- src/lib.rt:74:9
 skip-word-requires : tie.Need-skip-word-requires Inv-loop μ-loop
 skip-word-requires c κs = search needs
 
--- src/lib.rt:75:9
 add-i : tie.Need-add-i Inv-loop μ-loop
 add-i c = search needs
 
--- src/lib.rt:71:5
 loop-less : tie.Need-loop-less Inv-loop μ-loop
 loop-less c = search needs
 
--- src/lib.rt:71:5
 loop-again : tie.Need-loop-again Inv-loop μ-loop
 loop-again c =
     let a = c .before .before .before .before .before .before .before .args in
@@ -70,11 +55,9 @@ loop-again c =
       filled-step _ _ _ _ _ room x (at .inv .3),
     )
 
--- src/lib.rt:64:1
 same-length : tie.Need-same-length Inv-loop μ-loop
 same-length c = search needs
 
--- src/lib.rt:64:1
 returns : tie.Need-returns Inv-loop μ-loop
 returns c =
     let a = c .before .before .before .before .args in

@@ -1,54 +1,33 @@
 use Rattle.case_lists.specs.Items.{listing, valueAt}
-use denote.Ref.{now}
 use borrow.Author.Needs.{needs}
-use native.Mathlib.Omega.{arith}
-use Prim.Native.Nat.{ℕ, _≤_, _<_, _-_, _+_}
-use mathlib.Core.Path.{_≡_, refl, ap, sym, _∙_}
-use lib.ListN.{length, getD}
+use denote.Ref.{now}
 use Rattle.case_lists.proofs.read_values.Statement.{statement}
 use Rattle.case_lists.proofs.read_values.Tie as tie
-use Rattle.case_lists.proofs.read_values.Reads as reads
-use Rattle.case_lists.proofs.read_values.Lts as lts
-use Rattle.case_lists.proofs.least.Reads as least-reads
-use Rattle.case_lists.proofs.put_values.Reads as put-values-reads
-use Rattle.case_lists.proofs.skip_items.Reads as skip-items-reads
-use Rattle.case_text.proofs.decimal.Reads as decimal-reads
-use Rattle.case_text.proofs.skip_blanks.Reads as skip-blanks-reads
-use Rattle.case_text.proofs.skip_word.Reads as skip-word-reads
 
--- src/lib.rt:99:9
 skip-blanks-requires : tie.Need-skip-blanks-requires
 skip-blanks-requires c κs = search needs
 
--- src/lib.rt:100:17
 decimal-requires : tie.Need-decimal-requires
 decimal-requires c κs = search needs
 
--- src/lib.rt:101:9
 skip-word-requires : tie.Need-skip-word-requires
 skip-word-requires c κs = search needs
 
--- src/lib.rt:102:9
 least-requires : tie.Need-least-requires
 least-requires c κs = search needs
 
--- src/lib.rt:103:9
 put-values-requires : tie.Need-put-values-requires
 put-values-requires c κs = search needs
 
--- src/lib.rt:106:38
 sub-skip-items : tie.Need-sub-skip-items
 sub-skip-items c = search needs
 
--- src/lib.rt:106:15
 skip-items-requires : tie.Need-skip-items-requires
 skip-items-requires c κs = search needs
 
--- src/lib.rt:96:1
 same-length : tie.Need-same-length
 same-length c = search needs
 
--- src/lib.rt:96:1
 returns : tie.Need-returns
 returns c =
     let put = c .before .before .before .put-values in

@@ -1,17 +1,12 @@
+use Prim.Native.Nat.{_≤_, _-_}
 use Rattle.case_lists.specs.Items.{pastItems, pastItems-none, pastItems-more}
 use Rattle.case_text.specs.Text.{pastBlanks, pastWord}
-use denote.Ref.{now}
 use borrow.Author.Needs.{needs}
+use denote.Ref.{now}
+use mathlib.Core.Path.{_≡_, ap, _∙_}
 use native.Mathlib.Omega.{arith}
-use Prim.Native.Nat.{ℕ, _≤_, _<_, _-_, _+_}
-use mathlib.Core.Path.{_≡_, refl, ap, sym, _∙_}
-use lib.ListN.{length, getD}
 use Rattle.case_lists.proofs.skip_items.Statement.{statement}
 use Rattle.case_lists.proofs.skip_items.Tie as tie
-use Rattle.case_lists.proofs.skip_items.Reads as reads
-use Rattle.case_lists.proofs.skip_items.Lts as lts
-use Rattle.case_text.proofs.skip_blanks.Reads as skip-blanks-reads
-use Rattle.case_text.proofs.skip_word.Reads as skip-word-reads
 
 abbrev Inv-loop : tie.InvT-loop
 Inv-loop text p count q₀ i₀ q i = (i ≤ count) × (q ≡ pastItems text p i)
@@ -19,34 +14,27 @@ Inv-loop text p count q₀ i₀ q i = (i ≤ count) × (q ≡ pastItems text p i
 abbrev μ-loop : tie.MeasureT-loop
 μ-loop text p count q₀ i₀ q i = count - i
 
--- src/lib.rt:39:5
 loop-holds : tie.Need-loop-holds Inv-loop μ-loop
 loop-holds c = (search needs, pastItems-none _ _)
 
--- src/lib.rt:40:29
 skip-blanks-requires : tie.Need-skip-blanks-requires Inv-loop μ-loop
 skip-blanks-requires c κs = search needs
 
--- src/lib.rt:40:9
 skip-word-requires : tie.Need-skip-word-requires Inv-loop μ-loop
 skip-word-requires c κs = search needs
 
--- src/lib.rt:41:9
 add-i : tie.Need-add-i Inv-loop μ-loop
 add-i c = search needs
 
--- src/lib.rt:39:5
 loop-less : tie.Need-loop-less Inv-loop μ-loop
 loop-less c = search needs
 
--- src/lib.rt:39:5
 loop-again : tie.Need-loop-again Inv-loop μ-loop
 loop-again c =
     let a = c .before .before .before .before .before .args in
     let at = c .before .before .before .loop in
     (omega arith, c .skip-word .ensures ∙ ap (pastWord (now (a .text))) (c .before .skip-blanks .ensures ∙ ap (pastBlanks (now (a .text))) (at .inv .1)) ∙ pastItems-more _ _ _)
 
--- src/lib.rt:34:1
 returns : tie.Need-returns Inv-loop μ-loop
 returns c =
     let a = c .before .before .before .args in

@@ -1,49 +1,35 @@
-use borrow.Author.Tests.{lt-ltb, le-ltb}
 use Rattle.case_text.specs.Text.{digitOf}
 use borrow.Author.Needs.{needs}
-use native.Mathlib.Omega.{arith}
-use Prim.Native.Nat.{ℕ, _≤_, _<_, _-_, _+_}
-use mathlib.Core.Path.{_≡_, refl, ap, sym, _∙_}
-use lib.ListN.{length, getD}
+use borrow.Author.Tests.{lt-ltb, le-ltb}
+use mathlib.Core.Path.{_∙_}
 use Rattle.case_text.proofs.digit.Statement.{statement}
 use Rattle.case_text.proofs.digit.Tie as tie
-use Rattle.case_text.proofs.digit.Reads as reads
-use Rattle.case_text.proofs.digit.Lts as lts
-use Rattle.case_text.proofs.wide.Reads as wide-reads
 
--- src/lib.rt:58:9
 returns : tie.Need-returns
 unfolding digitOf
 returns c = rw (lt-ltb _ _ (c .if1 .taken))
 
--- src/lib.rt:61:9
 wide-requires : tie.Need-wide-requires
 wide-requires c κs = search needs
 
--- src/lib.rt:61:9
 returns-2 : tie.Need-returns-2
 unfolding digitOf
 returns-2 c = c .wide .ensures ∙ rw (le-ltb _ _ (c .before .before .if1 .left), lt-ltb _ _ (c .before .if2 .taken))
 
--- src/lib.rt:64:9
 returns-3 : tie.Need-returns-3
 unfolding digitOf
 returns-3 c = rw (le-ltb _ _ (c .before .before .if1 .left), le-ltb _ _ (c .before .if2 .left), lt-ltb _ _ (c .if3 .taken))
 
--- src/lib.rt:67:21
 sub-wide : tie.Need-sub-wide
 sub-wide c = search needs
 
--- src/lib.rt:67:9
 wide-requires-2 : tie.Need-wide-requires-2
 wide-requires-2 c κs = search needs
 
--- src/lib.rt:67:9
 returns-4 : tie.Need-returns-4
 unfolding digitOf
 returns-4 c = c .wide2 .ensures ∙ rw (le-ltb _ _ (c .before .before .before .before .if1 .left), le-ltb _ _ (c .before .before .before .if2 .left), le-ltb _ _ (c .before .before .if3 .left), lt-ltb _ _ (c .before .if4 .taken))
 
--- src/lib.rt:54:1
 returns-5 : tie.Need-returns-5
 unfolding digitOf
 returns-5 c = rw (le-ltb _ _ (c .before .before .before .if1 .left), le-ltb _ _ (c .before .before .if2 .left), le-ltb _ _ (c .before .if3 .left), le-ltb _ _ (c .if4 .left))

@@ -1,19 +1,14 @@
-use denote.Ref.{now}
-use borrow.Author.Tests.{lt-ltb, le-ltb}
-use lib.Dec.{ltb}
-use mathlib.Core.Bool.{true, false}
-use Rattle.case_text.specs.Text.{digitMore, digitOf, digitAt, numberFrom, numberAt, numberFrom-end, numberFrom-stop, numberFrom-more}
+use Prim.Native.Nat.{ℕ, _<_, _-_, _+_}
+use Rattle.case_text.specs.Text.{digitMore, digitAt, numberFrom, numberAt, numberFrom-end, numberFrom-stop, numberFrom-more}
 use borrow.Author.Needs.{needs}
-use native.Mathlib.Omega.{arith}
-use Prim.Native.Nat.{ℕ, _≤_, _<_, _-_, _+_}
+use borrow.Author.Tests.{lt-ltb, le-ltb}
+use denote.Ref.{now}
+use lib.Dec.{ltb}
+use lib.ListN.{length}
+use mathlib.Core.Bool.{true, false}
 use mathlib.Core.Path.{_≡_, refl, ap, sym, _∙_}
-use lib.ListN.{length, getD}
 use Rattle.case_text.proofs.number_in_base.Statement.{statement}
 use Rattle.case_text.proofs.number_in_base.Tie as tie
-use Rattle.case_text.proofs.number_in_base.Reads as reads
-use Rattle.case_text.proofs.number_in_base.Lts as lts
-use Rattle.case_text.proofs.digit.Reads as digit-reads
-use Rattle.case_text.proofs.digit_more.Reads as digit-more-reads
 
 abbrev Inv-loop : tie.InvT-loop
 Inv-loop text p base value₀ i₀ value i = numberAt base text p ≡ numberFrom base text value i (length text - i)
@@ -21,19 +16,15 @@ Inv-loop text p base value₀ i₀ value i = numberAt base text p ≡ numberFrom
 abbrev μ-loop : tie.MeasureT-loop
 μ-loop text p base value₀ i₀ value i = length text - i
 
--- src/lib.rt:91:5
 loop-holds : tie.Need-loop-holds Inv-loop μ-loop
 loop-holds c = refl
 
--- src/lib.rt:92:23
 shared-slice-read-digit : tie.Need-shared-slice-read-digit Inv-loop μ-loop
 shared-slice-read-digit c = search needs
 
--- src/lib.rt:92:13
 digit-requires : tie.Need-digit-requires Inv-loop μ-loop
 digit-requires c κs = search needs
 
--- src/lib.rt:94:13
 returns : tie.Need-returns Inv-loop μ-loop
 returns c =
     let at = c .before .before .before .before .loop in
@@ -41,19 +32,15 @@ returns c =
     let h : digitAt (a .base) (now (a .text)) (at .i) ≡ false = ap (λ (d : ℕ). ltb d (a .base)) (sym (c .before .digit .ensures)) ∙ le-ltb _ _ (c .if1 .taken) in
     sym (at .inv ∙ numberFrom-stop _ _ _ _ _ h)
 
--- src/lib.rt:96:9
 digit-more-requires : tie.Need-digit-more-requires Inv-loop μ-loop
 digit-more-requires c κs = search needs
 
--- src/lib.rt:97:9
 add-i : tie.Need-add-i Inv-loop μ-loop
 add-i c = search needs
 
--- src/lib.rt:91:5
 loop-less : tie.Need-loop-less Inv-loop μ-loop
 loop-less c = search needs
 
--- src/lib.rt:91:5
 loop-again : tie.Need-loop-again Inv-loop μ-loop
 loop-again c =
     let at = c .before .before .before .before .before .loop in
@@ -64,7 +51,6 @@ loop-again c =
     let m = ap (digitMore (a .base) (at .value)) (sym d) ∙ sym (c .digit-more .ensures) in
     at .inv ∙ numberFrom-more _ _ _ _ _ l h ∙ ap (λ (x : ℕ). numberFrom (a .base) (now (a .text)) x (at .i + 1) (length (now (a .text)) - (at .i + 1))) m
 
--- src/lib.rt:85:1
 returns-2 : tie.Need-returns-2 Inv-loop μ-loop
 returns-2 c =
     let at = c .before .loop in

@@ -1,18 +1,12 @@
-use borrow.Author.Tests.{lt-ltb, le-ltb}
-use lib.Ieee.Bits.{nanBits-is, nanBits-above}
-use lib.Ieee.{Float, nan, inf, fin, isNan, binary64, ofBits, nanBits, div}
-use lib.Dec.{T, ltb}
-use mathlib.Core.Path.{subst}
-use mathlib.Core.Bool.{Bool, true, false, not, false≢true}
 use borrow.Author.Needs.{needs}
-use native.Mathlib.Omega.{arith}
-use Prim.Native.Nat.{ℕ, _≤_, _<_, _-_, _+_}
-use mathlib.Core.Path.{_≡_, refl, ap, sym, _∙_}
-use lib.ListN.{length, getD}
+use borrow.Author.Tests.{lt-ltb, le-ltb}
+use lib.Dec.{T}
+use lib.Ieee.{Float, nan, inf, fin, isNan, binary64, ofBits, div}
+use lib.Ieee.Bits.{nanBits-is, nanBits-above}
+use mathlib.Core.Bool.{Bool, true, not, false≢true}
+use mathlib.Core.Path.{subst, _≡_, refl, sym, _∙_}
 use Rattle.case_text.proofs.of_bits.Statement.{statement}
 use Rattle.case_text.proofs.of_bits.Tie as tie
-use Rattle.case_text.proofs.of_bits.Reads as reads
-use Rattle.case_text.proofs.of_bits.Lts as lts
 
 -- a value that is a NaN is the NaN
 is-nan : (x : Float) → isNan x ≡ true → nan ≡ x
@@ -21,16 +15,13 @@ is-nan nan e = refl
 is-nan (inf s) e = absurd (false≢true e)
 is-nan (fin s m k) e = absurd (false≢true e)
 
--- src/lib.rt:113:9
 returns : tie.Need-returns
 unfolding div ofBits
 returns c = is-nan (ofBits binary64 (c .before .args .bits)) (sym (nanBits-is binary64 (c .before .args .bits)) ∙ nanBits-above binary64 (c .before .args .bits) ∙ lt-ltb _ _ (c .if1 .taken))
 
--- src/lib.rt:115:5
 float-from-bits-result : tie.Need-float-from-bits-result
 float-from-bits-result c = subst (λ (b : Bool). T (not b)) (sym (nanBits-above binary64 (c .before .args .bits) ∙ le-ltb _ _ (c .if1 .left))) tt
 
--- src/lib.rt:109:1
 returns-2 : tie.Need-returns-2
 returns-2 c = search needs
 

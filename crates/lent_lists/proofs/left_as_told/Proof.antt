@@ -1,40 +1,27 @@
 use Rattle.lent_lists.specs.Left.{leftAsTold, all-1, all-2, all-3, all-4, all-5}
-use borrow.Author.Tests.{not-true, not-false}
 use borrow.Author.Needs.{needs}
-use native.Mathlib.Omega.{arith}
-use Prim.Native.Nat.{ℕ, _≤_, _<_, _-_, _+_}
-use mathlib.Core.Path.{_≡_, refl, ap, sym, _∙_}
-use lib.ListN.{length, getD}
+use borrow.Author.Tests.{not-true, not-false}
+use mathlib.Core.Path.{sym, _∙_}
 use Rattle.lent_lists.proofs.left_as_told.Statement.{statement}
 use Rattle.lent_lists.proofs.left_as_told.Tie as tie
-use Rattle.lent_lists.proofs.left_as_told.Reads as reads
-use Rattle.lent_lists.proofs.left_as_told.Lts as lts
-use Rattle.lent_lists.proofs.values_hold.Reads as values-hold-reads
-use Rattle.lent_lists.proofs.words_hold.Reads as words-hold-reads
 
--- src/lib.rt:57:9
 words-hold-requires : tie.Need-words-hold-requires
 words-hold-requires c κs = search needs
 
--- src/lib.rt:58:9
 returns : tie.Need-returns
 unfolding leftAsTold
 returns c = all-1 _ _ _ _ _ (sym (c .before .words-hold .ensures) ∙ not-true _ (c .if1 .taken))
 
--- src/lib.rt:60:9
 words-hold-requires-2 : tie.Need-words-hold-requires-2
 words-hold-requires-2 c κs = search needs
 
--- src/lib.rt:61:9
 returns-2 : tie.Need-returns-2
 unfolding leftAsTold
 returns-2 c = all-2 _ _ _ _ _ (sym (c .before .before .before .words-hold .ensures) ∙ not-false _ (c .before .before .if1 .left)) (sym (c .before .words-hold2 .ensures) ∙ not-true _ (c .if2 .taken))
 
--- src/lib.rt:63:9
 values-hold-requires : tie.Need-values-hold-requires
 values-hold-requires c κs = search needs
 
--- src/lib.rt:64:9
 returns-3 : tie.Need-returns-3
 unfolding leftAsTold
 returns-3 c =
@@ -42,11 +29,9 @@ returns-3 c =
     all-3 _ _ _ _ _ (sym (b .before .before .before .words-hold .ensures) ∙ not-false _ (b .before .before .if1 .left)) (sym (b .before .words-hold2 .ensures) ∙ not-false _ (b .if2 .left))
     (sym (c .before .values-hold .ensures) ∙ not-true _ (c .if3 .taken))
 
--- src/lib.rt:66:9
 words-hold-requires-3 : tie.Need-words-hold-requires-3
 words-hold-requires-3 c κs = search needs
 
--- src/lib.rt:67:9
 returns-4 : tie.Need-returns-4
 unfolding leftAsTold
 returns-4 c =
@@ -55,11 +40,9 @@ returns-4 c =
     all-4 _ _ _ _ _ (sym (b .before .before .before .words-hold .ensures) ∙ not-false _ (b .before .before .if1 .left)) (sym (b .before .words-hold2 .ensures) ∙ not-false _ (b .if2 .left))
     (sym (d .before .values-hold .ensures) ∙ not-false _ (d .if3 .left)) (sym (c .before .words-hold3 .ensures) ∙ not-true _ (c .if4 .taken))
 
--- src/lib.rt:69:5
 words-hold-requires-4 : tie.Need-words-hold-requires-4
 words-hold-requires-4 c κs = search needs
 
--- src/lib.rt:46:1
 returns-5 : tie.Need-returns-5
 unfolding leftAsTold
 returns-5 c =

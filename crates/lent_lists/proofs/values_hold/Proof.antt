@@ -1,16 +1,13 @@
-use borrow.Author.Tests.{eq-eqb, ne-eqb}
+use Prim.Native.Nat.{_≤_, _-_}
 use Rattle.lent_lists.specs.Left.{otherValue, noneIn-falling, noneIn-outside, noneIn-found, noneIn-none}
 use Rattle.lists.specs.Test.{anyIn, anyIn-none, anyIn-more, anyIn-less}
-use mathlib.Core.Bool.{true, false, not}
 use borrow.Author.Needs.{needs}
+use lib.ListN.{length}
+use mathlib.Core.Bool.{false}
+use mathlib.Core.Path.{_≡_}
 use native.Mathlib.Omega.{arith}
-use Prim.Native.Nat.{ℕ, _≤_, _<_, _-_, _+_}
-use mathlib.Core.Path.{_≡_, refl, ap, sym, _∙_}
-use lib.ListN.{length, getD}
 use Rattle.lent_lists.proofs.values_hold.Statement.{statement}
 use Rattle.lent_lists.proofs.values_hold.Tie as tie
-use Rattle.lent_lists.proofs.values_hold.Reads as reads
-use Rattle.lent_lists.proofs.values_hold.Lts as lts
 
 abbrev Inv-loop : tie.InvT-loop
 Inv-loop list first end value i₀ i = (first ≤ i) × (i ≤ end) × (end ≤ length list) × (anyIn (otherValue list value) first i ≡ false)
@@ -18,47 +15,37 @@ Inv-loop list first end value i₀ i = (first ≤ i) × (i ≤ end) × (end ≤ 
 abbrev μ-loop : tie.MeasureT-loop
 μ-loop list first end value i₀ i = end - i
 
--- src/lib.rt:30:9
 returns : tie.Need-returns Inv-loop μ-loop
 returns c = noneIn-falling _ _ _ _ (c .if1 .taken)
 
--- src/lib.rt:33:9
 returns-2 : tie.Need-returns-2 Inv-loop μ-loop
 returns-2 c = noneIn-outside _ _ _ _ (c .before .if1 .left) (c .if2 .taken)
 
--- src/lib.rt:36:5
 loop-holds : tie.Need-loop-holds Inv-loop μ-loop
 loop-holds c = (search needs, search needs, search needs, anyIn-none _ _)
 
--- src/lib.rt:37:12
 mul-if3 : tie.Need-mul-if3 Inv-loop μ-loop
 mul-if3 c = search needs
 
--- src/lib.rt:37:12
 shared-slice-read-if3 : tie.Need-shared-slice-read-if3 Inv-loop μ-loop
 shared-slice-read-if3 c = search needs
 
--- src/lib.rt:38:13
 returns-3 : tie.Need-returns-3 Inv-loop μ-loop
 returns-3 c =
     let at = c .before .before .before .loop in
     noneIn-found _ _ _ _ (omega arith) (at .inv .2) (at .i) (at .inv .0) (omega arith) (c .if3 .taken)
 
--- src/lib.rt:40:9
 add-i : tie.Need-add-i Inv-loop μ-loop
 add-i c = search needs
 
--- src/lib.rt:36:5
 loop-less : tie.Need-loop-less Inv-loop μ-loop
 loop-less c = search needs
 
--- src/lib.rt:36:5
 loop-again : tie.Need-loop-again Inv-loop μ-loop
 loop-again c =
     let at = c .before .before .before .loop in
     (omega arith, omega arith, at .inv .2, anyIn-more _ _ _ (at .inv .0) (at .inv .3) (c .if3 .left))
 
--- src/lib.rt:26:1
 returns-4 : tie.Need-returns-4 Inv-loop μ-loop
 returns-4 c =
     let at = c .before .loop in
