@@ -28,7 +28,7 @@ SETS = {
     "random": (70, 9000),
     "special": (90, 2000),
     "exact": (80, 3000),
-    "grid": (48, 36000),
+    "grid": (48, 60000),
     "lookup": (100, 4000),
     "default": (60, 6000),
     "refuse": (140, 2000),
@@ -230,9 +230,15 @@ def cases_of(programs, name):
         if not fits(kind, f):
             continue
         want = expected(i, kind, f, answer)
-        how = want[0] + " " + (want[1] if len(want) > 1 and want[1].startswith("status") else "")
-        out.append((i, kind, case_text(i, kind, lines), answer_text(i, kind, want), kind + " " + how))
+        out.append((i, kind, case_text(i, kind, lines), answer_text(i, kind, want), kind + " " + answer_class(want)))
     return out
+
+
+def answer_class(lines):
+    """The reply with the status, or with the refusal that a lookup met."""
+    status = [x for x in lines if x.startswith("status")]
+    refused = [w for x in lines if x.startswith("gets") for w in x.split() if w.startswith("refused")]
+    return " ".join([lines[0]] + status + refused[:1])
 
 
 def spread(items, count):

@@ -1,8 +1,4 @@
 // Selected entries: the call, with lists of 7777 lent, and its answer.
-ghost use mathlib.Core.Path.{_≡_};
-ghost use Prim.Native.Nat.{_≤_};
-ghost use Rattle.refusal.specs.Bounds.{maxDimension};
-ghost use Rattle.selection.specs.Selection.{scratchWords};
 use answer_text::put;
 use answer_text::put_number;
 use answer_text::put_value;
@@ -10,9 +6,6 @@ use answer_text::put_values;
 use answer_text::put_words;
 use diagnostics::SelectedInverseDiagnostics;
 use diagnostics::SelectedInverseStatus;
-use lent_lists::left_as_told;
-use pair_marks::pair_total;
-use refusal::MAX_DIMENSION;
 use replay_lookups::gets;
 use replay_lookups::put_kept;
 use replay_lookups::skip_pairs;
@@ -20,22 +13,12 @@ use replies::refusal_number;
 use selected::Selected;
 use selected::selected_inverse_entries;
 use selected::selected_inverse_entries_with_limit;
-use std::num::wrapping_add_usize;
+use selected_left::left_after;
 
 // The limit: given, or the default.
 pub enum Limit {
     Given(usize),
     Default,
-}
-
-// The scratch words that a call with a dimension within the bound uses: 2T + 4n.
-fn scratch_used(n: usize) -> usize
-    ensures { λ r. ⌜ (n ≤ maxDimension → r ≡ scratchWords n) ⌝ }
-{
-    if n <= MAX_DIMENSION {
-        return 2 * pair_total(n) + 4 * n;
-    }
-    0
 }
 
 fn put_diagnosis(d: SelectedInverseDiagnostics) {
@@ -113,48 +96,6 @@ fn put_entries(
     gets(text, p, &starts[0..filled], rows, values)
 }
 
-fn put_complete(
-    text: &[u8],
-    p: usize,
-    n: usize,
-    d: SelectedInverseDiagnostics,
-    starts: &[u32],
-    rows: &[u32],
-    values: &[f64],
-    scratch: &[u32],
-) -> usize {
-    let count = d.closure_pairs;
-    put(b"status Complete\n");
-    put_diagnosis(d);
-    let next = put_entries(text, p, n, count, starts, rows, values);
-    put_kept(left_as_told(
-        wrapping_add_usize(n, 1),
-        count,
-        scratch_used(n),
-        starts,
-        rows,
-        values,
-        scratch,
-    ));
-    next
-}
-
-fn put_too_large(
-    text: &[u8],
-    p: usize,
-    n: usize,
-    d: SelectedInverseDiagnostics,
-    starts: &[u32],
-    rows: &[u32],
-    values: &[f64],
-    scratch: &[u32],
-) -> usize {
-    put(b"status ClosureTooLarge\n");
-    put_diagnosis(d);
-    put_kept(left_as_told(0, 0, scratch_used(n), starts, rows, values, scratch));
-    skip_pairs(text, p)
-}
-
 fn put_answer(
     text: &[u8],
     p: usize,
@@ -163,16 +104,20 @@ fn put_answer(
     starts: &[u32],
     rows: &[u32],
     values: &[f64],
-    scratch: &[u32],
 ) -> usize {
+    let count = d.closure_pairs;
     put(b"reply ok\n");
     let status = d.status;
     match status {
         SelectedInverseStatus::Complete => {
-            put_complete(text, p, n, d, starts, rows, values, scratch)
+            put(b"status Complete\n");
+            put_diagnosis(d);
+            put_entries(text, p, n, count, starts, rows, values)
         }
         SelectedInverseStatus::ClosureTooLarge => {
-            put_too_large(text, p, n, d, starts, rows, values, scratch)
+            put(b"status ClosureTooLarge\n");
+            put_diagnosis(d);
+            skip_pairs(text, p)
         }
     }
 }
@@ -185,16 +130,29 @@ fn put_selected(
     starts: &[u32],
     rows: &[u32],
     values: &[f64],
-    scratch: &[u32],
 ) -> usize {
     match answer {
-        Selected::Answered(d) => put_answer(text, p, n, d, starts, rows, values, scratch),
+        Selected::Answered(d) => put_answer(text, p, n, d, starts, rows, values),
         Selected::Refused(why) => {
             put_number(b"reply ", refusal_number(why) as usize);
-            put_kept(left_as_told(0, 0, 0, starts, rows, values, scratch));
             skip_pairs(text, p)
         }
     }
+}
+
+fn finish(
+    text: &[u8],
+    p: usize,
+    n: usize,
+    answer: Selected,
+    starts: &[u32],
+    rows: &[u32],
+    values: &[f64],
+    scratch: &[u32],
+) -> usize {
+    let next = put_selected(text, p, n, answer, starts, rows, values);
+    put_kept(left_after(n, answer, starts, rows, values, scratch));
+    next
 }
 
 // Selected entries with the requests and the limit; the pairs to look up stand at p.
@@ -228,7 +186,7 @@ pub fn entries(
         &mut result_values,
         &mut scratch,
     );
-    put_selected(
+    finish(
         text,
         p,
         n,
@@ -252,21 +210,10 @@ fn put_limit(
         Selected::Answered(d) => {
             put(b"reply ok\n");
             put_number(b"limit ", d.closure_limit);
-            put_kept(left_as_told(
-                wrapping_add_usize(n, 1),
-                0,
-                scratch_used(n),
-                starts,
-                rows,
-                values,
-                scratch,
-            ));
         }
-        Selected::Refused(why) => {
-            put_number(b"reply ", refusal_number(why) as usize);
-            put_kept(left_as_told(0, 0, 0, starts, rows, values, scratch));
-        }
+        Selected::Refused(why) => put_number(b"reply ", refusal_number(why) as usize),
     }
+    put_kept(left_after(n, answer, starts, rows, values, scratch));
 }
 
 // The default limit, as the diagnosis of a call with no requests tells it.
