@@ -2,8 +2,7 @@
 -- Assumes nothing.
 use Prim.Native.Nat.{ℕ, zero, suc, _+_, _-_, _*_, _≤_, _<_}
 use native.Mathlib.Omega.{arith}
-use native.Mathlib.Numerals.{add-one}
-use mathlib.Core.Path.{_≡_, refl, sym, ap, _∙_}
+use mathlib.Core.Path.{_≡_, refl, ap, _∙_}
 use mathlib.Core.Bool.{Bool, true, false, cond, not, _&&_}
 use mathlib.Core.List.{List}
 use lib.Dec.{ltb, leb, eqb}
@@ -50,10 +49,13 @@ numberFrom base text x p (suc k) =
 abbrev pub numberAt : ℕ → List ℕ → ℕ → ℕ
 numberAt base text p = numberFrom base text 0 p (length text - p)
 
+-- another byte than the label's at i stands there, the label starting at p
+abbrev pub differs : List ℕ → ℕ → List ℕ → ℕ → Bool
+differs text p label i = not (eqb (getD text (p + i) 0) (getD label i 0))
+
 -- the bytes of the label stand from p on
 unfoldable pub begins : List ℕ → ℕ → List ℕ → Bool
-begins text p label =
-    leb (p + length label) (length text) && not (any (λ i. not (eqb (getD text (p + i) 0) (getD label i 0))) (length label))
+begins text p label = leb (p + length label) (length text) && not (any (differs text p label) (length label))
 
 -- the place after the label that stands first from p on; the text's end where another does
 unfoldable pub pastLabel : List ℕ → ℕ → List ℕ → ℕ
@@ -94,10 +96,6 @@ module _ (base : ℕ) (text : List ℕ) (x : ℕ) where
       ap (numberFrom base text x p) z ∙ rw h
 
 -- ---- laws of a label
--- a byte of the label that is another one
-abbrev pub differs : List ℕ → ℕ → List ℕ → ℕ → Bool
-differs text p label i = not (eqb (getD text (p + i) 0) (getD label i 0))
-
 pub begins-short : (text : List ℕ) (p : ℕ) (label : List ℕ) → length text < p + length label → false ≡ begins text p label
 unfolding begins
 begins-short text p label h = rw (lt-leb (p + length label) (length text) h)

@@ -12,6 +12,9 @@ use replay_entries::default_limit;
 use replay_lookups::diagonals;
 use replay_lookups::gets;
 
+// The places of each list that a case is read into.
+pub const ROOM: usize = 4608;
+
 // What a case calls.
 pub enum Kind {
     Entries,
@@ -55,14 +58,14 @@ fn read_entries(
     starts: &[u32],
     rows: &[u32],
 ) -> usize {
-    let mut values = [0.0; 4608];
+    let mut values = [0.0; ROOM];
     let listed = read_values(text, past_label(text, p, b"values "), &mut values);
     let count = listed.count;
     call(text, listed.next, kind, n, starts, rows, &values[..count])
 }
 
 fn read_rows(text: &[u8], p: usize, kind: Kind, n: usize, starts: &[u32]) -> usize {
-    let mut rows = [0u32; 4608];
+    let mut rows = [0u32; ROOM];
     let listed = read_words(text, past_label(text, p, b"rows "), &mut rows);
     let count = listed.count;
     read_entries(text, listed.next, kind, n, starts, &rows[..count])
@@ -70,7 +73,7 @@ fn read_rows(text: &[u8], p: usize, kind: Kind, n: usize, starts: &[u32]) -> usi
 
 // Reads the dimension, where it is given, and the starts, then the rest.
 pub fn read_starts(text: &[u8], p: usize, kind: Kind) -> usize {
-    let mut starts = [0u32; 4608];
+    let mut starts = [0u32; ROOM];
     let at = skip_blanks(text, p);
     if begins(text, at, b"n ") {
         let number = past_label(text, at, b"n ");

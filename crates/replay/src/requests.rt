@@ -1,4 +1,5 @@
 // The fields of selected entries after the factor: request dimension, rows, columns and limit.
+use crate::factor::ROOM;
 use case_lists::read_words;
 use case_text::begins;
 use case_text::decimal;
@@ -50,7 +51,7 @@ fn read_columns(
     dimension: usize,
     request_rows: &[u32],
 ) -> usize {
-    let mut columns = [0u32; 4608];
+    let mut columns = [0u32; ROOM];
     let listed = read_words(text, past_label(text, p, b"rcols "), &mut columns);
     let count = listed.count;
     read_limit(
@@ -75,7 +76,7 @@ pub fn read_rows(
     rows: &[u32],
     values: &[f64],
 ) -> usize {
-    let mut request_rows = [0u32; 4608];
+    let mut request_rows = [0u32; ROOM];
     let at = past_label(text, p, b"rdim ");
     let dimension = decimal(text, at) as usize;
     let listed = read_words(

@@ -15,6 +15,13 @@ use selected::selected_inverse_entries;
 use selected::selected_inverse_entries_with_limit;
 use selected_left::left_after;
 
+// The places lent: more than a factor of dimension 256 needs.
+const STARTS: usize = 4608;
+
+const ENTRIES: usize = 33024;
+
+const SCRATCH: usize = 67072;
+
 // The limit: given, or the default.
 pub enum Limit {
     Given(usize),
@@ -168,10 +175,10 @@ pub fn entries(
     request_columns: &[u32],
     limit: Limit,
 ) -> usize {
-    let mut result_starts = [7777u32; 4608];
-    let mut result_rows = [7777u32; 33024];
-    let mut result_values = [7777.0; 33024];
-    let mut scratch = [7777u32; 67072];
+    let mut result_starts = [7777u32; STARTS];
+    let mut result_rows = [7777u32; ENTRIES];
+    let mut result_values = [7777.0; ENTRIES];
+    let mut scratch = [7777u32; SCRATCH];
     let answer = call(
         n,
         starts,
@@ -219,10 +226,10 @@ fn put_limit(
 // The default limit, as the diagnosis of a call with no requests tells it.
 pub fn default_limit(n: usize, starts: &[u32], rows: &[u32], values: &[f64]) {
     let none: [u32; 0] = [];
-    let mut result_starts = [7777u32; 4608];
-    let mut result_rows = [7777u32; 33024];
-    let mut result_values = [7777.0; 33024];
-    let mut scratch = [7777u32; 67072];
+    let mut result_starts = [7777u32; STARTS];
+    let mut result_rows = [7777u32; ENTRIES];
+    let mut result_values = [7777.0; ENTRIES];
+    let mut scratch = [7777u32; SCRATCH];
     let answer = selected_inverse_entries(
         n,
         starts,
