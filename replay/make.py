@@ -1,8 +1,8 @@
 #!/usr/bin/env python3
 """Makes crates/replay/stdin and crates/replay/stdout from the Rust's own functions.
 
-    replay/make.py PROGRAMS                     writes both files and prints the counts
-    replay/make.py PROGRAMS --compare REPLAY    runs the program REPLAY on every case of the sets that it can hold
+    replay/make.py PROGRAMS                            writes both files and prints the counts
+    replay/make.py PROGRAMS --compare REPLAY [SEED]    runs the program REPLAY on every case of the sets that it can hold
 
 PROGRAMS is the folder with the programs `generate`, which writes cases, and `oracle`, which answers
 them by the Rust's functions; both are built from the Rust that NOTICE names. See replay/README.md
@@ -217,9 +217,9 @@ def run(program, *args, text=""):
     return subprocess.run([program, *args], input=text, capture_output=True, text=True, check=True).stdout
 
 
-def cases_of(programs, name):
+def cases_of(programs, name, *seed):
     """Every case of a set that the program can hold: (id, kind, case's text, answer's text, answer's class)."""
-    text = run(os.path.join(programs, "generate"), name)
+    text = run(os.path.join(programs, "generate"), name, *seed)
     answers = blocks(run(os.path.join(programs, "oracle"), text=text))
     out = []
     for (i, kind, lines), (j, other, answer) in zip(blocks(text), answers):
@@ -284,10 +284,10 @@ def write_list(programs):
     print(len(cases), "cases,", len(stdin), "and", len(stdout), "bytes")
 
 
-def compare(programs, program):
+def compare(programs, program, *seed):
     """Runs the program on all cases of the sets, as many at a time as its text holds."""
     for name in SETS:
-        cases, wrong, at = cases_of(programs, name), 0, 0
+        cases, wrong, at = cases_of(programs, name, *seed), 0, 0
         while at < len(cases):
             end, size = at, 0
             while end < len(cases) and size + len(cases[end][2]) <= TEXT:
@@ -307,8 +307,8 @@ def compare(programs, program):
 def main():
     if len(sys.argv) == 2:
         write_list(sys.argv[1])
-    elif len(sys.argv) == 4 and sys.argv[2] == "--compare":
-        compare(sys.argv[1], sys.argv[3])
+    elif len(sys.argv) in (4, 5) and sys.argv[2] == "--compare":
+        compare(sys.argv[1], *sys.argv[3:])
     else:
         sys.exit(__doc__)
     for what, names in sorted(differences.items()):
