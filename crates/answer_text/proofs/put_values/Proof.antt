@@ -1,0 +1,73 @@
+use Prim.Native.Nat.{_≤_, _-_}
+use borrow.Author.Needs.{needs}
+use Rattle.answer_text.proofs.put_values.Statement.{statement}
+use Rattle.answer_text.proofs.put_values.Tie as tie
+
+abbrev Inv-loop : tie.InvT-loop
+Inv-loop label list count i₀ t5 t6 i = i ≤ count
+
+abbrev μ-loop : tie.MeasureT-loop
+μ-loop label list count i₀ t5 t6 i = count - i
+
+put-requires : tie.Need-put-requires Inv-loop μ-loop
+put-requires c κs = search needs
+
+put-count-requires : tie.Need-put-count-requires Inv-loop μ-loop
+put-count-requires c κs = search needs
+
+loop-holds : tie.Need-loop-holds Inv-loop μ-loop
+loop-holds c = search needs
+
+slice-aggregate-put : tie.Need-slice-aggregate-put Inv-loop μ-loop
+slice-aggregate-put c = search needs
+
+put-requires-2 : tie.Need-put-requires-2 Inv-loop μ-loop
+put-requires-2 c κs = search needs
+
+mul-put-value : tie.Need-mul-put-value Inv-loop μ-loop
+mul-put-value c = search needs
+
+shared-slice-read-put-value : tie.Need-shared-slice-read-put-value Inv-loop μ-loop
+shared-slice-read-put-value c = search needs
+
+put-value-requires : tie.Need-put-value-requires Inv-loop μ-loop
+put-value-requires c κs = search needs
+
+add-i : tie.Need-add-i Inv-loop μ-loop
+add-i c = search needs
+
+loop-less : tie.Need-loop-less Inv-loop μ-loop
+loop-less c = search needs
+
+loop-again : tie.Need-loop-again Inv-loop μ-loop
+loop-again c = search needs
+
+slice-aggregate-put-2 : tie.Need-slice-aggregate-put-2 Inv-loop μ-loop
+slice-aggregate-put-2 c = search needs
+
+put-requires-3 : tie.Need-put-requires-3 Inv-loop μ-loop
+put-requires-3 c κs = search needs
+
+returns : tie.Need-returns Inv-loop μ-loop
+returns c = search needs
+
+pub put-values-spec : {M : Type 1} → statement M
+put-values-spec =
+    tie.close
+    (tie.spec
+    Inv-loop
+    μ-loop
+    put-requires
+    put-count-requires
+    loop-holds
+    slice-aggregate-put
+    put-requires-2
+    mul-put-value
+    shared-slice-read-put-value
+    put-value-requires
+    add-i
+    loop-less
+    loop-again
+    slice-aggregate-put-2
+    put-requires-3
+    returns)

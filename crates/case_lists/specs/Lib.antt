@@ -1,0 +1,2 @@
+-- Lists in the text of cases.
+pub mod Items

@@ -1,0 +1,2 @@
+-- The text of cases.
+pub mod Text

@@ -1,0 +1,142 @@
+// Reading the text of cases: what stands at a place, and the place after it.
+ghost use mathlib.Core.Path.{_≡_};
+ghost use Prim.Native.Nat.{_≤_, _<_};
+ghost use lib.Ieee.{binary64, ofBits};
+ghost use Rattle.case_text.specs.Text.{pastBlanks, pastWord, digitOf, digitMore, numberAt, pastLabel, begins as Text·begins};
+
+fn wide(b: u8) -> u64
+    ensures { λ r. ⌜ r ≡ b ⌝ }
+{
+    b as u64
+}
+
+// The first place from p on that holds no blank and no line end.
+pub fn skip_blanks(text: &[u8], p: usize) -> usize
+    ensures { λ r. ⌜ r ≡ pastBlanks (now (text .entry)) p ⌝ }
+{
+    let mut i = p;
+    while i < text.len() {
+        if text[i] > 32 {
+            return i;
+        }
+        i += 1;
+    }
+    i
+}
+
+// The first place from p on that holds a blank or a line end.
+pub fn skip_word(text: &[u8], p: usize) -> usize
+    ensures { λ r. ⌜ r ≡ pastWord (now (text .entry)) p ⌝ }
+{
+    let mut i = p;
+    while i < text.len() {
+        if text[i] <= 32 {
+            return i;
+        }
+        i += 1;
+    }
+    i
+}
+
+// The digit that a byte is, 16 where it is none.
+fn digit(b: u8) -> u64
+    ensures { λ r. ⌜ r ≡ digitOf b ⌝ }
+{
+    if b < 48 {
+        return 16;
+    }
+    if b < 58 {
+        return wide(b - 48);
+    }
+    if b < 97 {
+        return 16;
+    }
+    if b < 103 {
+        return wide(b - 87);
+    }
+    16
+}
+
+// One more digit d after x.
+fn digit_more(base: u64, x: u64, d: u64) -> u64
+    requires { ⌜ (base ≤ 16) × (d < 16) ⌝ }
+    ensures { λ r. ⌜ r ≡ digitMore base x d ⌝ }
+{
+    if x < 1152921504606846976 {
+        return x * base + d;
+    }
+    x
+}
+
+// The number in the base whose digits start at p.
+fn number_in_base(text: &[u8], p: usize, base: u64) -> u64
+    requires { ⌜ base ≤ 16 ⌝ }
+    ensures { λ r. ⌜ r ≡ numberAt base (now (text .entry)) p ⌝ }
+{
+    let mut value = 0;
+    let mut i = p;
+    while i < text.len() {
+        let d = digit(text[i]);
+        if d >= base {
+            return value;
+        }
+        value = digit_more(base, value, d);
+        i += 1;
+    }
+    value
+}
+
+// The decimal number at p.
+pub fn decimal(text: &[u8], p: usize) -> u64
+    ensures { λ r. ⌜ r ≡ numberAt 10 (now (text .entry)) p ⌝ }
+{
+    number_in_base(text, p, 10)
+}
+
+// The value that the bits are; any NaN's bits give a NaN.
+fn of_bits(bits: u64) -> f64
+    ensures { λ r. ⌜ r ≡ ofBits binary64 bits ⌝ }
+{
+    if bits % 9223372036854775808 > 9218868437227405312 {
+        return 0.0 / 0.0;
+    }
+    f64::from_bits(bits)
+}
+
+// The value whose bits are the hexadecimal number at p.
+pub fn float_value(text: &[u8], p: usize) -> f64
+    ensures { λ r. ⌜ r ≡ ofBits binary64 (numberAt 16 (now (text .entry)) p) ⌝ }
+{
+    of_bits(number_in_base(text, p, 16))
+}
+
+// Whether the bytes of the label stand from p on.
+pub fn begins(text: &[u8], p: usize, label: &[u8]) -> bool
+    ensures { λ r. ⌜ r ≡ Text·begins (now (text .entry)) p (now (label .entry)) ⌝ }
+{
+    if text.len() < label.len() {
+        return false;
+    }
+    if text.len() - label.len() < p {
+        return false;
+    }
+    let mut i = 0;
+    while i < label.len() {
+        if text[p + i] != label[i] {
+            return false;
+        }
+        i += 1;
+    }
+    true
+}
+
+// The place after the label, where it stands first from p on; else the text's end.
+pub fn past_label(text: &[u8], p: usize, label: &[u8]) -> usize
+    ensures { λ r. ⌜ r ≡ pastLabel (now (text .entry)) p (now (label .entry)) ⌝ }
+{
+    let at = skip_blanks(text, p);
+    if begins(text, at, label) {
+        return at + label.len();
+    }
+    text.len()
+}

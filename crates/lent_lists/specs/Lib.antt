@@ -1,0 +1,2 @@
+-- What a call leaves in the lists lent to it.
+pub mod Left

@@ -1,0 +1,2 @@
+-- What selected entries leaves in the lists lent to it.
+pub mod LeftAfter
