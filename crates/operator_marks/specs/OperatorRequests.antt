@@ -1,14 +1,16 @@
 -- The requests of an operator: every pair of two columns of one of its rows, put in order.
 -- Assumes nothing.
-use Prim.Native.Nat.{ℕ, _+_, _≤_, _<_}
+use Prim.Native.Nat.{ℕ, _+_, _≤_, _<_, max, min}
 use native.Mathlib.Omega.{arith}
+use native.Mathlib.Decide.{decLe}
 use mathlib.Core.Path.{_≡_, ap}
 use mathlib.Core.Bool.{Bool, true, _&&_}
+use mathlib.Core.Logic.{_⊎_, inl, inr}
 use mathlib.Core.List.{List}
 use lib.Dec.{leb, eqb}
-use lib.ListN.{length, getD}
-use borrow.Author.Tests.{le-leb, leb-true, eqb-true}
-use Rattle.lists.specs.Test.{any-found, anyIn-found, and-left, and-right}
+use lib.ListN.{getD}
+use borrow.Author.Tests.{le-leb, leb-true, eqb-true, eq-eqb}
+use Rattle.lists.specs.Test.{any-hit, any-found, anyIn-hit, anyIn-found, and-left, and-right, and-both}
 use Rattle.columns.specs.Columns.{start}
 use Rattle.columns.specs.Factor.{starts-end}
 use Rattle.columns.specs.Operator.{operatorRows, OperatorRows}
@@ -35,3 +37,31 @@ operatorRequested-ranged {n} {rowStarts} {columns} O = record {
       let g = anyIn-found (λ p. eqb (getD columns p 0) r) s t (and-left (occurs columns s t r) (occurs columns s t c) (f .2)) in
       omega (arith, eqb-true (getD columns (g .0) 0) r (g .3), O .inside (g .0) (omega (arith, f .1, g .2, starts-end (O .starts-rise) (f .0 + 1) (omega (arith, f .1)))));
 }
+
+-- two places of one row make a request
+pub places-requested : (rowStarts columns : List ℕ) (i a b : ℕ) → i < operatorRows rowStarts → start rowStarts i ≤ a → a < start rowStarts (i + 1) → start rowStarts i ≤ b
+    → b < start rowStarts (i + 1) → operatorRequested rowStarts columns (max (getD columns a 0) (getD columns b 0)) (min (getD columns a 0) (getD columns b 0)) ≡ true
+unfolding operatorPair
+places-requested rowStarts columns i a b l la ha lb hb =
+    and-both _ _ (le-leb low high (omega arith))
+    (any-hit (rowPair rowStarts columns high low) (operatorRows rowStarts) i l
+    (elim (decLe y x) [
+      | yes q ↦ and-both _ _ (is high (inl (omega arith))) (is low (inr (omega arith)))
+      | no q ↦ and-both _ _ (is high (inr (omega arith))) (is low (inl (omega arith)))
+    ]))
+  where
+    x : ℕ
+    x = getD columns a 0
+
+    y : ℕ
+    y = getD columns b 0
+
+    high : ℕ
+    high = max x y
+
+    low : ℕ
+    low = min x y
+
+    is : (k : ℕ) → (x ≡ k) ⊎ (y ≡ k) → occurs columns (start rowStarts i) (start rowStarts (i + 1)) k ≡ true
+    is k (inl e) = anyIn-hit _ _ _ a la ha (eq-eqb x k e)
+    is k (inr e) = anyIn-hit _ _ _ b lb hb (eq-eqb y k e)

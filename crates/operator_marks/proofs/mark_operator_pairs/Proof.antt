@@ -1,9 +1,8 @@
 use borrow.Author.Needs.{needs}
 use native.Mathlib.Omega.{arith}
 use Prim.Native.Nat.{ℕ, _≤_, _<_, _-_, _+_}
-use mathlib.Core.Path.{_≡_, refl, ap, sym, subst₂, _∙_}
+use mathlib.Core.Path.{_≡_, ap, sym, subst₂, _∙_}
 use mathlib.Core.Bool.{false}
-use lib.ListN.{length}
 use denote.Ref.{now}
 use Rattle.lists.specs.Test.{any-none}
 use Rattle.pairs.specs.Pair.{pairTotal}

@@ -1,9 +1,7 @@
 use Prim.Native.Nat.{ℕ, _≤_, _-_, _+_}
 use native.Mathlib.Omega.{arith}
-use mathlib.Core.Path.{_≡_, refl, sym, subst, _∙_}
-use lib.ListN.{length}
+use mathlib.Core.Path.{_≡_, subst}
 use denote.Ref.{now}
-use borrow.Author.Needs.{needs}
 use Rattle.lists.specs.Test.{anyIn-none}
 use Rattle.pattern_marks.specs.Marking.{termsSet, rowSet}
 use Rattle.operator_marks.specs.Marking.{AlsoMarked, also-none, also-next, row-part}

@@ -1,9 +1,7 @@
 use Prim.Native.Nat.{ℕ, _≤_, _-_, _+_}
 use native.Mathlib.Omega.{arith}
-use mathlib.Core.Path.{_≡_, refl, sym, subst, subst₂, _∙_}
-use lib.ListN.{length}
+use mathlib.Core.Path.{_≡_, sym, subst, subst₂}
 use denote.Ref.{now}
-use borrow.Author.Needs.{needs}
 use Rattle.lists.specs.Test.{anyIn, anyIn-none}
 use Rattle.pair_queue.specs.Scratch.{Insert, Inserted}
 use Rattle.pattern_marks.specs.Marking.{termSet}

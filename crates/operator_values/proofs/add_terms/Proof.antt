@@ -1,13 +1,13 @@
-use Prim.Native.Nat.{ℕ, _≤_, _<_, _-_, _+_}
+use Prim.Native.Nat.{ℕ, _≤_, _<_, _-_}
 use native.Mathlib.Omega.{arith}
-use mathlib.Core.Path.{_≡_, refl, ap, ap₂, sym, _∙_}
+use mathlib.Core.Path.{_≡_, ap, ap₂, sym, _∙_}
 use lib.Ieee.{Float, binary64, add, mul}
 use denote.Ref.{now}
 use borrow.Author.Needs.{needs}
 use Rattle.columns.specs.Columns.{value}
 use Rattle.takahashi.specs.Recurrence as recurrence
 use Rattle.exact.specs.Exact.{floats}
-use Rattle.operator_values.specs.RowValue.{term, withTerms, withTerms-none, withTerms-next, columnAt}
+use Rattle.operator_values.specs.RowValue.{withTerms, withTerms-none, withTerms-next, columnAt}
 use Rattle.operator_values.specs.Reading.{held}
 use Rattle.operator_values.proofs.add_terms.Statement.{statement}
 use Rattle.operator_values.proofs.add_terms.Tie as tie
@@ -24,7 +24,7 @@ start q = q .before .before .before .before .before .before .before .before
 
 -- a place of the row
 place : (c : tie.In-loop Inv-loop μ-loop) → c .before .loop .b < start (c .before) .args .e
-place c = c .loop-test .taken
+place c = omega (arith, c .loop-test .taken)
 
 mul-x : tie.Need-mul-x Inv-loop μ-loop
 mul-x c = search needs
