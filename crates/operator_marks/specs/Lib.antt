@@ -1,0 +1,3 @@
+-- The requests of an operator, and words that mark more pairs than before.
+pub mod OperatorRequests
+pub mod Marking

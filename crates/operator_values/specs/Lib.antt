@@ -1,0 +1,6 @@
+-- The values of an operator's rows.
+pub mod RowValue
+pub mod Reading
+pub mod Filled
+pub mod ExactRow
+pub mod Examples
