@@ -90,7 +90,7 @@ module _ (x : Selection) (lent : Lent) (A : Accepted x (roomOf lent)) where
 
   module _ (steps : List Step) (passed : Passed steps) {rs rr : List ℕ} {rv : List Float} {s : List ℕ} (L : ResultLists steps x lent rs rr rv s) where
     -- within the limit, the lookup finds the set's entries
-    found-entries : selectedSize x ≤ x .limit → (row col : ℕ) → found x rs rr rv row col ≡ readBack (x .n) (selectedSet x) (selectedTable x) row col
+    pub found-entries : selectedSize x ≤ x .limit → (row col : ℕ) → found x rs rr rv row col ≡ readBack (x .n) (selectedSet x) (selectedTable x) row col
     found-entries h row col =
         ap (λ (l : List ℕ). lookup (take (x .n + 1) l) rr rv row col) (passed-starts steps x lent passed L)
         ∙ ap (λ (l : List ℕ). lookup l rr rv row col) (front-starts x lent h)

@@ -1,2 +1,3 @@
 -- The starred cases of document 01.
 pub mod Table
+pub mod Values

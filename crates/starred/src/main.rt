@@ -9,6 +9,12 @@ use floor::Stabilized;
 use floor::VarianceFloor;
 use floor::stabilize_variances;
 use replies::checked_number;
+use starred_values::f2_entry;
+use starred_values::is_absent;
+use starred_values::is_nan;
+use starred_values::is_refused;
+use starred_values::is_value;
+use starred_values::one_entry;
 
 // Permutation 2 0 1 has inverse 1 2 0.
 fn inverse() {
@@ -152,6 +158,21 @@ fn limits() {
     expect(counted(f2(&[0, 1], &[0, 1], 0), 2, 1, 3, false));
 }
 
+// F2 with (0,0): Z(0,0) = 5, Z(1,0) = -2, Z(1,1) = 1; with (1,1) the lookup of (0,0) gives 8.
+fn values_of_f2() {
+    expect(is_value(f2_entry(&[0], &[0], 0, 0), 5.0));
+    expect(is_value(f2_entry(&[0], &[0], 1, 0), -2.0));
+    expect(is_value(f2_entry(&[0], &[0], 1, 1), 1.0));
+    expect(is_absent(f2_entry(&[1], &[1], 0, 0)));
+}
+
+// One column: with only the value 0.0 it gives 6; the diagonal 2.0 gives 0.25; NaN is accepted and gives NaN.
+fn values_of_one_column() {
+    expect(is_refused(one_entry(0.0), 6));
+    expect(is_value(one_entry(2.0), 0.25));
+    expect(is_nan(one_entry(0.0 / 0.0)));
+}
+
 fn main() {
     inverse();
     repeated();
@@ -159,4 +180,6 @@ fn main() {
     closed_sets_of_f3();
     limits();
     floored();
+    values_of_f2();
+    values_of_one_column();
 }

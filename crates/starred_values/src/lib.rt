@@ -1,0 +1,117 @@
+// Selected entries as document 01's starred cases ask for them, of F2 and of a factor of one column, and tests of the replies.
+ghost use mathlib.Core.Path.{_≡_};
+ghost use Rattle.starred_values.specs.Answer.{answerOf, isValue, isNan, isAbsent, isRefused, F2-entry, one-entry};
+use inverse::Entry;
+use replies::refusal_number;
+use selected_entry::SelectedEntry;
+use selected_entry::selected_inverse_entry_with_limit;
+
+// The entry of F2 at a row and a column, for the requests and limit 3.
+pub fn f2_entry(
+    request_rows: &[u32],
+    request_columns: &[u32],
+    row: usize,
+    col: usize,
+) -> SelectedEntry
+    ensures { λ r. ⌜ answerOf r ≡ F2-entry (now («request_rows» .entry)) (now («request_columns» .entry)) row col ⌝ }
+{
+    let mut result_starts = [7u32; 3];
+    let mut result_rows = [7u32; 3];
+    let mut result_values = [7.0f64; 3];
+    let mut scratch = [7u32; 14];
+    selected_inverse_entry_with_limit(
+        2,
+        &[0, 2, 3],
+        &[0, 1, 1],
+        &[1.0, 2.0, 1.0],
+        2,
+        request_rows,
+        request_columns,
+        3,
+        row,
+        col,
+        &mut result_starts,
+        &mut result_rows,
+        &mut result_values,
+        &mut scratch,
+    )
+}
+
+// The entry of a factor of one column, which stores this diagonal alone, for the request (0,0) and limit 3.
+pub fn one_entry(diagonal: f64) -> SelectedEntry
+    ensures { λ r. ⌜ answerOf r ≡ one-entry diagonal ⌝ }
+{
+    let mut result_starts = [7u32; 2];
+    let mut result_rows = [7u32; 1];
+    let mut result_values = [7.0f64; 1];
+    let mut scratch = [7u32; 6];
+    selected_inverse_entry_with_limit(
+        1,
+        &[0, 1],
+        &[0],
+        &[diagonal],
+        1,
+        &[0],
+        &[0],
+        3,
+        0,
+        0,
+        &mut result_starts,
+        &mut result_rows,
+        &mut result_values,
+        &mut scratch,
+    )
+}
+
+// Whether the lookup found this value.
+pub fn is_value(e: SelectedEntry, v: f64) -> bool
+    ensures { λ r. ⌜ r ≡ isValue (answerOf e) v ⌝ }
+{
+    match e {
+        SelectedEntry::Found(entry) => match entry {
+            Entry::Value(z) => z == v,
+            Entry::Refused(_) => false,
+        },
+        SelectedEntry::ClosureTooLarge => false,
+        SelectedEntry::Refused(_) => false,
+    }
+}
+
+// Whether the lookup found NaN.
+pub fn is_nan(e: SelectedEntry) -> bool
+    ensures { λ r. ⌜ r ≡ isNan (answerOf e) ⌝ }
+{
+    match e {
+        SelectedEntry::Found(entry) => match entry {
+            Entry::Value(z) => z != z,
+            Entry::Refused(_) => false,
+        },
+        SelectedEntry::ClosureTooLarge => false,
+        SelectedEntry::Refused(_) => false,
+    }
+}
+
+// Whether the lookup gave 8.
+pub fn is_absent(e: SelectedEntry) -> bool
+    ensures { λ r. ⌜ r ≡ isAbsent (answerOf e) ⌝ }
+{
+    match e {
+        SelectedEntry::Found(entry) => match entry {
+            Entry::Value(_) => false,
+            Entry::Refused(why) => refusal_number(why) == 8,
+        },
+        SelectedEntry::ClosureTooLarge => false,
+        SelectedEntry::Refused(_) => false,
+    }
+}
+
+// Whether the call was refused with this number.
+pub fn is_refused(e: SelectedEntry, number: u32) -> bool
+    ensures { λ r. ⌜ r ≡ isRefused (answerOf e) number ⌝ }
+{
+    match e {
+        SelectedEntry::Found(_) => false,
+        SelectedEntry::ClosureTooLarge => false,
+        SelectedEntry::Refused(why) => refusal_number(why) == number,
+    }
+}
