@@ -52,7 +52,8 @@ pub also-none : {n : ℕ} {w : List ℕ} {count : ℕ} (S : ℕ → ℕ → Bool
 also-none {n} {w} S e M = pairs-cong (λ r c h l. or-none (columnMarking n w r c) ∙ ap (λ (b : Bool). columnMarking n w r c || b) (sym (e r c))) (marked-self M)
 
 -- one pair more, put in order
-pub also-insert : {n a b : ℕ} {w : List ℕ} {count : ℕ} {w′ : List ℕ} {count′ : ℕ} → Marked n w count → Inserted n a b w count w′ count′ → AlsoMarked n (ordered a b) w w′ count′
+pub also-insert : {n a b : ℕ} {w : List ℕ} {count : ℕ} {w′ : List ℕ} {count′ : ℕ} → Marked n w count → Inserted n a b w count w′ count′
+    → AlsoMarked n (ordered a b) w w′ count′
 also-insert M I = pairs-insert (marked-self M) I
 
 module _ {n : ℕ} {w w′ w″ : List ℕ} {k m : ℕ} (test : ℕ → ℕ → ℕ → Bool) (j : ℕ) where
@@ -74,8 +75,8 @@ module _ {n : ℕ} {w w′ w″ : List ℕ} {k m : ℕ} (test : ℕ → ℕ → 
       (pairs-after M A)
 
 -- the columns of an operator's row
-pub row-input : {n pairs : ℕ} {rowStarts columns : List ℕ} {weights : ℕ} {w : List ℕ} {count : ℕ} → n ≤ maxDimension → pairs ≡ pairTotal n → OperatorRows n rowStarts columns weights
-    → Marked n w count → (i : ℕ) → i < operatorRows rowStarts → RowInput n pairs columns (start rowStarts i) (start rowStarts (i + 1)) w count
+pub row-input : {n pairs : ℕ} {rowStarts columns : List ℕ} {weights : ℕ} {w : List ℕ} {count : ℕ} → n ≤ maxDimension
+    → pairs ≡ pairTotal n → OperatorRows n rowStarts columns weights → Marked n w count → (i : ℕ) → i < operatorRows rowStarts → RowInput n pairs columns (start rowStarts i) (start rowStarts (i + 1)) w count
 row-input small all O M i h = record {
   small = small;
   all = all;
@@ -86,8 +87,8 @@ row-input small all O M i h = record {
 }
 
 -- a part of the columns, with the words of a later turn
-pub row-part : {n pairs : ℕ} {columns : List ℕ} {s e : ℕ} {w : List ℕ} {count : ℕ} {w′ : List ℕ} {count′ : ℕ} → RowInput n pairs columns s e w count → Marked n w′ count′ → (k : ℕ) → s ≤ k
-    → k ≤ e → RowInput n pairs columns s k w′ count′
+pub row-part : {n pairs : ℕ} {columns : List ℕ} {s e : ℕ} {w : List ℕ} {count : ℕ} {w′ : List ℕ} {count′ : ℕ} → RowInput n pairs columns s e w count
+    → Marked n w′ count′ → (k : ℕ) → s ≤ k → k ≤ e → RowInput n pairs columns s k w′ count′
 row-part R M k lo hi = record { small = R .small; all = R .all; ordered = lo; stored = omega (arith, R .stored); inside = R .inside; marked = M }
 
 -- two columns, to be inserted as a pair

@@ -26,7 +26,8 @@ pub operatorRequested-pair : (rowStarts columns : List ℕ) (r c : ℕ) → c �
 operatorRequested-pair rowStarts columns r c h = ap (λ (b : Bool). b && operatorPair rowStarts columns r c) (le-leb c r h)
 
 -- they are in order, and below n
-pub operatorRequested-ranged : {n : ℕ} {rowStarts columns : List ℕ} {weights : ℕ} → OperatorRows n rowStarts columns weights → Ranged n (operatorRequested rowStarts columns)
+pub operatorRequested-ranged : {n : ℕ} {rowStarts columns : List ℕ} {weights : ℕ} → OperatorRows n rowStarts columns weights
+    → Ranged n (operatorRequested rowStarts columns)
 unfolding operatorPair
 operatorRequested-ranged {n} {rowStarts} {columns} O = record {
   ordered = λ r c e. leb-true c r (and-left (leb c r) _ e);
@@ -35,7 +36,8 @@ operatorRequested-ranged {n} {rowStarts} {columns} O = record {
       let s = start rowStarts (f .0) in
       let t = start rowStarts (f .0 + 1) in
       let g = anyIn-found (λ p. eqb (getD columns p 0) r) s t (and-left (occurs columns s t r) (occurs columns s t c) (f .2)) in
-      omega (arith, eqb-true (getD columns (g .0) 0) r (g .3), O .inside (g .0) (omega (arith, f .1, g .2, starts-end (O .starts-rise) (f .0 + 1) (omega (arith, f .1)))));
+      let end = starts-end (O .starts-rise) (f .0 + 1) (omega (arith, f .1)) in
+      omega (arith, eqb-true (getD columns (g .0) 0) r (g .3), O .inside (g .0) (omega (arith, g .2)));
 }
 
 -- two places of one row make a request

@@ -31,8 +31,8 @@ pub record OperatorReading (rowStarts columns : List ℕ) (weights : ℕ) (start
   pub fits : operatorRows rowStarts ≤ room
 
 -- one of its rows
-pub row-reading : {rowStarts columns : List ℕ} {weights : ℕ} {starts rows : List ℕ} {values room : ℕ} → OperatorReading rowStarts columns weights starts rows values room → (i : ℕ)
-    → i < operatorRows rowStarts → RowReading columns weights starts rows values (start rowStarts i) (start rowStarts (i + 1))
+pub row-reading : {rowStarts columns : List ℕ} {weights : ℕ} {starts rows : List ℕ} {values room : ℕ}
+    → OperatorReading rowStarts columns weights starts rows values room → (i : ℕ) → i < operatorRows rowStarts → RowReading columns weights starts rows values (start rowStarts i) (start rowStarts (i + 1))
 row-reading R i h =
     let O = R .operator in
     let end = starts-end (O .starts-rise) (i + 1) (omega arith) in

@@ -37,7 +37,8 @@ insert-closure-pair-requires c κs =
     let l = t .before .loop in
     let s = start (t .before) in
     subst₂ (λ (x y : ℕ). Insert (s .args .n) (s .args .pairs) x y (l .scratch) (l .count)) (sym (t .before .before .at .ensures)) (sym (d .at2 .ensures))
-    (row-insert (row-part (s .pre) (l .inv .2 .marked) (s .args .a + 1) (s .pre .ordered) (omega arith)) (s .args .a) (l .b) (omega arith) (omega (arith, t .loop-test .taken)))
+    (row-insert (row-part (s .pre) (l .inv .2 .marked) (s .args .a + 1) (s .pre .ordered) (omega arith))
+    (s .args .a) (l .b) (omega arith) (omega (arith, t .loop-test .taken)))
 
 add-b : tie.Need-add-b Inv-loop μ-loop
 add-b c =

@@ -90,8 +90,8 @@ returns c =
     let l = c .before .loop in
     let a = start (c .before) .args in
     let e : l .b ≡ a .e = omega (arith, c .loop-test .left, l .inv .1) in
-    l .inv .2
-    ∙ ap (λ (k : ℕ). withTerms floats (columnAt (now (a .columns))) (value (now (a .weights))) (held (now (a .starts)) (now (a .rows)) (now (a .values))) (a .s) k (a .a) (a .first)) e
+    let Z = held (now (a .starts)) (now (a .rows)) (now (a .values)) in
+    l .inv .2 ∙ ap (λ (k : ℕ). withTerms floats (columnAt (now (a .columns))) (value (now (a .weights))) Z (a .s) k (a .a) (a .first)) e
 
 pub add-terms-spec : {M : Type 1} → statement M
 add-terms-spec =

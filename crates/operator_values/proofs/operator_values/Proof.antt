@@ -85,7 +85,8 @@ loop-again c =
     let f = row-value-at s in
     let Z = held (now (a .starts)) (now (a .rows)) (now (a .values)) in
     let made : c .row-value .result ≡ f (l .i) =
-    c .row-value .ensures ∙ ap₂ (λ (x y : ℕ). rowValue floats (columnAt (now (a .columns))) (value (now (a .weights))) Z x y) (d .before .at .ensures) (d .at2 .ensures) in (
+    c .row-value .ensures
+    ∙ ap₂ (λ (x y : ℕ). rowValue floats (columnAt (now (a .columns))) (value (now (a .weights))) Z x y) (d .before .at .ensures) (d .at2 .ensures) in (
       omega (arith, row t),
       length-set (l .output) (l .i) (c .row-value .result) ∙ l .inv .1,
       ap (set (l .output) (l .i)) made

@@ -28,7 +28,9 @@ inside c =
     let s = start (c .before .before) in
     let a = s .args in
     let C = s .pre .0 .column (min (a .r) (a .c)) (omega (arith, s .pre .1)) in
-    let S = placeIn-stands (a .rows .now) (max (a .r) (a .c)) (columns.start (a .starts .now) (min (a .r) (a .c))) (columns.start (a .starts .now) (min (a .r) (a .c) + 1)) (C .ascends) (c .p .given .0 .0) (found c) in
+    let first = columns.start (a .starts .now) (min (a .r) (a .c)) in
+    let last = columns.start (a .starts .now) (min (a .r) (a .c) + 1) in
+    let S = placeIn-stands (a .rows .now) (max (a .r) (a .c)) first last (C .ascends) (c .p .given .0 .0) (found c) in
     omega (arith, S .below, C .weighed)
 
 find-entry-requires : tie.Need-find-entry-requires
