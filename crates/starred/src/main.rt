@@ -1,16 +1,15 @@
 // Document 01's starred cases, called and compared; that each comparison holds is proved from the contracts and specs/Table.antt.
-ghost use mathlib.Core.Path.{_≡_};
-ghost use Rattle.closed_set.specs.Requests.{Requests};
-ghost use Rattle.starred.specs.Table.{F2, F3, countedOf};
 use check::expect;
-use diagnostics::SelectedInverseDiagnostics;
 use replies::checked_number;
-use starred_values::f2_entry;
-use starred_values::is_absent;
-use starred_values::is_nan;
-use starred_values::is_refused;
-use starred_values::is_value;
-use starred_values::one_entry;
+use starred_calls::counted;
+use starred_calls::f2;
+use starred_calls::f2_entry;
+use starred_calls::f3;
+use starred_calls::is_absent;
+use starred_calls::is_nan;
+use starred_calls::is_refused;
+use starred_calls::is_value;
+use starred_calls::one_entry;
 
 // Permutation 2 0 1 has inverse 1 2 0.
 fn inverse() {
@@ -31,77 +30,6 @@ fn repeated() {
     expect(list[0] == 7);
     expect(list[1] == 7);
     expect(list[2] == 7);
-}
-
-// The diagnosis of F2.
-fn f2(request_rows: &[u32], request_columns: &[u32], limit: usize) -> SelectedInverseDiagnostics
-    requires { ⌜ Requests 2 (now «request_rows») (now «request_columns») ⌝ }
-    ensures { λ r. ⌜ r ≡ F2 (now («request_rows» .entry)) (now («request_columns» .entry)) limit ⌝ }
-{
-    let mut scratch = [7u32; 6];
-    let requested_pairs = request_marks::mark_requests(
-        2,
-        request_rows,
-        request_columns,
-        &mut scratch,
-    );
-    closure::diagnose(
-        2,
-        &[0, 2, 3],
-        &[0, 1, 1],
-        &[1.0, 2.0, 1.0],
-        requested_pairs,
-        limit,
-        &mut scratch,
-    )
-}
-
-// The diagnosis of F3.
-fn f3(request_rows: &[u32], request_columns: &[u32], limit: usize) -> SelectedInverseDiagnostics
-    requires { ⌜ Requests 3 (now «request_rows») (now «request_columns») ⌝ }
-    ensures { λ r. ⌜ r ≡ F3 (now («request_rows» .entry)) (now («request_columns» .entry)) limit ⌝ }
-{
-    let mut scratch = [7u32; 12];
-    let requested_pairs = request_marks::mark_requests(
-        3,
-        request_rows,
-        request_columns,
-        &mut scratch,
-    );
-    closure::diagnose(
-        3,
-        &[0, 3, 4, 5],
-        &[0, 1, 2, 1, 2],
-        &[1.0, 2.0, 3.0, 1.0, 1.0],
-        requested_pairs,
-        limit,
-        &mut scratch,
-    )
-}
-
-// Whether a diagnosis has these counts and is complete or not.
-fn counted(
-    d: SelectedInverseDiagnostics,
-    requested: usize,
-    closure: usize,
-    factor: usize,
-    complete: bool,
-) -> bool
-    ensures { λ r. ⌜ r ≡ countedOf d requested closure factor complete ⌝ }
-{
-    if d.requested_pairs != requested {
-        return false;
-    }
-    if d.closure_pairs != closure {
-        return false;
-    }
-    if d.factor_pairs != factor {
-        return false;
-    }
-    if complete {
-        return d.is_complete();
-    }
-    !d.is_complete()
 }
 
 // F2 with (0,0) at limits 3 and 2, (1,0), (1,1), (0,1) with (1,0), and no requests at limit 0.

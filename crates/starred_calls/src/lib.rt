@@ -1,10 +1,104 @@
-// Selected entries as document 01's starred cases ask for them, of F2 and of a factor of one column, and tests of the replies.
+// Calls for selected entries as document 01's starred cases make them, of F2, F3 and a factor of one column, and tests of the replies.
 ghost use mathlib.Core.Path.{_≡_};
-ghost use Rattle.starred_values.specs.Answer.{answerOf, isValue, isNan, isAbsent, isRefused, F2-entry, one-entry};
+ghost use Rattle.selected.specs.Selected.{selectedReplyOf};
+ghost use Rattle.starred_calls.specs.Counts.{F2, F3, showsOf, countedOf};
+ghost use Rattle.starred_calls.specs.Answer.{answerOf, isValue, isNan, isAbsent, isRefused, F2-entry, one-entry};
+use diagnostics::SelectedInverseDiagnostics;
 use inverse::Entry;
 use replies::refusal_number;
+use selected::Selected;
+use selected::selected_inverse_entries_with_limit;
 use selected_entry::SelectedEntry;
 use selected_entry::selected_inverse_entry_with_limit;
+
+// The call for F2.
+pub fn f2(request_rows: &[u32], request_columns: &[u32], limit: usize) -> Selected
+    ensures { λ r. ⌜ selectedReplyOf r ≡ F2 (now («request_rows» .entry)) (now («request_columns» .entry)) limit ⌝ }
+{
+    let mut result_starts = [7u32; 3];
+    let mut result_rows = [7u32; 3];
+    let mut result_values = [7.0f64; 3];
+    let mut scratch = [7u32; 14];
+    selected_inverse_entries_with_limit(
+        2,
+        &[0, 2, 3],
+        &[0, 1, 1],
+        &[1.0, 2.0, 1.0],
+        2,
+        request_rows,
+        request_columns,
+        limit,
+        &mut result_starts,
+        &mut result_rows,
+        &mut result_values,
+        &mut scratch,
+    )
+}
+
+// The call for F3.
+pub fn f3(request_rows: &[u32], request_columns: &[u32], limit: usize) -> Selected
+    ensures { λ r. ⌜ selectedReplyOf r ≡ F3 (now («request_rows» .entry)) (now («request_columns» .entry)) limit ⌝ }
+{
+    let mut result_starts = [7u32; 4];
+    let mut result_rows = [7u32; 6];
+    let mut result_values = [7.0f64; 6];
+    let mut scratch = [7u32; 24];
+    selected_inverse_entries_with_limit(
+        3,
+        &[0, 3, 4, 5],
+        &[0, 1, 2, 1, 2],
+        &[1.0, 2.0, 3.0, 1.0, 1.0],
+        3,
+        request_rows,
+        request_columns,
+        limit,
+        &mut result_starts,
+        &mut result_rows,
+        &mut result_values,
+        &mut scratch,
+    )
+}
+
+// Whether a diagnosis has these counts and is complete or not.
+fn shows(
+    d: SelectedInverseDiagnostics,
+    requested: usize,
+    closure: usize,
+    factor: usize,
+    complete: bool,
+) -> bool
+    ensures { λ r. ⌜ r ≡ showsOf d requested closure factor complete ⌝ }
+{
+    if d.requested_pairs != requested {
+        return false;
+    }
+    if d.closure_pairs != closure {
+        return false;
+    }
+    if d.factor_pairs != factor {
+        return false;
+    }
+    if complete {
+        return d.is_complete();
+    }
+    !d.is_complete()
+}
+
+// Whether a call is answered with these counts and a status that is Complete or not.
+pub fn counted(
+    reply: Selected,
+    requested: usize,
+    closure: usize,
+    factor: usize,
+    complete: bool,
+) -> bool
+    ensures { λ r. ⌜ r ≡ countedOf (selectedReplyOf reply) requested closure factor complete ⌝ }
+{
+    match reply {
+        Selected::Answered(d) => shows(d, requested, closure, factor, complete),
+        Selected::Refused(_) => false,
+    }
+}
 
 // The entry of F2 at a row and a column, for the requests and limit 3.
 pub fn f2_entry(
