@@ -25,7 +25,7 @@ use Rattle.selection.specs.Selection.{roomSteps}
 use Rattle.selection.specs.Call.{selectedSteps}
 use Rattle.closure.specs.Closure.{closureOf}
 use Rattle.closure.specs.Diagnosis.{diagnosisOf}
-use Rattle.starred_calls.specs.Counts.{F2, F3}
+use Rattle.starred_calls.specs.Counts.{F2, F3, NoColumns}
 
 -- ---- Permutation 2 0 1 has inverse 1 2 0
 
@@ -51,7 +51,7 @@ pub repeated-untouched : after (invertSteps (0 ∷ 0 ∷ 9 ∷ []) 3) (overwrite
 unfolding after first each any overwrite inverseOf tabulate placeFrom
 repeated-untouched = refl
 
--- ---- the calls for F2 and F3: requested pairs, closure pairs, factor pairs, limit, status
+-- ---- the calls for F2, F3 and no columns: requested pairs, closure pairs, factor pairs, limit, status
 
 pub f2-first : F2 (0 ∷ []) (0 ∷ []) 3 ≡ answered (diagnosis 1 3 3 3 Complete)
 unfolding any anyIn sumTo picked select cellCount ofInt ofBits ne le factorPairs reach member requested closureOf diagnosisOf
@@ -116,9 +116,10 @@ unfolding any anyIn sumTo picked select cellCount ofInt ofBits ne le factorPairs
 f3-limited = refl
 
 -- no columns: Complete, and the ratio 0.0
-pub none-none : diagnosisOf 0 (0 ∷ []) [] [] (requested [] []) 3 ≡ diagnosis 0 0 0 3 Complete
-unfolding any sumTo picked select cellCount ofInt ofBits ne factorPairs reach member requested closureOf diagnosisOf
-none-none = refl
+pub none-first : NoColumns 3 ≡ answered (diagnosis 0 0 0 3 Complete)
+unfolding any anyIn sumTo picked select cellCount ofInt ofBits ne le factorPairs reach member requested closureOf diagnosisOf
+    first pairTotal boundSteps brokenSteps startsSteps rowsSteps columnSteps requestSteps diagonalSteps roomSteps selectedSteps
+none-first = refl
 
 pub none-ratio : ratioOf 0 0 ≡ f0
 unfolding ratioOf div ofInt ofBits

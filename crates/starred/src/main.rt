@@ -1,14 +1,16 @@
-// Document 01's starred cases, called and compared; that each comparison holds is proved from the contracts and specs/Table.antt.
+// Document 01's starred cases, called and compared; that each comparison holds is proved from the contracts and the table in specs/.
 use check::expect;
 use replies::checked_number;
 use starred_calls::counted;
 use starred_calls::f2;
 use starred_calls::f2_entry;
 use starred_calls::f3;
+use starred_calls::has_ratio;
 use starred_calls::is_absent;
 use starred_calls::is_nan;
 use starred_calls::is_refused;
 use starred_calls::is_value;
+use starred_calls::no_columns;
 use starred_calls::one_entry;
 
 // Permutation 2 0 1 has inverse 1 2 0.
@@ -48,6 +50,12 @@ fn closed_sets_of_f3() {
     expect(counted(f3(&[0], &[0], 5), 1, 6, 5, false));
 }
 
+// No columns and no requests: Complete, and the ratio is 0.0.
+fn closed_set_of_no_columns() {
+    expect(counted(no_columns(3), 0, 0, 0, true));
+    expect(has_ratio(no_columns(3), 0.0));
+}
+
 // F2 at limits 0 and 2^32 - 1, with a pair requested twice, and with more requests than the limit.
 fn limits() {
     expect(counted(f2(&[0], &[0], 0), 1, 1, 3, false));
@@ -76,6 +84,7 @@ fn main() {
     repeated();
     closed_sets_of_f2();
     closed_sets_of_f3();
+    closed_set_of_no_columns();
     limits();
     values_of_f2();
     values_of_one_column();

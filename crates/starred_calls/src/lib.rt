@@ -1,7 +1,7 @@
-// Calls for selected entries as document 01's starred cases make them, of F2, F3 and a factor of one column, and tests of the replies.
+// Calls for selected entries as document 01's starred cases make them, of F2, F3 and factors of one column and of none, and tests of the replies.
 ghost use mathlib.Core.Path.{_≡_};
 ghost use Rattle.selected.specs.Selected.{selectedReplyOf};
-ghost use Rattle.starred_calls.specs.Counts.{F2, F3, showsOf, countedOf};
+ghost use Rattle.starred_calls.specs.Counts.{F2, F3, NoColumns, showsOf, countedOf, hasRatio};
 ghost use Rattle.starred_calls.specs.Answer.{answerOf, isValue, isNan, isAbsent, isRefused, F2-entry, one-entry};
 use diagnostics::SelectedInverseDiagnostics;
 use inverse::Entry;
@@ -59,6 +59,30 @@ pub fn f3(request_rows: &[u32], request_columns: &[u32], limit: usize) -> Select
     )
 }
 
+// The call for a factor without columns, and no requests.
+pub fn no_columns(limit: usize) -> Selected
+    ensures { λ r. ⌜ selectedReplyOf r ≡ NoColumns limit ⌝ }
+{
+    let mut result_starts = [7u32; 1];
+    let mut result_rows = [7u32; 1];
+    let mut result_values = [7.0f64; 1];
+    let mut scratch = [7u32; 1];
+    selected_inverse_entries_with_limit(
+        0,
+        &[0],
+        &[],
+        &[],
+        0,
+        &[],
+        &[],
+        limit,
+        &mut result_starts,
+        &mut result_rows,
+        &mut result_values,
+        &mut scratch,
+    )
+}
+
 // Whether a diagnosis has these counts and is complete or not.
 fn shows(
     d: SelectedInverseDiagnostics,
@@ -96,6 +120,16 @@ pub fn counted(
 {
     match reply {
         Selected::Answered(d) => shows(d, requested, closure, factor, complete),
+        Selected::Refused(_) => false,
+    }
+}
+
+// Whether a call is answered with this ratio.
+pub fn has_ratio(reply: Selected, ratio: f64) -> bool
+    ensures { λ r. ⌜ r ≡ hasRatio (selectedReplyOf reply) ratio ⌝ }
+{
+    match reply {
+        Selected::Answered(d) => d.closure_over_factor == ratio,
         Selected::Refused(_) => false,
     }
 }
