@@ -2,11 +2,11 @@
 -- Assumes nothing.
 use Prim.Native.Nat.{ℕ}
 use mathlib.Core.Path.{_≡_, refl}
-use mathlib.Core.List.{List, [], _∷_}
-use mathlib.Core.Bool.{Bool, true, false, not, _&&_}
+use mathlib.Core.List.{[], _∷_}
+use mathlib.Core.Bool.{Bool, false, _&&_}
 use lib.Dec.{eqb}
-use lib.Ieee.{Float, div, ofInt, ofBits, eq, ne}
-use Rattle.lists.specs.Test.{any}
+use lib.Ieee.{Float, div, ofInt, ofBits, eq, ne, le}
+use Rattle.lists.specs.Test.{any, anyIn}
 use Rattle.lists.specs.Tabulate.{tabulate}
 use Rattle.lists.specs.Overwrite.{overwrite}
 use Rattle.lists.specs.Place.{placeFrom}
@@ -16,17 +16,23 @@ use Rattle.lists.specs.Sum.{sumTo}
 use Rattle.lists.specs.Select.{picked, select}
 use Rattle.lists.specs.Cells.{cellCount}
 use Rattle.columns.specs.Kept.{f0, factorPairs}
+use Rattle.columns.specs.Columns.{boundSteps, brokenSteps, startsSteps, rowsSteps, columnSteps}
+use Rattle.columns.specs.Diagonal.{diagonalSteps}
 use Rattle.floor.specs.declared.StabilizedVariance.{StabilizedVariance}
 use Rattle.floor.specs.Floor.{floorSteps, floorOf, floored, stabilizedOf}
 use Rattle.floor.specs.Examples.{half, variances, worked-reply, worked-output}
-use Rattle.columns.specs.Examples.{whole, F2-starts, F2-rows, F2-values, F3-starts, F3-rows, F3-values}
+use Rattle.columns.specs.Examples.{whole}
 use Rattle.closed_set.specs.ClosedSet.{reach, member}
 use Rattle.closed_set.specs.Requests.{requested}
 use Rattle.diagnostics.specs.declared.SelectedInverseStatus.the-variants.{Complete, ClosureTooLarge}
-use Rattle.diagnostics.specs.declared.SelectedInverseDiagnostics.{SelectedInverseDiagnostics}
-use Rattle.diagnostics.specs.Diagnosis.{ratioOf, diagnosis, completeOf}
+use Rattle.diagnostics.specs.Diagnosis.{ratioOf, diagnosis}
+use Rattle.pairs.specs.Pair.{pairTotal}
+use Rattle.requests.specs.Requests.{requestSteps}
+use Rattle.selection.specs.Selection.{roomSteps}
+use Rattle.selection.specs.Call.{selectedSteps}
 use Rattle.closure.specs.Closure.{closureOf}
 use Rattle.closure.specs.Diagnosis.{diagnosisOf}
+use Rattle.starred_calls.specs.Counts.{F2, F3, NoColumns}
 
 -- ---- Permutation 2 0 1 has inverse 1 2 0
 
@@ -66,79 +72,75 @@ abbrev pub stabilizedAs : Reply StabilizedVariance → Float → ℕ → Bool
 stabilizedAs (answered v) floor hits = eqb (v .«floor_hits») hits && eq (v .floor) floor
 stabilizedAs (refused k) floor hits = false
 
--- ---- the closed set and the counts: requested pairs, closure pairs, factor pairs, limit, status
+-- ---- the calls for F2, F3 and no columns: requested pairs, closure pairs, factor pairs, limit, status
 
--- the diagnosis of F2 and of F3 with requests and a limit
-abbrev pub F2 : List ℕ → List ℕ → ℕ → SelectedInverseDiagnostics
-F2 rs cs = diagnosisOf 2 F2-starts F2-rows F2-values (requested rs cs)
-
-abbrev pub F3 : List ℕ → List ℕ → ℕ → SelectedInverseDiagnostics
-F3 rs cs = diagnosisOf 3 F3-starts F3-rows F3-values (requested rs cs)
-
--- the test has that outcome
-abbrev pub agrees : Bool → Bool → Bool
-agrees true b = b
-agrees false b = not b
-
--- whether a diagnosis has these counts and is complete or not
-abbrev pub countedOf : SelectedInverseDiagnostics → ℕ → ℕ → ℕ → Bool → Bool
-countedOf d requested closure factor complete =
-    eqb (d .«requested_pairs») requested && (eqb (d .«closure_pairs») closure && (eqb (d .«factor_pairs») factor && agrees complete (completeOf (d .status))))
-
-pub f2-first : F2 (0 ∷ []) (0 ∷ []) 3 ≡ diagnosis 1 3 3 3 Complete
-unfolding any sumTo picked select cellCount ofInt ofBits ne factorPairs reach member requested closureOf diagnosisOf
+pub f2-first : F2 (0 ∷ []) (0 ∷ []) 3 ≡ answered (diagnosis 1 3 3 3 Complete)
+unfolding any anyIn sumTo picked select cellCount ofInt ofBits ne le factorPairs reach member requested closureOf diagnosisOf
+    first pairTotal boundSteps brokenSteps startsSteps rowsSteps columnSteps requestSteps diagonalSteps roomSteps selectedSteps
 f2-first = refl
 
-pub f2-limited : F2 (0 ∷ []) (0 ∷ []) 2 ≡ diagnosis 1 3 3 2 ClosureTooLarge
-unfolding any sumTo picked select cellCount ofInt ofBits ne factorPairs reach member requested closureOf diagnosisOf
+pub f2-limited : F2 (0 ∷ []) (0 ∷ []) 2 ≡ answered (diagnosis 1 3 3 2 ClosureTooLarge)
+unfolding any anyIn sumTo picked select cellCount ofInt ofBits ne le factorPairs reach member requested closureOf diagnosisOf
+    first pairTotal boundSteps brokenSteps startsSteps rowsSteps columnSteps requestSteps diagonalSteps roomSteps selectedSteps
 f2-limited = refl
 
-pub f2-below : F2 (1 ∷ []) (0 ∷ []) 3 ≡ diagnosis 1 2 3 3 Complete
-unfolding any sumTo picked select cellCount ofInt ofBits ne factorPairs reach member requested closureOf diagnosisOf
+pub f2-below : F2 (1 ∷ []) (0 ∷ []) 3 ≡ answered (diagnosis 1 2 3 3 Complete)
+unfolding any anyIn sumTo picked select cellCount ofInt ofBits ne le factorPairs reach member requested closureOf diagnosisOf
+    first pairTotal boundSteps brokenSteps startsSteps rowsSteps columnSteps requestSteps diagonalSteps roomSteps selectedSteps
 f2-below = refl
 
-pub f2-last : F2 (1 ∷ []) (1 ∷ []) 3 ≡ diagnosis 1 1 3 3 Complete
-unfolding any sumTo picked select cellCount ofInt ofBits ne factorPairs reach member requested closureOf diagnosisOf
+pub f2-last : F2 (1 ∷ []) (1 ∷ []) 3 ≡ answered (diagnosis 1 1 3 3 Complete)
+unfolding any anyIn sumTo picked select cellCount ofInt ofBits ne le factorPairs reach member requested closureOf diagnosisOf
+    first pairTotal boundSteps brokenSteps startsSteps rowsSteps columnSteps requestSteps diagonalSteps roomSteps selectedSteps
 f2-last = refl
 
-pub f2-repeated : F2 (0 ∷ 1 ∷ []) (1 ∷ 0 ∷ []) 3 ≡ diagnosis 1 2 3 3 Complete
-unfolding any sumTo picked select cellCount ofInt ofBits ne factorPairs reach member requested closureOf diagnosisOf
+pub f2-repeated : F2 (0 ∷ 1 ∷ []) (1 ∷ 0 ∷ []) 3 ≡ answered (diagnosis 1 2 3 3 Complete)
+unfolding any anyIn sumTo picked select cellCount ofInt ofBits ne le factorPairs reach member requested closureOf diagnosisOf
+    first pairTotal boundSteps brokenSteps startsSteps rowsSteps columnSteps requestSteps diagonalSteps roomSteps selectedSteps
 f2-repeated = refl
 
-pub f2-none : F2 [] [] 0 ≡ diagnosis 0 0 3 0 Complete
-unfolding any sumTo picked select cellCount ofInt ofBits ne factorPairs reach member requested closureOf diagnosisOf
+pub f2-none : F2 [] [] 0 ≡ answered (diagnosis 0 0 3 0 Complete)
+unfolding any anyIn sumTo picked select cellCount ofInt ofBits ne le factorPairs reach member requested closureOf diagnosisOf
+    first pairTotal boundSteps brokenSteps startsSteps rowsSteps columnSteps requestSteps diagonalSteps roomSteps selectedSteps
 f2-none = refl
 
 -- requests past the limit are all counted
-pub f2-many : F2 (0 ∷ 1 ∷ []) (0 ∷ 1 ∷ []) 0 ≡ diagnosis 2 1 3 0 ClosureTooLarge
-unfolding any sumTo picked select cellCount ofInt ofBits ne factorPairs reach member requested closureOf diagnosisOf
+pub f2-many : F2 (0 ∷ 1 ∷ []) (0 ∷ 1 ∷ []) 0 ≡ answered (diagnosis 2 1 3 0 ClosureTooLarge)
+unfolding any anyIn sumTo picked select cellCount ofInt ofBits ne le factorPairs reach member requested closureOf diagnosisOf
+    first pairTotal boundSteps brokenSteps startsSteps rowsSteps columnSteps requestSteps diagonalSteps roomSteps selectedSteps
 f2-many = refl
 
 -- limits at 0 and at 2^32 − 1, and one pair requested twice
-pub f2-zero : F2 (0 ∷ []) (0 ∷ []) 0 ≡ diagnosis 1 1 3 0 ClosureTooLarge
-unfolding any sumTo picked select cellCount ofInt ofBits ne factorPairs reach member requested closureOf diagnosisOf
+pub f2-zero : F2 (0 ∷ []) (0 ∷ []) 0 ≡ answered (diagnosis 1 1 3 0 ClosureTooLarge)
+unfolding any anyIn sumTo picked select cellCount ofInt ofBits ne le factorPairs reach member requested closureOf diagnosisOf
+    first pairTotal boundSteps brokenSteps startsSteps rowsSteps columnSteps requestSteps diagonalSteps roomSteps selectedSteps
 f2-zero = refl
 
-pub f2-unlimited : F2 (0 ∷ []) (0 ∷ []) 4294967295 ≡ diagnosis 1 3 3 4294967295 Complete
-unfolding any sumTo picked select cellCount ofInt ofBits ne factorPairs reach member requested closureOf diagnosisOf
+pub f2-unlimited : F2 (0 ∷ []) (0 ∷ []) 4294967295 ≡ answered (diagnosis 1 3 3 4294967295 Complete)
+unfolding any anyIn sumTo picked select cellCount ofInt ofBits ne le factorPairs reach member requested closureOf diagnosisOf
+    first pairTotal boundSteps brokenSteps startsSteps rowsSteps columnSteps requestSteps diagonalSteps roomSteps selectedSteps
 f2-unlimited = refl
 
-pub f2-twice : F2 (0 ∷ 0 ∷ []) (0 ∷ 0 ∷ []) 3 ≡ diagnosis 1 3 3 3 Complete
-unfolding any sumTo picked select cellCount ofInt ofBits ne factorPairs reach member requested closureOf diagnosisOf
+pub f2-twice : F2 (0 ∷ 0 ∷ []) (0 ∷ 0 ∷ []) 3 ≡ answered (diagnosis 1 3 3 3 Complete)
+unfolding any anyIn sumTo picked select cellCount ofInt ofBits ne le factorPairs reach member requested closureOf diagnosisOf
+    first pairTotal boundSteps brokenSteps startsSteps rowsSteps columnSteps requestSteps diagonalSteps roomSteps selectedSteps
 f2-twice = refl
 
-pub f3-first : F3 (0 ∷ []) (0 ∷ []) 6 ≡ diagnosis 1 6 5 6 Complete
-unfolding any sumTo picked select cellCount ofInt ofBits ne factorPairs reach member requested closureOf diagnosisOf
+pub f3-first : F3 (0 ∷ []) (0 ∷ []) 6 ≡ answered (diagnosis 1 6 5 6 Complete)
+unfolding any anyIn sumTo picked select cellCount ofInt ofBits ne le factorPairs reach member requested closureOf diagnosisOf
+    first pairTotal boundSteps brokenSteps startsSteps rowsSteps columnSteps requestSteps diagonalSteps roomSteps selectedSteps
 f3-first = refl
 
-pub f3-limited : F3 (0 ∷ []) (0 ∷ []) 5 ≡ diagnosis 1 6 5 5 ClosureTooLarge
-unfolding any sumTo picked select cellCount ofInt ofBits ne factorPairs reach member requested closureOf diagnosisOf
+pub f3-limited : F3 (0 ∷ []) (0 ∷ []) 5 ≡ answered (diagnosis 1 6 5 5 ClosureTooLarge)
+unfolding any anyIn sumTo picked select cellCount ofInt ofBits ne le factorPairs reach member requested closureOf diagnosisOf
+    first pairTotal boundSteps brokenSteps startsSteps rowsSteps columnSteps requestSteps diagonalSteps roomSteps selectedSteps
 f3-limited = refl
 
 -- no columns: Complete, and the ratio 0.0
-pub none-none : diagnosisOf 0 (0 ∷ []) [] [] (requested [] []) 3 ≡ diagnosis 0 0 0 3 Complete
-unfolding any sumTo picked select cellCount ofInt ofBits ne factorPairs reach member requested closureOf diagnosisOf
-none-none = refl
+pub none-first : NoColumns 3 ≡ answered (diagnosis 0 0 0 3 Complete)
+unfolding any anyIn sumTo picked select cellCount ofInt ofBits ne le factorPairs reach member requested closureOf diagnosisOf
+    first pairTotal boundSteps brokenSteps startsSteps rowsSteps columnSteps requestSteps diagonalSteps roomSteps selectedSteps
+none-first = refl
 
 pub none-ratio : ratioOf 0 0 ≡ f0
 unfolding ratioOf div ofInt ofBits

@@ -20,7 +20,7 @@ use Rattle.requests.specs.Requests.{requestSteps}
 use Rattle.entries.specs.Entries.{floatTable}
 use Rattle.selection.specs.Selection.{roomSteps}
 use Rattle.selection.specs.Call.{selectedSteps}
-use Rattle.starred_values.specs.Answer.{refusedWith, looked, entryAnswer, F2-entry, one-entry}
+use Rattle.starred_calls.specs.Answer.{refusedWith, looked, entryAnswer, F2-entry, one-entry}
 
 -- -2.0 and 0.25
 abbrev pub minus-two : Float

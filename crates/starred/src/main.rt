@@ -1,20 +1,23 @@
-// Document 01's starred cases, called and compared; that each comparison holds is proved from the contracts and specs/Table.antt.
+// Document 01's starred cases, called and compared; that each comparison holds is proved from the contracts and the table in specs/.
 ghost use mathlib.Core.Path.{_≡_};
-ghost use Rattle.closed_set.specs.Requests.{Requests};
-ghost use Rattle.starred.specs.Table.{F2, F3, countedOf, stabilizedAs};
+ghost use Rattle.starred.specs.Table.{stabilizedAs};
 ghost use Rattle.floor.specs.Floor.{stabilizedReply};
 use check::expect;
-use diagnostics::SelectedInverseDiagnostics;
 use floor::Stabilized;
 use floor::VarianceFloor;
 use floor::stabilize_variances;
 use replies::checked_number;
-use starred_values::f2_entry;
-use starred_values::is_absent;
-use starred_values::is_nan;
-use starred_values::is_refused;
-use starred_values::is_value;
-use starred_values::one_entry;
+use starred_calls::counted;
+use starred_calls::f2;
+use starred_calls::f2_entry;
+use starred_calls::f3;
+use starred_calls::has_ratio;
+use starred_calls::is_absent;
+use starred_calls::is_nan;
+use starred_calls::is_refused;
+use starred_calls::is_value;
+use starred_calls::no_columns;
+use starred_calls::one_entry;
 
 // Permutation 2 0 1 has inverse 1 2 0.
 fn inverse() {
@@ -63,77 +66,6 @@ fn floored() {
     expect(list[2] == 2.0);
 }
 
-// The diagnosis of F2.
-fn f2(request_rows: &[u32], request_columns: &[u32], limit: usize) -> SelectedInverseDiagnostics
-    requires { ⌜ Requests 2 (now «request_rows») (now «request_columns») ⌝ }
-    ensures { λ r. ⌜ r ≡ F2 (now («request_rows» .entry)) (now («request_columns» .entry)) limit ⌝ }
-{
-    let mut scratch = [7u32; 6];
-    let requested_pairs = request_marks::mark_requests(
-        2,
-        request_rows,
-        request_columns,
-        &mut scratch,
-    );
-    closure::diagnose(
-        2,
-        &[0, 2, 3],
-        &[0, 1, 1],
-        &[1.0, 2.0, 1.0],
-        requested_pairs,
-        limit,
-        &mut scratch,
-    )
-}
-
-// The diagnosis of F3.
-fn f3(request_rows: &[u32], request_columns: &[u32], limit: usize) -> SelectedInverseDiagnostics
-    requires { ⌜ Requests 3 (now «request_rows») (now «request_columns») ⌝ }
-    ensures { λ r. ⌜ r ≡ F3 (now («request_rows» .entry)) (now («request_columns» .entry)) limit ⌝ }
-{
-    let mut scratch = [7u32; 12];
-    let requested_pairs = request_marks::mark_requests(
-        3,
-        request_rows,
-        request_columns,
-        &mut scratch,
-    );
-    closure::diagnose(
-        3,
-        &[0, 3, 4, 5],
-        &[0, 1, 2, 1, 2],
-        &[1.0, 2.0, 3.0, 1.0, 1.0],
-        requested_pairs,
-        limit,
-        &mut scratch,
-    )
-}
-
-// Whether a diagnosis has these counts and is complete or not.
-fn counted(
-    d: SelectedInverseDiagnostics,
-    requested: usize,
-    closure: usize,
-    factor: usize,
-    complete: bool,
-) -> bool
-    ensures { λ r. ⌜ r ≡ countedOf d requested closure factor complete ⌝ }
-{
-    if d.requested_pairs != requested {
-        return false;
-    }
-    if d.closure_pairs != closure {
-        return false;
-    }
-    if d.factor_pairs != factor {
-        return false;
-    }
-    if complete {
-        return d.is_complete();
-    }
-    !d.is_complete()
-}
-
 // F2 with (0,0) at limits 3 and 2, (1,0), (1,1), (0,1) with (1,0), and no requests at limit 0.
 fn closed_sets_of_f2() {
     expect(counted(f2(&[0], &[0], 3), 1, 3, 3, true));
@@ -148,6 +80,12 @@ fn closed_sets_of_f2() {
 fn closed_sets_of_f3() {
     expect(counted(f3(&[0], &[0], 6), 1, 6, 5, true));
     expect(counted(f3(&[0], &[0], 5), 1, 6, 5, false));
+}
+
+// No columns and no requests: Complete, and the ratio is 0.0.
+fn closed_set_of_no_columns() {
+    expect(counted(no_columns(3), 0, 0, 0, true));
+    expect(has_ratio(no_columns(3), 0.0));
 }
 
 // F2 at limits 0 and 2^32 - 1, with a pair requested twice, and with more requests than the limit.
@@ -178,6 +116,7 @@ fn main() {
     repeated();
     closed_sets_of_f2();
     closed_sets_of_f3();
+    closed_set_of_no_columns();
     limits();
     floored();
     values_of_f2();

@@ -1,10 +1,11 @@
-use lib.Dec.{lit<}
 use mathlib.Core.Path.{_≡_, ap, _∙_}
 use mathlib.Core.Bool.{true, false}
 use borrow.Author.Needs.{needs}
+use Rattle.refusal.specs.Steps.{Reply}
 use Rattle.diagnostics.specs.declared.SelectedInverseDiagnostics.{SelectedInverseDiagnostics}
-use Rattle.starred.specs.Table.{countedOf, f2-first, f2-limited, f2-below, f2-last, f2-repeated, f2-none}
-use Rattle.starred.proofs.Facts.{none, one, shows-complete, shows-large, two}
+use Rattle.starred_calls.specs.Counts.{countedOf}
+use Rattle.starred.specs.Table.{f2-first, f2-limited, f2-below, f2-last, f2-repeated, f2-none}
+use Rattle.starred.proofs.Facts.{shows-complete, shows-large}
 use Rattle.starred.proofs.closed_sets_of_f2.Statement.{statement}
 use Rattle.starred.proofs.closed_sets_of_f2.Tie as tie
 
@@ -15,14 +16,14 @@ slice-aggregate-f2-2 : tie.Need-slice-aggregate-f2-2
 slice-aggregate-f2-2 c = search needs
 
 f2-requires : tie.Need-f2-requires
-f2-requires c κs = one 2 0 0 (lit< tt) (lit< tt)
+f2-requires c κs = search needs
 
 counted-requires : tie.Need-counted-requires
 counted-requires c κs = search needs
 
 expect-requires : tie.Need-expect-requires
 expect-requires c κs =
-    c .counted .ensures ∙ ap (λ (d : SelectedInverseDiagnostics). countedOf d 1 3 3 true) (c .before .f2 .ensures ∙ f2-first)
+    c .counted .ensures ∙ ap (λ (a : Reply SelectedInverseDiagnostics). countedOf a 1 3 3 true) (c .before .f2 .ensures ∙ f2-first)
     ∙ shows-complete 1 3 3 3
 
 slice-aggregate-f2-3 : tie.Need-slice-aggregate-f2-3
@@ -32,14 +33,14 @@ slice-aggregate-f2-4 : tie.Need-slice-aggregate-f2-4
 slice-aggregate-f2-4 c = search needs
 
 f2-requires-2 : tie.Need-f2-requires-2
-f2-requires-2 c κs = one 2 0 0 (lit< tt) (lit< tt)
+f2-requires-2 c κs = search needs
 
 counted-requires-2 : tie.Need-counted-requires-2
 counted-requires-2 c κs = search needs
 
 expect-requires-2 : tie.Need-expect-requires-2
 expect-requires-2 c κs =
-    c .counted2 .ensures ∙ ap (λ (d : SelectedInverseDiagnostics). countedOf d 1 3 3 false) (c .before .f22 .ensures ∙ f2-limited)
+    c .counted2 .ensures ∙ ap (λ (a : Reply SelectedInverseDiagnostics). countedOf a 1 3 3 false) (c .before .f22 .ensures ∙ f2-limited)
     ∙ shows-large 1 3 3 2
 
 slice-aggregate-f2-5 : tie.Need-slice-aggregate-f2-5
@@ -49,14 +50,14 @@ slice-aggregate-f2-6 : tie.Need-slice-aggregate-f2-6
 slice-aggregate-f2-6 c = search needs
 
 f2-requires-3 : tie.Need-f2-requires-3
-f2-requires-3 c κs = one 2 1 0 (lit< tt) (lit< tt)
+f2-requires-3 c κs = search needs
 
 counted-requires-3 : tie.Need-counted-requires-3
 counted-requires-3 c κs = search needs
 
 expect-requires-3 : tie.Need-expect-requires-3
 expect-requires-3 c κs =
-    c .counted3 .ensures ∙ ap (λ (d : SelectedInverseDiagnostics). countedOf d 1 2 3 true) (c .before .f23 .ensures ∙ f2-below)
+    c .counted3 .ensures ∙ ap (λ (a : Reply SelectedInverseDiagnostics). countedOf a 1 2 3 true) (c .before .f23 .ensures ∙ f2-below)
     ∙ shows-complete 1 2 3 3
 
 slice-aggregate-f2-7 : tie.Need-slice-aggregate-f2-7
@@ -66,14 +67,14 @@ slice-aggregate-f2-8 : tie.Need-slice-aggregate-f2-8
 slice-aggregate-f2-8 c = search needs
 
 f2-requires-4 : tie.Need-f2-requires-4
-f2-requires-4 c κs = one 2 1 1 (lit< tt) (lit< tt)
+f2-requires-4 c κs = search needs
 
 counted-requires-4 : tie.Need-counted-requires-4
 counted-requires-4 c κs = search needs
 
 expect-requires-4 : tie.Need-expect-requires-4
 expect-requires-4 c κs =
-    c .counted4 .ensures ∙ ap (λ (d : SelectedInverseDiagnostics). countedOf d 1 1 3 true) (c .before .f24 .ensures ∙ f2-last)
+    c .counted4 .ensures ∙ ap (λ (a : Reply SelectedInverseDiagnostics). countedOf a 1 1 3 true) (c .before .f24 .ensures ∙ f2-last)
     ∙ shows-complete 1 1 3 3
 
 slice-aggregate-f2-9 : tie.Need-slice-aggregate-f2-9
@@ -83,14 +84,14 @@ slice-aggregate-f2-10 : tie.Need-slice-aggregate-f2-10
 slice-aggregate-f2-10 c = search needs
 
 f2-requires-5 : tie.Need-f2-requires-5
-f2-requires-5 c κs = two 2 0 1 1 0 (lit< tt) (lit< tt) (lit< tt) (lit< tt)
+f2-requires-5 c κs = search needs
 
 counted-requires-5 : tie.Need-counted-requires-5
 counted-requires-5 c κs = search needs
 
 expect-requires-5 : tie.Need-expect-requires-5
 expect-requires-5 c κs =
-    c .counted5 .ensures ∙ ap (λ (d : SelectedInverseDiagnostics). countedOf d 1 2 3 true) (c .before .f25 .ensures ∙ f2-repeated)
+    c .counted5 .ensures ∙ ap (λ (a : Reply SelectedInverseDiagnostics). countedOf a 1 2 3 true) (c .before .f25 .ensures ∙ f2-repeated)
     ∙ shows-complete 1 2 3 3
 
 slice-aggregate-f2-11 : tie.Need-slice-aggregate-f2-11
@@ -100,14 +101,14 @@ slice-aggregate-f2-12 : tie.Need-slice-aggregate-f2-12
 slice-aggregate-f2-12 c = search needs
 
 f2-requires-6 : tie.Need-f2-requires-6
-f2-requires-6 c κs = none 2
+f2-requires-6 c κs = search needs
 
 counted-requires-6 : tie.Need-counted-requires-6
 counted-requires-6 c κs = search needs
 
 expect-requires-6 : tie.Need-expect-requires-6
 expect-requires-6 c κs =
-    c .counted6 .ensures ∙ ap (λ (d : SelectedInverseDiagnostics). countedOf d 0 0 3 true) (c .before .f26 .ensures ∙ f2-none)
+    c .counted6 .ensures ∙ ap (λ (a : Reply SelectedInverseDiagnostics). countedOf a 0 0 3 true) (c .before .f26 .ensures ∙ f2-none)
     ∙ shows-complete 0 0 3 0
 
 returns : tie.Need-returns

@@ -1,10 +1,11 @@
-use lib.Dec.{lit<}
 use mathlib.Core.Path.{_≡_, ap, _∙_}
 use mathlib.Core.Bool.{true, false}
 use borrow.Author.Needs.{needs}
+use Rattle.refusal.specs.Steps.{Reply}
 use Rattle.diagnostics.specs.declared.SelectedInverseDiagnostics.{SelectedInverseDiagnostics}
-use Rattle.starred.specs.Table.{countedOf, f3-first, f3-limited}
-use Rattle.starred.proofs.Facts.{one, shows-complete, shows-large}
+use Rattle.starred_calls.specs.Counts.{countedOf}
+use Rattle.starred.specs.Table.{f3-first, f3-limited}
+use Rattle.starred.proofs.Facts.{shows-complete, shows-large}
 use Rattle.starred.proofs.closed_sets_of_f3.Statement.{statement}
 use Rattle.starred.proofs.closed_sets_of_f3.Tie as tie
 
@@ -15,14 +16,14 @@ slice-aggregate-f3-2 : tie.Need-slice-aggregate-f3-2
 slice-aggregate-f3-2 c = search needs
 
 f3-requires : tie.Need-f3-requires
-f3-requires c κs = one 3 0 0 (lit< tt) (lit< tt)
+f3-requires c κs = search needs
 
 counted-requires : tie.Need-counted-requires
 counted-requires c κs = search needs
 
 expect-requires : tie.Need-expect-requires
 expect-requires c κs =
-    c .counted .ensures ∙ ap (λ (d : SelectedInverseDiagnostics). countedOf d 1 6 5 true) (c .before .f3 .ensures ∙ f3-first)
+    c .counted .ensures ∙ ap (λ (a : Reply SelectedInverseDiagnostics). countedOf a 1 6 5 true) (c .before .f3 .ensures ∙ f3-first)
     ∙ shows-complete 1 6 5 6
 
 slice-aggregate-f3-3 : tie.Need-slice-aggregate-f3-3
@@ -32,14 +33,14 @@ slice-aggregate-f3-4 : tie.Need-slice-aggregate-f3-4
 slice-aggregate-f3-4 c = search needs
 
 f3-requires-2 : tie.Need-f3-requires-2
-f3-requires-2 c κs = one 3 0 0 (lit< tt) (lit< tt)
+f3-requires-2 c κs = search needs
 
 counted-requires-2 : tie.Need-counted-requires-2
 counted-requires-2 c κs = search needs
 
 expect-requires-2 : tie.Need-expect-requires-2
 expect-requires-2 c κs =
-    c .counted2 .ensures ∙ ap (λ (d : SelectedInverseDiagnostics). countedOf d 1 6 5 false) (c .before .f32 .ensures ∙ f3-limited)
+    c .counted2 .ensures ∙ ap (λ (a : Reply SelectedInverseDiagnostics). countedOf a 1 6 5 false) (c .before .f32 .ensures ∙ f3-limited)
     ∙ shows-large 1 6 5 5
 
 returns : tie.Need-returns

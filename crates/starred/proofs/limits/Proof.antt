@@ -1,10 +1,11 @@
-use lib.Dec.{lit<}
 use mathlib.Core.Path.{_≡_, ap, _∙_}
 use mathlib.Core.Bool.{true, false}
 use borrow.Author.Needs.{needs}
+use Rattle.refusal.specs.Steps.{Reply}
 use Rattle.diagnostics.specs.declared.SelectedInverseDiagnostics.{SelectedInverseDiagnostics}
-use Rattle.starred.specs.Table.{countedOf, f2-zero, f2-unlimited, f2-twice, f2-many}
-use Rattle.starred.proofs.Facts.{one, shows-complete, shows-large, two}
+use Rattle.starred_calls.specs.Counts.{countedOf}
+use Rattle.starred.specs.Table.{f2-zero, f2-unlimited, f2-twice, f2-many}
+use Rattle.starred.proofs.Facts.{shows-complete, shows-large}
 use Rattle.starred.proofs.limits.Statement.{statement}
 use Rattle.starred.proofs.limits.Tie as tie
 
@@ -15,14 +16,14 @@ slice-aggregate-f2-2 : tie.Need-slice-aggregate-f2-2
 slice-aggregate-f2-2 c = search needs
 
 f2-requires : tie.Need-f2-requires
-f2-requires c κs = one 2 0 0 (lit< tt) (lit< tt)
+f2-requires c κs = search needs
 
 counted-requires : tie.Need-counted-requires
 counted-requires c κs = search needs
 
 expect-requires : tie.Need-expect-requires
 expect-requires c κs =
-    c .counted .ensures ∙ ap (λ (d : SelectedInverseDiagnostics). countedOf d 1 1 3 false) (c .before .f2 .ensures ∙ f2-zero)
+    c .counted .ensures ∙ ap (λ (a : Reply SelectedInverseDiagnostics). countedOf a 1 1 3 false) (c .before .f2 .ensures ∙ f2-zero)
     ∙ shows-large 1 1 3 0
 
 slice-aggregate-f2-3 : tie.Need-slice-aggregate-f2-3
@@ -32,14 +33,14 @@ slice-aggregate-f2-4 : tie.Need-slice-aggregate-f2-4
 slice-aggregate-f2-4 c = search needs
 
 f2-requires-2 : tie.Need-f2-requires-2
-f2-requires-2 c κs = one 2 0 0 (lit< tt) (lit< tt)
+f2-requires-2 c κs = search needs
 
 counted-requires-2 : tie.Need-counted-requires-2
 counted-requires-2 c κs = search needs
 
 expect-requires-2 : tie.Need-expect-requires-2
 expect-requires-2 c κs =
-    c .counted2 .ensures ∙ ap (λ (d : SelectedInverseDiagnostics). countedOf d 1 3 3 true) (c .before .f22 .ensures ∙ f2-unlimited)
+    c .counted2 .ensures ∙ ap (λ (a : Reply SelectedInverseDiagnostics). countedOf a 1 3 3 true) (c .before .f22 .ensures ∙ f2-unlimited)
     ∙ shows-complete 1 3 3 4294967295
 
 slice-aggregate-f2-5 : tie.Need-slice-aggregate-f2-5
@@ -49,14 +50,14 @@ slice-aggregate-f2-6 : tie.Need-slice-aggregate-f2-6
 slice-aggregate-f2-6 c = search needs
 
 f2-requires-3 : tie.Need-f2-requires-3
-f2-requires-3 c κs = two 2 0 0 0 0 (lit< tt) (lit< tt) (lit< tt) (lit< tt)
+f2-requires-3 c κs = search needs
 
 counted-requires-3 : tie.Need-counted-requires-3
 counted-requires-3 c κs = search needs
 
 expect-requires-3 : tie.Need-expect-requires-3
 expect-requires-3 c κs =
-    c .counted3 .ensures ∙ ap (λ (d : SelectedInverseDiagnostics). countedOf d 1 3 3 true) (c .before .f23 .ensures ∙ f2-twice)
+    c .counted3 .ensures ∙ ap (λ (a : Reply SelectedInverseDiagnostics). countedOf a 1 3 3 true) (c .before .f23 .ensures ∙ f2-twice)
     ∙ shows-complete 1 3 3 3
 
 slice-aggregate-f2-7 : tie.Need-slice-aggregate-f2-7
@@ -66,14 +67,14 @@ slice-aggregate-f2-8 : tie.Need-slice-aggregate-f2-8
 slice-aggregate-f2-8 c = search needs
 
 f2-requires-4 : tie.Need-f2-requires-4
-f2-requires-4 c κs = two 2 0 1 0 1 (lit< tt) (lit< tt) (lit< tt) (lit< tt)
+f2-requires-4 c κs = search needs
 
 counted-requires-4 : tie.Need-counted-requires-4
 counted-requires-4 c κs = search needs
 
 expect-requires-4 : tie.Need-expect-requires-4
 expect-requires-4 c κs =
-    c .counted4 .ensures ∙ ap (λ (d : SelectedInverseDiagnostics). countedOf d 2 1 3 false) (c .before .f24 .ensures ∙ f2-many)
+    c .counted4 .ensures ∙ ap (λ (a : Reply SelectedInverseDiagnostics). countedOf a 2 1 3 false) (c .before .f24 .ensures ∙ f2-many)
     ∙ shows-large 2 1 3 0
 
 returns : tie.Need-returns

@@ -2,7 +2,7 @@ use mathlib.Core.Path.{_≡_, ap, _∙_}
 use lib.Ieee.{ofBits, ofInt, eq, neg}
 use borrow.Author.Needs.{needs}
 use Rattle.columns.specs.Examples.{whole}
-use Rattle.starred_values.specs.Answer.{Answer, isValue, isAbsent}
+use Rattle.starred_calls.specs.Answer.{Answer, isValue, isAbsent}
 use Rattle.starred.specs.Values.{minus-two, values}
 use Rattle.starred.proofs.values_of_f2.Statement.{statement}
 use Rattle.starred.proofs.values_of_f2.Tie as tie

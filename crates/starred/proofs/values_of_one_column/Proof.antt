@@ -1,7 +1,7 @@
 use mathlib.Core.Path.{_≡_, ap, _∙_}
 use lib.Ieee.{ofBits, ofInt, eq, ne, div}
 use borrow.Author.Needs.{needs}
-use Rattle.starred_values.specs.Answer.{Answer, isValue, isNan, isRefused}
+use Rattle.starred_calls.specs.Answer.{Answer, isValue, isNan, isRefused}
 use Rattle.starred.specs.Values.{quarter, values}
 use Rattle.starred.proofs.values_of_one_column.Statement.{statement}
 use Rattle.starred.proofs.values_of_one_column.Tie as tie

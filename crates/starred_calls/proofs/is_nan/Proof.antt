@@ -1,40 +1,31 @@
 use borrow.Author.Needs.{needs}
-use Rattle.starred_values.proofs.is_nan.Statement.{statement}
-use Rattle.starred_values.proofs.is_nan.Tie as tie
+use Rattle.starred_calls.proofs.is_nan.Statement.{statement}
+use Rattle.starred_calls.proofs.is_nan.Tie as tie
 
--- src/lib.rt:85:30
 enum-known-e : tie.Need-enum-known-e
 enum-known-e c = search needs
 
--- src/lib.rt:86:26
 enum-known-entry : tie.Need-enum-known-entry
 enum-known-entry c = search needs
 
--- src/lib.rt:87:34
 enum-told : tie.Need-enum-told
 enum-told c = search needs
 
--- src/lib.rt:89:43
 enum-told-2 : tie.Need-enum-told-2
 enum-told-2 c = search needs
 
--- src/lib.rt:90:38
 enum-told-3 : tie.Need-enum-told-3
 enum-told-3 c = search needs
 
--- src/lib.rt:81:1
 returns : tie.Need-returns
 returns c = rw (c .before .before .before .before .e .given .1, c .before .entry .given .1)
 
--- src/lib.rt:81:1
 returns-2 : tie.Need-returns-2
 returns-2 c = search needs
 
--- src/lib.rt:81:1
 returns-3 : tie.Need-returns-3
 returns-3 c = search needs
 
--- src/lib.rt:81:1
 returns-4 : tie.Need-returns-4
 returns-4 c = search needs
 

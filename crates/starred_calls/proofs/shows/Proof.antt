@@ -2,8 +2,8 @@ use mathlib.Core.Path.{_≡_, ap, _∙_}
 use mathlib.Core.Bool.{not}
 use borrow.Author.Needs.{needs}
 use borrow.Author.Tests.{eq-eqb, ne-eqb}
-use Rattle.starred.proofs.counted.Statement.{statement}
-use Rattle.starred.proofs.counted.Tie as tie
+use Rattle.starred_calls.proofs.shows.Statement.{statement}
+use Rattle.starred_calls.proofs.shows.Tie as tie
 
 returns : tie.Need-returns
 returns c = rw (ne-eqb _ _ (c .if1 .taken))
@@ -36,8 +36,8 @@ returns-5 c =
     let d = e .before .before in
     rw (eq-eqb _ _ (d .before .before .if1 .left), eq-eqb _ _ (d .if2 .left), eq-eqb _ _ (e .if3 .left), t .if4 .left, c .is-complete2 .ensures)
 
-pub counted-spec : {M : Type 1} → statement M
-counted-spec =
+pub shows-spec : {M : Type 1} → statement M
+shows-spec =
     tie.close
     (tie.spec
     returns

@@ -1,63 +1,46 @@
 use borrow.Author.Needs.{needs}
-use Rattle.starred_values.specs.Answer.{read-answer}
-use Rattle.starred_values.proofs.one_entry.Statement.{statement}
-use Rattle.starred_values.proofs.one_entry.Tie as tie
+use lib.Ieee.{ofBits, ofInt}
+use Rattle.starred_calls.specs.Answer.{read-answer}
+use Rattle.starred_calls.proofs.f2_entry.Statement.{statement}
+use Rattle.starred_calls.proofs.f2_entry.Tie as tie
 
--- src/lib.rt:50:9
 slice-aggregate-selected-inverse-entry-with-limit :
     tie.Need-slice-aggregate-selected-inverse-entry-with-limit
 slice-aggregate-selected-inverse-entry-with-limit c = search needs
 
--- src/lib.rt:51:9
 slice-aggregate-selected-inverse-entry-with-limit-2 :
     tie.Need-slice-aggregate-selected-inverse-entry-with-limit-2
 slice-aggregate-selected-inverse-entry-with-limit-2 c = search needs
 
--- src/lib.rt:52:9
 slice-aggregate-selected-inverse-entry-with-limit-3 :
     tie.Need-slice-aggregate-selected-inverse-entry-with-limit-3
 slice-aggregate-selected-inverse-entry-with-limit-3 c = search needs
 
--- src/lib.rt:54:9
 slice-aggregate-selected-inverse-entry-with-limit-4 :
     tie.Need-slice-aggregate-selected-inverse-entry-with-limit-4
 slice-aggregate-selected-inverse-entry-with-limit-4 c = search needs
 
--- src/lib.rt:55:9
 slice-aggregate-selected-inverse-entry-with-limit-5 :
     tie.Need-slice-aggregate-selected-inverse-entry-with-limit-5
 slice-aggregate-selected-inverse-entry-with-limit-5 c = search needs
 
--- src/lib.rt:59:9
 slice-aggregate-selected-inverse-entry-with-limit-6 :
     tie.Need-slice-aggregate-selected-inverse-entry-with-limit-6
 slice-aggregate-selected-inverse-entry-with-limit-6 c = search needs
 
--- src/lib.rt:60:9
 slice-aggregate-selected-inverse-entry-with-limit-7 :
     tie.Need-slice-aggregate-selected-inverse-entry-with-limit-7
 slice-aggregate-selected-inverse-entry-with-limit-7 c = search needs
 
--- src/lib.rt:61:9
-slice-aggregate-selected-inverse-entry-with-limit-8 :
-    tie.Need-slice-aggregate-selected-inverse-entry-with-limit-8
-slice-aggregate-selected-inverse-entry-with-limit-8 c = search needs
-
--- src/lib.rt:62:9
-slice-aggregate-selected-inverse-entry-with-limit-9 :
-    tie.Need-slice-aggregate-selected-inverse-entry-with-limit-9
-slice-aggregate-selected-inverse-entry-with-limit-9 c = search needs
-
--- src/lib.rt:48:5
 selected-inverse-entry-with-limit-requires : tie.Need-selected-inverse-entry-with-limit-requires
 selected-inverse-entry-with-limit-requires c κs = search needs
 
--- src/lib.rt:41:1
 returns : tie.Need-returns
+unfolding ofBits ofInt
 returns c = let d = c .before .before .before .before in read-answer _ _ _ _ _ (d .selected-inverse-entry-with-limit .ensures)
 
-pub one-entry-spec : {M : Type 1} → statement M
-one-entry-spec =
+pub f2-entry-spec : {M : Type 1} → statement M
+f2-entry-spec =
     tie.close
     (tie.spec
     slice-aggregate-selected-inverse-entry-with-limit
@@ -67,7 +50,5 @@ one-entry-spec =
     slice-aggregate-selected-inverse-entry-with-limit-5
     slice-aggregate-selected-inverse-entry-with-limit-6
     slice-aggregate-selected-inverse-entry-with-limit-7
-    slice-aggregate-selected-inverse-entry-with-limit-8
-    slice-aggregate-selected-inverse-entry-with-limit-9
     selected-inverse-entry-with-limit-requires
     returns)
