@@ -1,7 +1,7 @@
 // Cases of `from_orig_to_perm`.
 use replies::checked_number;
-use reporting::lists::fill_words;
-use reporting::lists::same_words;
+use reporting::list::fill_words;
+use reporting::list::same_words;
 use reporting::report::Reply;
 use reporting::report::Tally;
 use reporting::report::finish;

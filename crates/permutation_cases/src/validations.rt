@@ -1,6 +1,6 @@
 // Cases of `validate`.
 use replies::checked_number;
-use reporting::lists::fill_words;
+use reporting::list::fill_words;
 use reporting::report::Reply;
 use reporting::report::Tally;
 use reporting::report::finish;

@@ -1,8 +1,8 @@
 // Cases of `permute_factor_to_original`.
 use replies::checked_number;
-use reporting::lists::fill_values;
-use reporting::lists::fill_words;
-use reporting::lists::same_values;
+use reporting::list::fill_values;
+use reporting::list::fill_words;
+use reporting::list::same_values;
 use reporting::report::Reply;
 use reporting::report::Tally;
 use reporting::report::finish;

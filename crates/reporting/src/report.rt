@@ -1,4 +1,7 @@
 // What a case writes: its name, the reply, the lists lent for writing, and whether all is as expected.
+ghost use mathlib.Core.Path.{_≡_};
+ghost use mathlib.Core.Bool.{_&&_};
+ghost use Rattle.reporting.specs.Count.{sameReply, noCases, counted};
 use std::num::truncating_f64_to_u64;
 use std::num::wrapping_add_u64;
 
@@ -14,7 +17,9 @@ pub enum Reply {
     Pairs(usize),
 }
 
-pub fn no_cases() -> Tally {
+pub fn no_cases() -> Tally
+    ensures { λ t. ⌜ t ≡ noCases ⌝ }
+{
     Tally { cases: 0, wrong: 0 }
 }
 
@@ -51,7 +56,9 @@ fn put_value(x: f64) {
 }
 
 // Whether two replies are the same.
-pub fn same_reply(a: Reply, b: Reply) -> bool {
+pub fn same_reply(a: Reply, b: Reply) -> bool
+    ensures { λ r. ⌜ r ≡ sameReply a b ⌝ }
+{
     match a {
         Reply::Number(x) => match b {
             Reply::Number(y) => x == y,
@@ -62,6 +69,16 @@ pub fn same_reply(a: Reply, b: Reply) -> bool {
             Reply::Pairs(y) => x == y,
         },
     }
+}
+
+// Whether both hold.
+pub fn both(a: bool, b: bool) -> bool
+    ensures { λ r. ⌜ r ≡ (a && b) ⌝ }
+{
+    if a {
+        return b;
+    }
+    false
 }
 
 // A line's start: what is called, on what, and the reply.
@@ -113,7 +130,9 @@ pub fn put_values(label: &[u8], list: &[f64]) {
 }
 
 // A line's end, with the case counted.
-pub fn finish(t: Tally, ok: bool) -> Tally {
+pub fn finish(t: Tally, ok: bool) -> Tally
+    ensures { λ r. ⌜ r ≡ counted t ok ⌝ }
+{
     let cases = wrapping_add_u64(t.cases, 1);
     if ok {
         put(b"; ok\n");
