@@ -23,13 +23,27 @@ pub fn no_cases() -> Tally
     Tally { cases: 0, wrong: 0 }
 }
 
-fn put(text: &[u8]) {
+pub fn put(text: &[u8]) {
     io::write_all(1, text);
 }
 
 fn put_word(x: u32) {
     put(b" ");
     io::print_decimal(1, x as u64);
+}
+
+pub fn put_count(count: usize) {
+    put(b" ");
+    io::print_decimal(1, count as u64);
+}
+
+// A value's bits as 16 hexadecimal digits.
+pub fn put_bits(x: f64) {
+    if x == x {
+        io::print_hex(1, f64::to_bits(x), 16);
+    } else {
+        put(b"NaN");
+    }
 }
 
 // A value from 0.0 on by its whole part.
@@ -43,10 +57,14 @@ fn put_whole(x: f64) {
     }
 }
 
+// A whole number in decimal, another value by its bits.
 fn put_value(x: f64) {
     put(b" ");
     if x != x {
         put(b"NaN");
+    } else if x + 6755399441055744.0 - 6755399441055744.0 - x != 0.0 {
+        put(b"0x"); // 2^52 + 2^51 leaves no room for a fraction
+        put_bits(x);
     } else if 1.0 / x < 0.0 {
         put(b"-");
         put_whole(0.0 - x);

@@ -4,8 +4,8 @@ use mathlib.Core.Path.{ap₂}
 use mathlib.Core.Bool.{_&&_}
 use borrow.Author.Needs.{needs}
 use mathlib.Core.Path.{_≡_, refl, ap, sym, _∙_}
-use Rattle.pattern_reporting.proofs.pairs.judge.Statement.{statement}
-use Rattle.pattern_reporting.proofs.pairs.judge.Tie as tie
+use Rattle.pattern_reporting.proofs.compare.judge.Statement.{statement}
+use Rattle.pattern_reporting.proofs.compare.judge.Tie as tie
 
 put-reply-requires : tie.Need-put-reply-requires
 put-reply-requires c κs = search needs

@@ -4,8 +4,8 @@ use Rattle.pattern.specs.Pattern.{listReply}
 use Rattle.pattern.specs.declared.PatternPairs.{PatternPairs}
 use borrow.Author.Needs.{needs}
 use mathlib.Core.Path.{_≡_, refl, ap, sym, _∙_}
-use Rattle.pattern_reporting.proofs.pairs.reply_of.Statement.{statement}
-use Rattle.pattern_reporting.proofs.pairs.reply_of.Tie as tie
+use Rattle.pattern_reporting.proofs.compare.reply_of.Statement.{statement}
+use Rattle.pattern_reporting.proofs.compare.reply_of.Tie as tie
 
 enum-known-answer : tie.Need-enum-known-answer
 enum-known-answer c = search needs

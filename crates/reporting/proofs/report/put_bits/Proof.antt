@@ -3,8 +3,8 @@ use mathlib.Core.Bool.{true, not, false≢true}
 use lib.Dec.{T}
 use lib.Ieee.{Float, nan, inf, fin, eq, isNan}
 use borrow.Author.Needs.{needs}
-use Rattle.star.proofs.put_bits.Statement.{statement}
-use Rattle.star.proofs.put_bits.Tie as tie
+use Rattle.reporting.proofs.report.put_bits.Statement.{statement}
+use Rattle.reporting.proofs.report.put_bits.Tie as tie
 
 -- what equals itself is no NaN
 no-nan : (x : Float) → eq x x ≡ true → T (not (isNan x))
