@@ -1,47 +1,7 @@
 // Cases of `from_cholesky_factor`.
-use pattern_reporting::pairs::judge;
-use pattern_reporting::pairs::reply_of;
+use pattern_reporting::factors::case;
 use reporting::report::Reply;
 use reporting::report::Tally;
-
-// Calls it with three lists to write, and compares the reply and what they then hold.
-fn case(
-    t: Tally,
-    name: &[u8],
-    n: usize,
-    starts: &[u32],
-    rows: &[u32],
-    values: &[f64],
-    scratch: &mut [u32],
-    pair_rows: &mut [u32],
-    pair_columns: &mut [u32],
-    expected: Reply,
-    scratch_left: &[u32],
-    rows_left: &[u32],
-    columns_left: &[u32],
-) -> Tally {
-    let answer = pattern::from_cholesky_factor(
-        n,
-        starts,
-        rows,
-        values,
-        scratch,
-        pair_rows,
-        pair_columns,
-    );
-    judge(
-        t,
-        name,
-        reply_of(answer),
-        scratch,
-        pair_rows,
-        pair_columns,
-        expected,
-        scratch_left,
-        rows_left,
-        columns_left,
-    )
-}
 
 // Pairs listed, with a scratch of 7 words and outputs of 6.
 fn listed(

@@ -7,7 +7,7 @@ use floor::StabilizedVariance;
 use floor::VarianceFloor;
 use floor::stabilize_variances;
 use replies::refusal_number;
-use reporting::lists::same_values;
+use reporting::list::same_values;
 use reporting::report::Reply;
 use reporting::report::Tally;
 use reporting::report::finish;

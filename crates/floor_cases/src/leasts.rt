@@ -1,7 +1,7 @@
 // Cases of `count_and_least`.
 use crate::floors::put_count;
 use least::count_and_least;
-use reporting::lists::same_values;
+use reporting::list::same_values;
 use reporting::report::Tally;
 use reporting::report::finish;
 use reporting::report::put_values;

@@ -3,7 +3,7 @@ use crate::floors::mean;
 use crate::floors::number;
 use floor::VarianceFloor;
 use floor::stabilize_variances;
-use reporting::lists::same_values;
+use reporting::list::same_values;
 use reporting::report::Reply;
 use reporting::report::Tally;
 use reporting::report::finish;

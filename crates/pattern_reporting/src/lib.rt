@@ -1,2 +1,4 @@
 // What the programs of cases of the pattern lists share.
-pub mod pairs;
+pub mod compare;
+pub mod factors;
+pub mod operators;

@@ -1,9 +1,20 @@
 // Cases of `from_orig_to_perm`.
+ghost use mathlib.Core.Path.{_≡_};
+ghost use mathlib.Core.Bool.{_&&_};
+ghost use lib.Dec.{eqb};
+ghost use lib.ListN.{length};
+ghost use Rattle.lists.specs.Overwrite.{overwrite};
+ghost use Rattle.refusal.specs.Steps.{verdict, after};
+ghost use Rattle.replies.specs.Number.{replyNumber};
+ghost use Rattle.permutation.specs.Permutation.{invertSteps, inverseOf};
+ghost use Rattle.reporting.specs.Same.{sameWords};
+ghost use Rattle.reporting.specs.Count.{counted};
 use replies::checked_number;
-use reporting::lists::fill_words;
-use reporting::lists::same_words;
+use reporting::list::fill_words;
+use reporting::list::same_words;
 use reporting::report::Reply;
 use reporting::report::Tally;
+use reporting::report::both;
 use reporting::report::finish;
 use reporting::report::put_reply;
 use reporting::report::put_words;
@@ -16,11 +27,17 @@ fn case(
     output: &mut [u32],
     expected: u32,
     left: &[u32],
-) -> Tally {
+) -> Tally
+    ensures { λ r. ⌜ r ≡ counted t
+        (eqb (replyNumber (verdict (invertSteps (now («orig_to_perm» .entry)) (length (now (output .entry)))))) expected
+        && sameWords (after (invertSteps (now («orig_to_perm» .entry)) (length (now (output .entry))))
+        (overwrite (inverseOf (now («orig_to_perm» .entry))) (now (output .entry))) (now (output .entry))) (now (left .entry))) ⌝ }
+{
     let reply = checked_number(permutation::from_orig_to_perm(orig_to_perm, output));
     put_reply(name, Reply::Number(reply));
     put_words(b"; output", output);
-    finish(t, reply == expected && same_words(output, left))
+    let same = both(reply == expected, same_words(output, left));
+    finish(t, same)
 }
 
 fn accepted(t: Tally) -> Tally {

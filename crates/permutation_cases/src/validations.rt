@@ -1,12 +1,21 @@
 // Cases of `validate`.
+ghost use mathlib.Core.Path.{_≡_};
+ghost use lib.Dec.{eqb};
+ghost use Rattle.refusal.specs.Steps.{verdict};
+ghost use Rattle.replies.specs.Number.{replyNumber};
+ghost use Rattle.permutation.specs.Permutation.{validateSteps};
+ghost use Rattle.reporting.specs.Count.{counted};
 use replies::checked_number;
-use reporting::lists::fill_words;
+use reporting::list::fill_words;
 use reporting::report::Reply;
 use reporting::report::Tally;
 use reporting::report::finish;
 use reporting::report::put_reply;
 
-fn case(t: Tally, name: &[u8], orig_to_perm: &[u32], perm_to_orig: &[u32], expected: u32) -> Tally {
+// Calls it, and compares the reply.
+fn case(t: Tally, name: &[u8], orig_to_perm: &[u32], perm_to_orig: &[u32], expected: u32) -> Tally
+    ensures { λ r. ⌜ r ≡ counted t (eqb (replyNumber (verdict (validateSteps (now («orig_to_perm» .entry)) (now («perm_to_orig» .entry))))) expected) ⌝ }
+{
     let reply = checked_number(permutation::validate(orig_to_perm, perm_to_orig));
     put_reply(name, Reply::Number(reply));
     finish(t, reply == expected)

@@ -1,10 +1,21 @@
 // Cases of `permute_factor_to_original`.
+ghost use mathlib.Core.Path.{_≡_};
+ghost use mathlib.Core.Bool.{_&&_};
+ghost use lib.Dec.{eqb};
+ghost use lib.ListN.{length};
+ghost use Rattle.lists.specs.Overwrite.{overwrite};
+ghost use Rattle.refusal.specs.Steps.{verdict, after};
+ghost use Rattle.replies.specs.Number.{replyNumber};
+ghost use Rattle.permutation.specs.Permutation.{permuteSteps, reordered};
+ghost use Rattle.reporting.specs.Value.{sameValues};
+ghost use Rattle.reporting.specs.Count.{counted};
 use replies::checked_number;
-use reporting::lists::fill_values;
-use reporting::lists::fill_words;
-use reporting::lists::same_values;
+use reporting::list::fill_values;
+use reporting::list::fill_words;
+use reporting::list::same_values;
 use reporting::report::Reply;
 use reporting::report::Tally;
+use reporting::report::both;
 use reporting::report::finish;
 use reporting::report::put_reply;
 use reporting::report::put_values;
@@ -18,12 +29,18 @@ fn case(
     output: &mut [f64],
     expected: u32,
     left: &[f64],
-) -> Tally {
+) -> Tally
+    ensures { λ r. ⌜ r ≡ counted t
+        (eqb (replyNumber (verdict (permuteSteps (now («orig_to_perm» .entry)) (now (input .entry)) (length (now (output .entry)))))) expected
+        && sameValues (after (permuteSteps (now («orig_to_perm» .entry)) (now (input .entry)) (length (now (output .entry))))
+        (overwrite (reordered (now («orig_to_perm» .entry)) (now (input .entry))) (now (output .entry))) (now (output .entry))) (now (left .entry))) ⌝ }
+{
     let answer = permutation::permute_factor_to_original(orig_to_perm, input, output);
     let reply = checked_number(answer);
     put_reply(name, Reply::Number(reply));
     put_values(b"; output", output);
-    finish(t, reply == expected && same_values(output, left))
+    let same = both(reply == expected, same_values(output, left));
+    finish(t, same)
 }
 
 // A refusal, with an output of four places, all left as they were.

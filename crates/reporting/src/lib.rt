@@ -1,3 +1,3 @@
 // What the programs of cases share: comparing lists, and a line for each case.
-pub mod lists;
+pub mod list;
 pub mod report;

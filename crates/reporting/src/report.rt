@@ -1,4 +1,7 @@
 // What a case writes: its name, the reply, the lists lent for writing, and whether all is as expected.
+ghost use mathlib.Core.Path.{_≡_};
+ghost use mathlib.Core.Bool.{_&&_};
+ghost use Rattle.reporting.specs.Count.{sameReply, noCases, counted};
 use std::num::truncating_f64_to_u64;
 use std::num::wrapping_add_u64;
 
@@ -14,17 +17,33 @@ pub enum Reply {
     Pairs(usize),
 }
 
-pub fn no_cases() -> Tally {
+pub fn no_cases() -> Tally
+    ensures { λ t. ⌜ t ≡ noCases ⌝ }
+{
     Tally { cases: 0, wrong: 0 }
 }
 
-fn put(text: &[u8]) {
+pub fn put(text: &[u8]) {
     io::write_all(1, text);
 }
 
 fn put_word(x: u32) {
     put(b" ");
     io::print_decimal(1, x as u64);
+}
+
+pub fn put_count(count: usize) {
+    put(b" ");
+    io::print_decimal(1, count as u64);
+}
+
+// A value's bits as 16 hexadecimal digits.
+pub fn put_bits(x: f64) {
+    if x == x {
+        io::print_hex(1, f64::to_bits(x), 16);
+    } else {
+        put(b"NaN");
+    }
 }
 
 // A value from 0.0 on by its whole part.
@@ -38,10 +57,14 @@ fn put_whole(x: f64) {
     }
 }
 
+// A whole number in decimal, another value by its bits.
 fn put_value(x: f64) {
     put(b" ");
     if x != x {
         put(b"NaN");
+    } else if x + 6755399441055744.0 - 6755399441055744.0 - x != 0.0 {
+        put(b"0x"); // 2^52 + 2^51 leaves no room for a fraction
+        put_bits(x);
     } else if 1.0 / x < 0.0 {
         put(b"-");
         put_whole(0.0 - x);
@@ -51,7 +74,9 @@ fn put_value(x: f64) {
 }
 
 // Whether two replies are the same.
-pub fn same_reply(a: Reply, b: Reply) -> bool {
+pub fn same_reply(a: Reply, b: Reply) -> bool
+    ensures { λ r. ⌜ r ≡ sameReply a b ⌝ }
+{
     match a {
         Reply::Number(x) => match b {
             Reply::Number(y) => x == y,
@@ -62,6 +87,16 @@ pub fn same_reply(a: Reply, b: Reply) -> bool {
             Reply::Pairs(y) => x == y,
         },
     }
+}
+
+// Whether both hold.
+pub fn both(a: bool, b: bool) -> bool
+    ensures { λ r. ⌜ r ≡ (a && b) ⌝ }
+{
+    if a {
+        return b;
+    }
+    false
 }
 
 // A line's start: what is called, on what, and the reply.
@@ -113,7 +148,9 @@ pub fn put_values(label: &[u8], list: &[f64]) {
 }
 
 // A line's end, with the case counted.
-pub fn finish(t: Tally, ok: bool) -> Tally {
+pub fn finish(t: Tally, ok: bool) -> Tally
+    ensures { λ r. ⌜ r ≡ counted t ok ⌝ }
+{
     let cases = wrapping_add_u64(t.cases, 1);
     if ok {
         put(b"; ok\n");

@@ -1,6 +1,7 @@
 // Runs F3 of document 01 with the request (0,0) and limit 6; prints status, counts and limit, then each pair with its value's bits.
 use diagnostics::SelectedInverseDiagnostics;
 use diagnostics::SelectedInverseStatus;
+use reporting::report::put_bits;
 use selected::Selected;
 use selected::selected_inverse_entries_with_limit;
 use words::at;
@@ -11,14 +12,6 @@ fn put(text: &[u8]) {
 
 fn put_number(n: usize) {
     io::print_decimal(1, n as u64);
-}
-
-fn put_bits(x: f64) {
-    if x == x {
-        io::print_hex(1, f64::to_bits(x), 16);
-    } else {
-        put(b"NaN");
-    }
 }
 
 fn put_diagnosis(d: SelectedInverseDiagnostics) {

@@ -1,0 +1,2 @@
+-- What a case of the pattern lists compares.
+pub mod Judge

@@ -1,0 +1,29 @@
+use Rattle.selected_reporting.specs.Outcome.{outcomeOf}
+use Rattle.selected_reporting.specs.declared.outcome.Outcome.the-variants.{Number}
+use Rattle.selected.specs.Selected.{selectedReplyOf}
+use Rattle.selected.specs.declared.Selected.{Selected}
+use borrow.Author.Needs.{needs}
+use mathlib.Core.Path.{_≡_, refl, ap, sym, _∙_}
+use Rattle.selected_reporting.proofs.outcome.outcome_of.Statement.{statement}
+use Rattle.selected_reporting.proofs.outcome.outcome_of.Tie as tie
+
+enum-known-answer : tie.Need-enum-known-answer
+enum-known-answer c = search needs
+
+enum-known-answer-2 : tie.Need-enum-known-answer-2
+enum-known-answer-2 c = search needs
+
+refusal-number-requires : tie.Need-refusal-number-requires
+refusal-number-requires c κs = search needs
+
+returns : tie.Need-returns
+returns c = ap (λ (p : Selected). outcomeOf (selectedReplyOf p)) (sym (c .before .answer .given .1))
+
+returns-2 : tie.Need-returns-2
+returns-2 c =
+    ap Number (c .refusal-number .ensures) ∙ ap (λ (p : Selected). outcomeOf (selectedReplyOf p)) (sym (c .before .before .answer2 .given .1))
+
+pub outcome-of-spec : {M : Type 1} → statement M
+outcome-of-spec =
+    tie.close
+    (tie.spec enum-known-answer enum-known-answer-2 refusal-number-requires returns returns-2)

@@ -1,0 +1,3 @@
+-- What a case of selected entries compares.
+pub mod Outcome
+pub mod Judge

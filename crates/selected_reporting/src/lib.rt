@@ -1,0 +1,3 @@
+// What the programs of cases of selected entries share.
+pub mod entries;
+pub mod outcome;
