@@ -12,7 +12,6 @@ use lib.ListN.{length, take}
 use lib.Ieee.{Float, nan}
 use borrow.Author.Tests.{lt-ltb, le-ltb, le-leb}
 use Rattle.lists.specs.Test.{not-so}
-use Rattle.lists.specs.Overwrite.{overwrite}
 use Rattle.refusal.specs.Steps.{Step, Reply, refused, answered, Passed}
 use Rattle.pairs.specs.Pair.{pairTotal}
 use Rattle.columns.specs.Kept.{nonzero, pattern, diag, desc}
@@ -23,11 +22,11 @@ use Rattle.takahashi.specs.Recurrence.{at, Lower, Solves, table-solves, solves-
 use Rattle.exact.specs.Exact.{floats, float-off, float-on}
 use Rattle.diagnostics.specs.declared.SelectedInverseStatus.the-variants.{Complete}
 use Rattle.closure.specs.FactorPattern.{factor-pattern}
-use Rattle.entries.specs.Entries.{entryStarts, entryRows, entryValues, floatTable}
+use Rattle.entries.specs.Entries.{entryStarts, floatTable}
 use Rattle.result.specs.Lookup.{lookup}
 use Rattle.read_back.specs.ReadBack.{readBack, covered, lookup-filled}
 use Rattle.selection.specs.Selection.{Selection, Lent, roomOf, Accepted, selectedSet, selectedSize, selectedComplete, selectedAnswer, selectedTable}
-use Rattle.selection.specs.Selection.{ResultLists, passed-starts, passed-rows, passed-values}
+use Rattle.selection.specs.Selection.{ResultLists, passed-starts, complete-rows, complete-values}
 use Rattle.selection.specs.Status.{selected-complete}
 use Rattle.selection.specs.SamePositions.{front-starts}
 use Rattle.exact_entries.specs.Columns.{desc-ascend}
@@ -94,22 +93,12 @@ module _ (x : Selection) (lent : Lent) (A : Accepted x (roomOf lent)) where
     found-entries h row col =
         ap (λ (l : List ℕ). lookup (take (x .n + 1) l) rr rv row col) (passed-starts steps x lent passed L)
         ∙ ap (λ (l : List ℕ). lookup l rr rv row col) (front-starts x lent h)
-        ∙ ap₂ (λ (r : List ℕ) (v : List Float). lookup (entryStarts (x .n) (selectedSet x)) r v row col) rows-are values-are
+        ∙ ap₂ (λ (r : List ℕ) (v : List Float). lookup (entryStarts (x .n) (selectedSet x)) r v row col) (complete-rows steps x lent passed L (le-leb _ _ h)) (complete-values steps x lent passed L (le-leb _ _ h))
         ∙ lookup-filled (x .n) (selectedSet x) (selectedTable x) nan (lent .resultRows) (lent .resultValues) (omega (arith, most, A .rows-room))
         (omega (arith, most, A .values-room)) row col
       where
         most : selectedSize x ≤ pairTotal (x .n)
         most = closureSize-most (x .n) pat (x .requests)
-
-        rows-are : rr ≡ overwrite (entryRows (x .n) (selectedSet x)) (lent .resultRows)
-        rows-are =
-            passed-rows steps x lent passed L
-            ∙ ap (λ (b : Bool). cond b (overwrite (entryRows (x .n) (selectedSet x)) (lent .resultRows)) (lent .resultRows)) (le-leb _ _ h)
-
-        values-are : rv ≡ overwrite (entryValues (x .n) (selectedSet x) (selectedTable x)) (lent .resultValues)
-        values-are =
-            passed-values steps x lent passed L
-            ∙ ap (λ (b : Bool). cond b (overwrite (entryValues (x .n) (selectedSet x) (selectedTable x)) (lent .resultValues)) (lent .resultValues)) (le-leb _ _ h)
 
     -- the recurrence is what reads back
     pub reads-recurrence : ReadsRecurrence x rs rr rv (selectedTable x)

@@ -4,7 +4,7 @@ use Prim.Native.Nat.{ℕ, _+_, _≤_, _<_, min}
 use native.Mathlib.Omega.{arith}
 use native.Mathlib.Nat.{le-refl}
 use mathlib.Core.Path.{_≡_, refl, sym, ap, ap₂, subst, _∙_}
-use mathlib.Core.Bool.{Bool, true, false, not, cond}
+use mathlib.Core.Bool.{Bool, true, false, not}
 use mathlib.Core.List.{List, [], _∷_, _++_}
 use lib.ListN.{length, getD}
 use lib.Ieee.{Float, nan}
@@ -26,7 +26,7 @@ use Rattle.entries.specs.Position.{position-first, position-below, entryValues-
 use Rattle.permutation.specs.Permutation.{index, reordered}
 use Rattle.diagnostics.specs.declared.SelectedInverseDiagnostics.{SelectedInverseDiagnostics}
 use Rattle.selection.specs.Selection.{Selection, Lent, roomOf, Accepted, selectedSet, selectedSize, selectedComplete, selectedAnswer, selectedTable}
-use Rattle.selection.specs.Selection.{ResultLists, lists-refused, passed-starts, passed-values}
+use Rattle.selection.specs.Selection.{ResultLists, lists-refused, complete-starts, complete-values}
 use Rattle.selected.specs.declared.Selected.the-variants.{Answered, Refused}
 use Rattle.diagonal_marks.specs.Diagonals.{diagonal-requested, diagonals-ranged}
 use Rattle.original_diagonal.specs.Original.{OriginalCall, originalSelection, originalSteps, coveredSteps, factorDiagonal, OriginalDiagonal, FirstEntries, firstEntries}
@@ -70,14 +70,10 @@ module _ (x : OriginalCall) (lent : Lent) (output : List Float) where
           omega (arith, within, closureSize-most (x .n) (pattern (x .starts) (x .rows) (nonzero (x .values))) (sel .requests), A .accepted .values-room)
 
       starts-are : rs ≡ overwrite (entryStarts (x .n) (selectedSet sel)) (lent .resultStarts)
-      starts-are =
-          passed-starts steps sel lent passed L
-          ∙ ap (λ (b : Bool). cond b (overwrite (entryStarts (x .n) (selectedSet sel)) (lent .resultStarts)) (lent .resultStarts)) complete
+      starts-are = complete-starts steps sel lent passed L complete
 
       values-are : rv ≡ overwrite (entryValues (x .n) (selectedSet sel) (selectedTable sel)) (lent .resultValues)
-      values-are =
-          passed-values steps sel lent passed L
-          ∙ ap (λ (b : Bool). cond b (overwrite (entryValues (x .n) (selectedSet sel) (selectedTable sel)) (lent .resultValues)) (lent .resultValues)) complete
+      values-are = complete-values steps sel lent passed L complete
 
       module _ (j : ℕ) (l : j < x .n) where
         start-is : index rs j ≡ columnCount (x .n) (selectedSet sel) j

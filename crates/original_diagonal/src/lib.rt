@@ -1,7 +1,5 @@
 // The diagonal of the inverse in original order, after `selected_inverse_diag_with_diagnostics` of uncertainty.rs, before its finishing step.
 ghost use mathlib.Core.Path.{_≡_};
-ghost use mathlib.Core.List.{[], _∷_};
-ghost use lib.Dec.{ltb};
 ghost use lib.ListN.{length};
 ghost use Rattle.lists.specs.Overwrite.{overwrite};
 ghost use Rattle.refusal.specs.Steps.{verdict};
@@ -17,18 +15,9 @@ use refusal::Checked;
 use refusal::Refusal;
 use selected::Selected;
 use selected_checks::check_fill;
+use selected_checks::check_output;
 use selected_checks::first_of;
 use words::at;
-
-// Step 7 for the output.
-fn check_output(n: usize, output: usize) -> Checked
-    ensures { λ r. ⌜ replyOf r ≡ verdict ((7, ltb output n) ∷ []) ⌝ }
-{
-    if output < n {
-        return Checked::Refused(Refusal::TooShort);
-    }
-    Checked::Accepted
-}
 
 // Steps 1 to 7; the lists lent for writing are judged by their lengths.
 fn check_original(

@@ -1,6 +1,8 @@
 // The checks of selected entries, refusals 1 to 7; the lists lent for writing are judged by their lengths.
 ghost use mathlib.Core.Path.{_≡_};
 ghost use Prim.Native.Nat.{_≤_, min};
+ghost use mathlib.Core.List.{[], _∷_};
+ghost use lib.Dec.{ltb};
 ghost use lib.ListN.{length};
 ghost use Rattle.refusal.specs.Bounds.{maxDimension};
 ghost use Rattle.refusal.specs.Steps.{verdict};
@@ -61,6 +63,16 @@ pub fn first_of(a: Checked, b: Checked) -> Checked
         Checked::Refused(why) => Checked::Refused(why),
         Checked::Accepted => b,
     }
+}
+
+// Step 7 for an output that needs so many places.
+pub fn check_output(needed: usize, output: usize) -> Checked
+    ensures { λ r. ⌜ replyOf r ≡ verdict ((7, ltb output needed) ∷ []) ⌝ }
+{
+    if output < needed {
+        return Checked::Refused(Refusal::TooShort);
+    }
+    Checked::Accepted
 }
 
 // Steps 6 and 7, past the others: what filling result lists asks.

@@ -11,7 +11,9 @@ use Rattle.reporting.specs.Value.{sameValues}
 use Rattle.reporting.specs.Count.{counted}
 use Rattle.selected.specs.declared.Selected.{Selected}
 use Rattle.selected.specs.Selected.{selectedReplyOf, SelectedEntries}
-use Rattle.selection.specs.Selection.{Call, Lent, lists, selectedReply, startsAfter, rowsAfter, valuesAfter, scratchAfter}
+use Rattle.refusal.specs.Steps.{after}
+use Rattle.selection.specs.Selection.{Lent, lists, roomOf, filledStarts, filledRows, filledValues, clearedScratch}
+use Rattle.selection.specs.Call.{Call, selectionOf, selectedSteps, selectedReply}
 use Rattle.selected_reporting.specs.declared.outcome.Outcome.{Outcome}
 use Rattle.selected_reporting.specs.Outcome.{outcomeOf, sameOutcome}
 
@@ -28,10 +30,10 @@ judged t reply lent expected left =
 -- what a call leaves in its lists
 abbrev pub listsAfter : Call → Lent → Lent
 listsAfter x lent = record {
-  resultStarts = startsAfter x lent;
-  resultRows = rowsAfter x lent;
-  resultValues = valuesAfter x lent;
-  scratch = scratchAfter x lent;
+  resultStarts = after (selectedSteps x (roomOf lent)) (filledStarts (selectionOf x) lent) (lent .resultStarts);
+  resultRows = after (selectedSteps x (roomOf lent)) (filledRows (selectionOf x) lent) (lent .resultRows);
+  resultValues = after (selectedSteps x (roomOf lent)) (filledValues (selectionOf x) lent) (lent .resultValues);
+  scratch = after (selectedSteps x (roomOf lent)) (clearedScratch (selectionOf x) lent) (lent .scratch);
 }
 
 -- a call judged by what it replies and leaves
@@ -47,4 +49,4 @@ judged-call t reply expected left E q j =
     j
     ∙ ap₂ (λ (o : Outcome) (l : Lent). judged t o l expected left)
     (q ∙ ap outcomeOf (E .replies))
-    (λ i. lists (E .starts-are i) (E .rows-are i) (E .values-are i) (E .scratch-is i))
+    (λ i. lists (E .left .starts-are i) (E .left .rows-are i) (E .left .values-are i) (E .left .scratch-is i))

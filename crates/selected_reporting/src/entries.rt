@@ -1,6 +1,7 @@
 // Cases of selected entries: the call, and its line.
 ghost use mathlib.Core.Path.{_≡_};
-ghost use Rattle.selection.specs.Selection.{call, lists, defaultLimit};
+ghost use Rattle.selection.specs.Selection.{lists, defaultLimit};
+ghost use Rattle.selection.specs.Call.{call};
 ghost use Rattle.selected_reporting.specs.Judge.{judged, judgedCall};
 use crate::outcome::Outcome;
 use crate::outcome::outcome_of;

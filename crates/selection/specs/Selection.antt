@@ -4,7 +4,7 @@
 use Prim.Native.Nat.{ℕ, _+_, _-_, _*_, _≤_, min}
 use native.Mathlib.Omega.{arith}
 use mathlib.Core.Path.{_≡_, refl, sym, ap, _∙_}
-use mathlib.Core.Bool.{Bool, cond}
+use mathlib.Core.Bool.{Bool, true, cond}
 use mathlib.Core.List.{List, [], _∷_, _++_}
 use lib.Dec.{ltb, leb}
 use lib.ListN.{length, drop}
@@ -194,3 +194,15 @@ module _ (steps : List Step) (x : Selection) (lent : Lent) where
 
       pub passed-scratch : scratch ≡ clearedScratch x lent
       passed-scratch = L .scratch-is ∙ after-passed steps _ _ p
+
+      -- where the set is within the limit
+      module _ (complete : selectedComplete x ≡ true) where
+        pub complete-starts : starts ≡ overwrite (entryStarts (x .n) (selectedSet x)) (lent .resultStarts)
+        complete-starts = passed-starts ∙ ap (λ (b : Bool). cond b (overwrite (entryStarts (x .n) (selectedSet x)) (lent .resultStarts)) (lent .resultStarts)) complete
+
+        pub complete-rows : rows ≡ overwrite (entryRows (x .n) (selectedSet x)) (lent .resultRows)
+        complete-rows = passed-rows ∙ ap (λ (b : Bool). cond b (overwrite (entryRows (x .n) (selectedSet x)) (lent .resultRows)) (lent .resultRows)) complete
+
+        pub complete-values : values ≡ overwrite (entryValues (x .n) (selectedSet x) (selectedTable x)) (lent .resultValues)
+        complete-values =
+            passed-values ∙ ap (λ (b : Bool). cond b (overwrite (entryValues (x .n) (selectedSet x) (selectedTable x)) (lent .resultValues)) (lent .resultValues)) complete
