@@ -1,0 +1,87 @@
+-- The exact case of operator variances: for whole weights each row's value is the exact wᵀXw.
+-- Assumes nothing.
+use Prim.Native.Nat.{ℕ, _+_, _-_, _<_}
+use native.Mathlib.Omega.{arith}
+use mathlib.Core.Path.{_≡_, sym, ap, subst, _∙_}
+use mathlib.Core.Bool.{Bool, cond}
+use mathlib.Core.List.{List}
+use lib.ListN.{length, getD}
+use lib.IntN.{ℤ}
+use lib.Ieee.{Float, nan}
+use borrow.Author.Tests.{le-leb}
+use Rattle.lists.specs.Tabulate.{tabulate-at, tabulate-length}
+use Rattle.lists.specs.Overwrite.{overwrite, overwrite-at}
+use Rattle.refusal.specs.Steps.{Passed, after-passed}
+use Rattle.columns.specs.Columns.{start, value}
+use Rattle.columns.specs.Operator.{operatorRows}
+use Rattle.integers.specs.Matrix.{Matrix}
+use Rattle.integers.specs.Inverse.{WholeInverse}
+use Rattle.takahashi.specs.Entries.{Entry}
+use Rattle.exact.specs.Multiple.{Whole}
+use Rattle.exact.specs.Exact.{floats}
+use Rattle.exact.specs.Factor.{factor}
+use Rattle.exact.specs.ExactCase.{ones}
+use Rattle.closed_set.specs.ClosedSet.{request}
+use Rattle.diagnostics.specs.declared.SelectedInverseStatus.the-variants.{Complete}
+use Rattle.selection.specs.Selection.{Lent, roomOf, selectedAnswer, selectedTable, ResultLists}
+use Rattle.selection.specs.Status.{selected-complete}
+use Rattle.exact_entries.specs.ExactEntries.{ExactCall, ReadsBack, exact-entries, exact-either}
+use Rattle.operator_marks.specs.OperatorRequests.{places-requested}
+use Rattle.operator_values.specs.RowValue.{columnAt, rowValue, operatorValues, operatorValue}
+use Rattle.operator_values.specs.ExactRow.{quadratic, RowWithin, rowValue-exact}
+use Rattle.operator_variances.specs.Transformed.{TransformedCall, transformedSelection, transformedSteps, transformedValues, transformedAfter}
+use Rattle.operator_variances.specs.Transformed.{AcceptedTransformed, transformed-accepted}
+
+module _ (x : TransformedCall) where
+  -- the first place of row i, and how many places it has
+  abbrev pub first-of-row : ℕ → ℕ
+  first-of-row i = start (x .rowStarts) i
+
+  abbrev pub places-of-row : ℕ → ℕ
+  places-of-row i = start (x .rowStarts) (i + 1) - start (x .rowStarts) i
+
+  -- row i has the whole weights v, and no weight product, product with an entry or running sum is beyond 2 ^ 53
+  pub record ExactRow (v : ℕ → ℤ) (X : Matrix) (i : ℕ) : Type 0 where
+    pub weights : (p : ℕ) → p < places-of-row i → Whole (value (x .weights) (first-of-row i + p)) (v (first-of-row i + p))
+    pub within : RowWithin (columnAt (x .columns)) v X (first-of-row i) (places-of-row i)
+
+  -- X is what reads back, and wᵀXw what the output holds for each row in the exact case
+  pub record TransformedExact (rs rr : List ℕ) (rv out : List Float) (X : Matrix) : Type 0 where
+    pub reads : ReadsBack (transformedSelection x) rs rr rv X
+    pub variances : selectedAnswer (transformedSelection x) .status ≡ Complete → (i : ℕ) → i < operatorRows (x .rowStarts) → (v : ℕ → ℤ) → ExactRow v X i
+        → Whole (getD out i nan) (quadratic (columnAt (x .columns)) v X (first-of-row i) (places-of-row i))
+
+module _ (x : TransformedCall) (lent : Lent) (output : List Float) (passed : Passed (transformedSteps x (roomOf lent) (length output)))
+    (whole : ℕ → List (Entry ℤ)) (E : ExactCall (transformedSelection x) whole) (X : Matrix) (is : WholeInverse (x .n) (factor ones whole) X) where
+  pub transformed-exact : {rs rr : List ℕ} {rv : List Float} {s : List ℕ}
+      → ResultLists (transformedSteps x (roomOf lent) (length output)) (transformedSelection x) lent rs rr rv s
+      → TransformedExact x rs rr rv (transformedAfter x lent output) X
+  unfolding operatorValues
+  transformed-exact L = record {
+    reads = exact-entries (transformedSelection x) lent (A .accepted) whole E X is (transformedSteps x (roomOf lent) (length output)) passed L;
+    variances = λ e i l v R.
+        subst (λ (z : Float). Whole z (quadratic (columnAt (x .columns)) v X (first-of-row x i) (places-of-row x i))) (sym (row-is e i l))
+        (rowValue-exact (columnAt (x .columns)) (value (x .weights)) (selectedTable (transformedSelection x)) v X (start (x .rowStarts) i) (start (x .rowStarts) (i + 1))
+        (record { weights = R .weights; entries = λ a b ha hb. entry i l a b ha hb }) (R .within));
+  }
+    where
+      A : AcceptedTransformed x (roomOf lent) (length output)
+      A = transformed-accepted x (roomOf lent) (length output) passed
+
+      entry : (i : ℕ) → i < operatorRows (x .rowStarts) → (a b : ℕ) → a < places-of-row x i → b < places-of-row x i
+          → Whole (Rattle.takahashi.specs.Recurrence.at (selectedTable (transformedSelection x)) (columnAt (x .columns) (first-of-row x i + a)) (columnAt (x .columns) (first-of-row x i + b)))
+          (X (columnAt (x .columns) (first-of-row x i + a)) (columnAt (x .columns) (first-of-row x i + b)))
+      entry i l a b ha hb =
+          exact-either (transformedSelection x) lent (A .accepted) whole E X is (columnAt (x .columns) (first-of-row x i + a))
+          (columnAt (x .columns) (first-of-row x i + b))
+          (request (places-requested (x .rowStarts) (x .columns) i (first-of-row x i + a) (first-of-row x i + b) l (omega arith) (omega arith) (omega arith) (omega arith)))
+
+      row-is : selectedAnswer (transformedSelection x) .status ≡ Complete → (i : ℕ) → i < operatorRows (x .rowStarts)
+          → getD (transformedAfter x lent output) i nan
+          ≡ rowValue floats (columnAt (x .columns)) (value (x .weights)) (selectedTable (transformedSelection x)) (start (x .rowStarts) i) (start (x .rowStarts) (i + 1))
+      row-is e i l =
+          ap (λ (o : List Float). getD o i nan) (after-passed (transformedSteps x (roomOf lent) (length output)) _ output passed)
+          ∙ ap (λ (b : Bool). getD (cond b (overwrite (transformedValues x) output) output) i nan) (le-leb _ _ (selected-complete (transformedSelection x) .0 e))
+          ∙ overwrite-at (transformedValues x) output i nan
+          (omega (arith, tabulate-length (operatorValue (x .rowStarts) (x .columns) (x .weights) (selectedTable (transformedSelection x))) (operatorRows (x .rowStarts))))
+          ∙ tabulate-at (operatorValue (x .rowStarts) (x .columns) (x .weights) (selectedTable (transformedSelection x))) (operatorRows (x .rowStarts)) i nan l

@@ -1,0 +1,163 @@
+-- The variances of an operator's rows: what a call is handed, what it refuses in document 01's order, what it answers and leaves.
+-- Assumes nothing.
+use Prim.Native.Nat.{ℕ, _≤_}
+use mathlib.Core.Path.{_≡_, subst}
+use mathlib.Core.Bool.{Bool, not, cond}
+use mathlib.Core.List.{List, [], _∷_, _++_}
+use lib.Dec.{ltb, eqb}
+use lib.ListN.{length}
+use lib.Ieee.{Float}
+use borrow.Author.Tests.{ltb-false}
+use Rattle.lists.specs.Overwrite.{overwrite}
+use Rattle.refusal.specs.Bounds.{maxEntries}
+use Rattle.refusal.specs.Steps.{Step, Reply, first, after, Passed, passed-clear, passed-front, passed-back}
+use Rattle.columns.specs.Columns.{boundSteps, columnSteps}
+use Rattle.columns.specs.Factor.{boundSteps-sound, columnSteps-sound}
+use Rattle.columns.specs.Operator.{operatorRows, operatorBoundSteps, operatorSteps, OperatorRows, operatorSteps-sound}
+use Rattle.diagnostics.specs.declared.SelectedInverseDiagnostics.{SelectedInverseDiagnostics}
+use Rattle.selection.specs.Selection.{Selection, Lent, Room, roomOf, defaultLimit, fillSteps, selectedComplete, selectedAnswer, selectedTable, Accepted}
+use Rattle.selection.specs.Selection.{ResultLists}
+use Rattle.selection.specs.Call.{fill-accepted}
+use Rattle.selected.specs.declared.Selected.{Selected}
+use Rattle.selected.specs.Selected.{selectedReplyOf}
+use Rattle.operator_marks.specs.OperatorRequests.{operatorRequested, operatorRequested-ranged}
+use Rattle.operator_values.specs.RowValue.{operatorValues}
+
+-- what a call is handed to read: a factor and an operator of `ncols` columns, in factor order
+pub record TransformedCall : Type 0 where
+  pub n : ℕ
+  pub starts : List ℕ
+  pub rows : List ℕ
+  pub values : List Float
+  pub ncols : ℕ
+  pub rowStarts : List ℕ
+  pub columns : List ℕ
+  pub weights : List Float
+
+-- a call, from a function's parameters in their order
+abbrev pub transformedCall : ℕ → List ℕ → List ℕ → List Float → ℕ → List ℕ → List ℕ → List Float → TransformedCall
+transformedCall n starts rows values ncols rowStarts columns weights = record {
+  n = n;
+  starts = starts;
+  rows = rows;
+  values = values;
+  ncols = ncols;
+  rowStarts = rowStarts;
+  columns = columns;
+  weights = weights;
+}
+
+module _ (x : TransformedCall) where
+  -- the requests are all column pairs of each row, the limit is the default one
+  abbrev pub transformedSelection : Selection
+  transformedSelection = record {
+    n = x .n;
+    starts = x .starts;
+    rows = x .rows;
+    values = x .values;
+    requests = operatorRequested (x .rowStarts) (x .columns);
+    limit = defaultLimit (x .rows);
+  }
+
+  -- 4: the operator's columns are not n
+  abbrev pub columnCountSteps : List Step
+  columnCountSteps = (4, not (eqb (x .ncols) (x .n))) ∷ []
+
+  -- 7: an output below the operator's rows
+  abbrev pub outputSteps : ℕ → List Step
+  outputSteps output = (7, ltb output (operatorRows (x .rowStarts))) ∷ []
+
+  -- 4, 9, 6 and 7, with an output of that length
+  abbrev pub pastColumns : Room → ℕ → List Step
+  pastColumns lengths output =
+      columnCountSteps
+      ++ (operatorSteps (x .n) (x .rowStarts) (x .columns) (length (x .weights))
+      ++ (fillSteps (x .n) (x .starts) (x .rows) (x .values) (defaultLimit (x .rows)) lengths
+      ++ outputSteps output))
+
+  -- 2 and 3, then those
+  abbrev pub fromColumns : Room → ℕ → List Step
+  fromColumns lengths output = columnSteps (x .n) (x .starts) (x .rows) (length (x .values)) ++ pastColumns lengths output
+
+  -- 1, then those
+  unfoldable pub transformedSteps : Room → ℕ → List Step
+  transformedSteps lengths output =
+      (boundSteps (x .n) (length (x .rows)) ++ operatorBoundSteps (x .rowStarts) (x .columns)) ++ fromColumns lengths output
+
+  -- the reply: either status carries the diagnosis
+  abbrev pub transformedReply : Lent → ℕ → Reply SelectedInverseDiagnostics
+  transformedReply lent output = first (transformedSteps (roomOf lent) output) (selectedAnswer transformedSelection)
+
+  -- the rows' values
+  abbrev pub transformedValues : List Float
+  transformedValues = operatorValues (x .rowStarts) (x .columns) (x .weights) (selectedTable transformedSelection)
+
+  -- the output afterwards, written where the set is within the limit
+  abbrev pub transformedAfter : Lent → List Float → List Float
+  transformedAfter lent output =
+      after (transformedSteps (roomOf lent) (length output)) (cond (selectedComplete transformedSelection) (overwrite transformedValues output) output) output
+
+-- the reply and the lists of a call
+pub record TransformedDiagonal (x : TransformedCall) (lent : Lent) (output : List Float) (reply : Selected) (starts rows : List ℕ) (values : List Float)
+    (scratch : List ℕ) (out : List Float) : Type 0 where
+  pub replies : selectedReplyOf reply ≡ transformedReply x lent (length output)
+  pub left : ResultLists (transformedSteps x (roomOf lent) (length output)) (transformedSelection x) lent starts rows values scratch
+  pub output-is : out ≡ transformedAfter x lent output
+
+-- ---- a call that passed
+
+-- what it has
+pub record AcceptedTransformed (x : TransformedCall) (lengths : Room) (output : ℕ) : Type 0 where
+  pub accepted : Accepted (transformedSelection x) lengths
+  pub few : length (x .rows) ≤ maxEntries
+  pub operator : OperatorRows (x .n) (x .rowStarts) (x .columns) (length (x .weights))
+  pub room : operatorRows (x .rowStarts) ≤ output
+
+module _ (x : TransformedCall) (lengths : Room) (output : ℕ) (p : Passed (transformedSteps x lengths output)) where
+  a1 : List Step
+  a1 = boundSteps (x .n) (length (x .rows))
+
+  a2 : List Step
+  a2 = operatorBoundSteps (x .rowStarts) (x .columns)
+
+  a3 : List Step
+  a3 = columnSteps (x .n) (x .starts) (x .rows) (length (x .values))
+
+  a4 : List Step
+  a4 = columnCountSteps x
+
+  a5 : List Step
+  a5 = operatorSteps (x .n) (x .rowStarts) (x .columns) (length (x .weights))
+
+  a6 : List Step
+  a6 = fillSteps (x .n) (x .starts) (x .rows) (x .values) (defaultLimit (x .rows)) lengths
+
+  a7 : List Step
+  a7 = outputSteps x output
+
+  past2 : Passed (a3 ++ (a4 ++ (a5 ++ (a6 ++ a7))))
+  unfolding transformedSteps a1 a2 a3 a4 a5 a6 a7
+  past2 = passed-back (a1 ++ a2) (a3 ++ (a4 ++ (a5 ++ (a6 ++ a7)))) p
+
+  past3 : Passed (a4 ++ (a5 ++ (a6 ++ a7)))
+  past3 = passed-back a3 (a4 ++ (a5 ++ (a6 ++ a7))) past2
+
+  past4 : Passed (a5 ++ (a6 ++ a7))
+  past4 = passed-back a4 (a5 ++ (a6 ++ a7)) past3
+
+  past5 : Passed (a6 ++ a7)
+  past5 = passed-back a5 (a6 ++ a7) past4
+
+  pub transformed-accepted : AcceptedTransformed x lengths output
+  unfolding transformedSteps a1 a2 a3 a4 a5 a6 a7
+  transformed-accepted =
+      let B = boundSteps-sound (x .n) (length (x .rows)) (passed-front a1 a2 (passed-front (a1 ++ a2) (a3 ++ (a4 ++ (a5 ++ (a6 ++ a7)))) p)) in
+      let F = columnSteps-sound (x .n) (x .starts) (x .rows) (length (x .values)) (passed-front a3 (a4 ++ (a5 ++ (a6 ++ a7))) past2) in
+      let O = operatorSteps-sound (x .n) (x .rowStarts) (x .columns) (length (x .weights)) (passed-front a5 (a6 ++ a7) past4) in
+      record {
+        accepted =
+            fill-accepted (transformedSelection x) lengths (B .small) F (operatorRequested-ranged O) (passed-front a6 a7 past5);
+        few = B .few;
+        operator = O;
+        room = ltb-false _ _ (passed-clear a7 (passed-back a6 a7 past5) .0);
+      }
