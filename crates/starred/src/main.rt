@@ -6,6 +6,7 @@ use check::expect;
 use floor::Stabilized;
 use floor::VarianceFloor;
 use floor::stabilize_variances;
+use operator_variances::selected_inverse_transformed_diag;
 use replies::checked_number;
 use starred_calls::counted;
 use starred_calls::f2;
@@ -66,6 +67,32 @@ fn floored() {
     expect(list[2] == 2.0);
 }
 
+// F2 with the operator row 1 at 0, 1 at 1: 2.
+fn operator_row() {
+    let mut result_starts = [7u32; 3];
+    let mut result_rows = [7u32; 3];
+    let mut result_values = [7.0f64; 3];
+    let mut scratch = [7u32; 14];
+    let mut output = [7.0f64; 1];
+    let reply = selected_inverse_transformed_diag(
+        2,
+        &[0, 2, 3],
+        &[0, 1, 1],
+        &[1.0, 2.0, 1.0],
+        2,
+        &[0, 2],
+        &[0, 1],
+        &[1.0, 1.0],
+        &mut result_starts,
+        &mut result_rows,
+        &mut result_values,
+        &mut scratch,
+        &mut output,
+    );
+    expect(counted(reply, 3, 3, 3, true));
+    expect(output[0] == 2.0);
+}
+
 // F2 with (0,0) at limits 3 and 2, (1,0), (1,1), (0,1) with (1,0), and no requests at limit 0.
 fn closed_sets_of_f2() {
     expect(counted(f2(&[0], &[0], 3), 1, 3, 3, true));
@@ -119,6 +146,7 @@ fn main() {
     closed_set_of_no_columns();
     limits();
     floored();
+    operator_row();
     values_of_f2();
     values_of_one_column();
 }
