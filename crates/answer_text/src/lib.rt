@@ -1,11 +1,13 @@
 // Writing an answer: lines of a label and numbers, words or values.
-use words::at;
-
 pub fn put(text: &[u8]) {
     io::write_all(1, text);
 }
 
 fn put_count(x: usize) {
+    io::print_decimal(1, x as u64);
+}
+
+fn put_word(x: u32) {
     io::print_decimal(1, x as u64);
 }
 
@@ -25,32 +27,64 @@ pub fn put_value(x: f64) {
     }
 }
 
-// A line of a label, a count and the first `count` words of the list.
-pub fn put_words(label: &[u8], list: &[u32], count: usize) {
+// A line of a label and a value.
+pub fn put_value_line(label: &[u8], x: f64) {
     put(label);
-    put_count(count);
+    put_value(x);
+    put(b"\n");
+}
+
+// How often the item before it stood, where more than once.
+fn put_times(k: usize) {
+    if k > 1 {
+        put(b"*");
+        put_count(k);
+    }
+}
+
+// A line of a label, a list's length and its words; a word that stands k times in a row is written once, as word*k.
+pub fn put_words(label: &[u8], list: &[u32]) {
+    put(label);
+    put_count(list.len());
     let mut i = 0;
-    while i < count {
-        put(b" ");
-        if i < list.len() {
-            put_count(at(list, i));
+    while i < list.len() {
+        let word = list[i];
+        let mut k = 1;
+        while k < list.len() - i {
+            if list[i + k] != word {
+                break;
+            }
+            k += 1;
         }
-        i += 1;
+        put(b" ");
+        put_word(word);
+        put_times(k);
+        i += k;
     }
     put(b"\n");
 }
 
-// The same with values.
-pub fn put_values(label: &[u8], list: &[f64], count: usize) {
+// The same with values; zeros, whose signs differ, are written one by one.
+pub fn put_values(label: &[u8], list: &[f64]) {
     put(label);
-    put_count(count);
+    put_count(list.len());
     let mut i = 0;
-    while i < count {
-        put(b" ");
-        if i < list.len() {
-            put_value(list[i]);
+    while i < list.len() {
+        let value = list[i];
+        let mut k = 1;
+        while k < list.len() - i {
+            if list[i + k] != value {
+                break;
+            }
+            if value == 0.0 {
+                break;
+            }
+            k += 1;
         }
-        i += 1;
+        put(b" ");
+        put_value(value);
+        put_times(k);
+        i += k;
     }
     put(b"\n");
 }

@@ -61,6 +61,15 @@ begins text p label = leb (p + length label) (length text) && not (any (differs 
 unfoldable pub pastLabel : List ℕ → ℕ → List ℕ → ℕ
 pastLabel text p label = cond (begins text (pastBlanks text p) label) (pastBlanks text p + length label) (length text)
 
+-- the place after the label where it stands first from p on, of k places at most
+unfoldable pub firstFrom : List ℕ → List ℕ → ℕ → ℕ → ℕ
+firstFrom text label p zero = p
+firstFrom text label p (suc k) = cond (begins text p label) (p + length label) (firstFrom text label (p + 1) k)
+
+-- the place after the label where it stands first from p on; the text's end where it does not
+abbrev pub pastFirst : List ℕ → ℕ → List ℕ → ℕ
+pastFirst text p label = firstFrom text label p (length text - p)
+
 -- ---- laws: a place more, and the end
 module _ (test : ℕ → Bool) where
   pub pastRun-end : (p e : ℕ) → e ≤ p → pastRun test p (e - p) ≡ p
@@ -124,3 +133,47 @@ pub pastLabel-absent : (text : List ℕ) (p : ℕ) (label : List ℕ) (at : ℕ)
     length text ≡ pastLabel text p label
 unfolding pastLabel
 pastLabel-absent text p label at a e = rw (← a) (rw e)
+
+-- ---- laws of the first place of a label
+either-above : (b : Bool) (p x y : ℕ) → p ≤ x → p ≤ y → p ≤ cond b x y
+either-above true p x y g h = g
+either-above false p x y g h = h
+
+module _ (text label : List ℕ) where
+  pub first-end : (p e : ℕ) → e ≤ p → firstFrom text label p (e - p) ≡ p
+  unfolding firstFrom
+  first-end p e h = let z : e - p ≡ 0 = omega arith in ap (firstFrom text label p) z
+
+  pub first-found : (p e : ℕ) → p < e → begins text p label ≡ true → firstFrom text label p (e - p) ≡ p + length label
+  unfolding firstFrom
+  first-found p e l h =
+      let z : e - p ≡ suc (e - (p + 1)) = omega arith in
+      ap (firstFrom text label p) z ∙ rw h
+
+  pub first-more : (p e : ℕ) → p < e → begins text p label ≡ false → firstFrom text label p (e - p) ≡ firstFrom text label (p + 1) (e - (p + 1))
+  unfolding firstFrom
+  first-more p e l h =
+      let z : e - p ≡ suc (e - (p + 1)) = omega arith in
+      ap (firstFrom text label p) z ∙ rw h
+
+  -- it is past p
+  first-above : (k p : ℕ) → p ≤ firstFrom text label p k
+  unfolding firstFrom
+  first-above zero p = omega arith
+  first-above (suc k) p =
+      let m : p + 1 ≤ firstFrom text label (p + 1) k = first-above k (p + 1) in
+      either-above (begins text p label) p (p + length label) (firstFrom text label (p + 1) k) (omega arith) (omega arith)
+
+  pub pastFirst-past : (p : ℕ) → 0 < length label → p < length text → p < pastFirst text p label
+  unfolding firstFrom
+  pastFirst-past p h l =
+      let z : length text - p ≡ suc (length text - (p + 1)) = omega arith in
+      let k = length text - (p + 1) in
+      let m : p + 1 ≤ firstFrom text label (p + 1) k = first-above k (p + 1) in
+      let e : p + 1 ≤ firstFrom text label p (suc k) = either-above (begins text p label) (p + 1) (p + length label) (firstFrom text label (p + 1) k) (omega arith) m in
+      let f : firstFrom text label p (length text - p) ≡ firstFrom text label p (suc k) = ap (firstFrom text label p) z in
+      omega arith
+
+  -- less of the text is left after it
+  pub pastFirst-less : {p r : ℕ} → r ≡ pastFirst text p label → 0 < length label → p < length text → length text - r < length text - p
+  pastFirst-less {p} e h l = let m = pastFirst-past p h l in omega arith

@@ -2,7 +2,7 @@
 ghost use mathlib.Core.Path.{_≡_};
 ghost use Prim.Native.Nat.{_≤_, _<_};
 ghost use lib.Ieee.{binary64, ofBits};
-ghost use Rattle.case_text.specs.Text.{pastBlanks, pastWord, digitOf, digitMore, numberAt, pastLabel, begins as Text·begins};
+ghost use Rattle.case_text.specs.Text.{pastBlanks, pastWord, digitOf, digitMore, numberAt, pastLabel, pastFirst, begins as Text·begins};
 
 fn wide(b: u8) -> u64
     ensures { λ r. ⌜ r ≡ b ⌝ }
@@ -139,4 +139,18 @@ pub fn past_label(text: &[u8], p: usize, label: &[u8]) -> usize
         return at + label.len();
     }
     text.len()
+}
+
+// The place after the label, where it stands first anywhere from p on; else the text's end.
+pub fn skip_to(text: &[u8], p: usize, label: &[u8]) -> usize
+    ensures { λ r. ⌜ r ≡ pastFirst (now (text .entry)) p (now (label .entry)) ⌝ }
+{
+    let mut i = p;
+    while i < text.len() {
+        if begins(text, i, label) {
+            return i + label.len();
+        }
+        i += 1;
+    }
+    i
 }

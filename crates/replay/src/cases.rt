@@ -1,52 +1,61 @@
 // The cases of a text, one after another.
-use crate::factor::Kind;
-use crate::factor::read_starts;
+use crate::factors::factors;
 use answer_text::put;
 use answer_text::put_part;
 use case_text::begins;
 use case_text::past_label;
 use case_text::skip_blanks;
+use case_text::skip_to;
 use case_text::skip_word;
+use replay_floor::least_value;
+use replay_floor::stabilization;
+use replay_lookups::diagonals;
+use replay_lookups::lookups;
+use replay_patterns::patterns;
+use replay_permutations::application;
+use replay_permutations::inversion;
+use replay_permutations::validation;
 
-// The case whose fields start at p; the reply is the place after them.
-fn fields(text: &[u8], kind: usize, p: usize) -> usize {
-    if begins(text, kind, b"entries\n") {
-        return read_starts(text, p, Kind::Entries);
+// The call of the kind, with the fields from p on.
+fn call(text: &[u8], kind: usize, p: usize) {
+    if begins(text, kind, b"permvalidate\n") {
+        validation(text, p);
+    } else if begins(text, kind, b"permfrom\n") {
+        inversion(text, p);
+    } else if begins(text, kind, b"permapply\n") {
+        application(text, p);
+    } else if begins(text, kind, b"floor\n") {
+        stabilization(text, p);
+    } else if begins(text, kind, b"least\n") {
+        least_value(text, p);
+    } else if begins(text, kind, b"get\n") {
+        lookups(text, p);
+    } else if begins(text, kind, b"diag\n") {
+        diagonals(text, p);
+    } else if begins(text, kind, b"pat") {
+        patterns(text, kind, p);
+    } else {
+        factors(text, kind, p);
     }
-    if begins(text, kind, b"defaultlimit\n") {
-        return read_starts(text, p, Kind::DefaultLimit);
-    }
-    if begins(text, kind, b"get\n") {
-        return read_starts(text, p, Kind::Get);
-    }
-    if begins(text, kind, b"diag\n") {
-        return read_starts(text, p, Kind::Diag);
-    }
-    put(b"unknown kind\n");
-    p
 }
 
-// One case, its first and last lines written as they stand; the reply is the place after it.
-fn case(text: &[u8], p: usize) -> usize {
+// The case at p: its first line as it stands, the answer, and its last line.
+fn case(text: &[u8], p: usize) {
     let name = past_label(text, p, b"case ");
     let kind = skip_blanks(text, skip_word(text, name));
-    let first = skip_word(text, kind);
+    let fields = skip_word(text, kind);
     put(b"case ");
-    put_part(text, name, first);
+    put_part(text, name, fields);
     put(b"\n");
-    let end = past_label(text, fields(text, kind, first), b"end\n");
+    call(text, kind, fields);
     put(b"end\n");
-    end
 }
 
-// Each case moves on in the text, or is the last.
+// Each case ends with a line `end`.
 pub fn replay(text: &[u8]) {
     let mut p = 0;
     while p < text.len() {
-        let next = case(text, p);
-        if next <= p {
-            return;
-        }
-        p = next;
+        case(text, p);
+        p = skip_to(text, p, b"\nend\n");
     }
 }

@@ -1,7 +1,6 @@
 // Reads cases from standard input, makes their calls and writes the answers, both in the text form that replay/README.md gives.
 mod cases;
-mod factor;
-mod requests;
+mod factors;
 
 fn read(text: &mut [u8]) {
     let k = io::read_full(0, text);

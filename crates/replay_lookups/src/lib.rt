@@ -1,20 +1,21 @@
 // Lookups, and the diagonal list.
 use answer_text::put;
-use answer_text::put_number;
 use answer_text::put_value;
 use answer_text::put_values;
-use case_lists::read_words;
+use case_fields::value_field;
+use case_fields::word_field;
 use case_text::begins;
-use case_text::past_label;
 use case_text::skip_blanks;
 use inverse::Entry;
 use inverse::diag;
 use inverse::get;
-use lent_lists::values_hold;
-use refusal::Checked;
 use refusal::Refusal;
+use replay_replies::put_checked;
 use replies::refusal_number;
 use words::at;
+
+// The places of each list that a case is read into.
+const ROOM: usize = 4608;
 
 // A refusal by its number, an absent pair by none.
 fn put_refusal(why: Refusal) {
@@ -51,75 +52,65 @@ fn put_gets(starts: &[u32], rows: &[u32], values: &[f64], pair_rows: &[u32], pai
     put(b"\n");
 }
 
-fn read_columns(
-    text: &[u8],
-    p: usize,
-    starts: &[u32],
-    rows: &[u32],
-    values: &[f64],
-    pair_rows: &[u32],
-) -> usize {
-    let mut columns = [0u32; 64];
-    let listed = read_words(text, past_label(text, p, b"pcols "), &mut columns);
-    let count = listed.count;
-    put_gets(starts, rows, values, pair_rows, &columns[..count]);
-    listed.next
-}
-
-// Reads the pairs, where there are any, and looks each up.
-pub fn gets(text: &[u8], p: usize, starts: &[u32], rows: &[u32], values: &[f64]) -> usize {
+// Looks up the pairs that stand at p, if any do.
+pub fn gets(text: &[u8], p: usize, starts: &[u32], rows: &[u32], values: &[f64]) {
     let mut pair_rows = [0u32; 64];
-    let first = skip_blanks(text, p);
-    if !begins(text, first, b"prows ") {
-        return first;
+    let mut pair_columns = [0u32; 64];
+    if begins(text, skip_blanks(text, p), b"prows ") {
+        let i = word_field(text, p, b"prows ", &mut pair_rows);
+        let j = word_field(text, i.next, b"pcols ", &mut pair_columns);
+        put_gets(
+            starts,
+            rows,
+            values,
+            &pair_rows[..i.count],
+            &pair_columns[..j.count],
+        );
     }
-    let listed = read_words(text, past_label(text, first, b"prows "), &mut pair_rows);
-    let count = listed.count;
-    read_columns(text, listed.next, starts, rows, values, &pair_rows[..count])
 }
 
-// Passes the pairs over.
-pub fn skip_pairs(text: &[u8], p: usize) -> usize {
-    let mut none: [u32; 0] = [];
-    let first = skip_blanks(text, p);
-    if !begins(text, first, b"prows ") {
-        return first;
-    }
-    let rows = read_words(text, past_label(text, first, b"prows "), &mut none);
-    let columns = read_words(text, past_label(text, rows.next, b"pcols "), &mut none);
-    columns.next
+// Lookups in the result that stands at p.
+pub fn lookups(text: &[u8], p: usize) {
+    let mut starts = [0u32; ROOM];
+    let mut rows = [0u32; ROOM];
+    let mut values = [0.0; ROOM];
+    let s = word_field(text, p, b"starts ", &mut starts);
+    let r = word_field(text, s.next, b"rows ", &mut rows);
+    let v = value_field(text, r.next, b"values ", &mut values);
+    put(b"reply ok\n");
+    gets(
+        text,
+        v.next,
+        &starts[..s.count],
+        &rows[..r.count],
+        &values[..v.count],
+    );
 }
 
-// Whether places that a call has to leave hold what they held.
-pub fn put_kept(kept: bool) {
-    if kept {
-        put(b"kept\n");
+fn diagonal(text: &[u8], p: usize, output: &mut [f64]) {
+    let mut starts = [0u32; ROOM];
+    let mut rows = [0u32; ROOM];
+    let mut values = [0.0; ROOM];
+    let s = word_field(text, p, b"starts ", &mut starts);
+    let r = word_field(text, s.next, b"rows ", &mut rows);
+    let v = value_field(text, r.next, b"values ", &mut values);
+    let answer = diag(
+        &starts[..s.count],
+        &rows[..r.count],
+        &values[..v.count],
+        output,
+    );
+    put_checked(answer);
+    put_values(b"out ", output);
+}
+
+// The diagonal list of the result after p; the list that stands at p is lent or, where none does, one of 7777.
+pub fn diagonals(text: &[u8], p: usize) {
+    let mut output = [7777.0; ROOM];
+    if begins(text, skip_blanks(text, p), b"lout ") {
+        let o = value_field(text, p, b"lout ", &mut output);
+        diagonal(text, o.next, &mut output[..o.count]);
     } else {
-        put(b"changed\n");
-    }
-}
-
-fn put_diagonals(answer: Checked, n: usize, output: &[f64]) {
-    match answer {
-        Checked::Accepted => {
-            put(b"reply ok\n");
-            put_values(b"diag ", output, n);
-            put_kept(values_hold(output, n, output.len(), 7777.0));
-        }
-        Checked::Refused(why) => {
-            put_number(b"reply ", refusal_number(why) as usize);
-            put_kept(values_hold(output, 0, output.len(), 7777.0));
-        }
-    }
-}
-
-// The diagonal list.
-pub fn diagonals(starts: &[u32], rows: &[u32], values: &[f64]) {
-    let mut output = [7777.0; 4608];
-    let answer = diag(starts, rows, values, &mut output);
-    if starts.len() > 0 {
-        put_diagonals(answer, starts.len() - 1, &output);
-    } else {
-        put_diagonals(answer, 0, &output);
+        diagonal(text, p, &mut output);
     }
 }

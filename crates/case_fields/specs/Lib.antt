@@ -1,0 +1,2 @@
+-- Fields in the text of cases.
+pub mod Fields

@@ -1,2 +1,0 @@
--- What a call leaves in the lists lent to it.
-pub mod Left

@@ -1,2 +1,0 @@
--- What selected entries leaves in the lists lent to it.
-pub mod LeftAfter
