@@ -7,9 +7,9 @@ use lib.Seq.{length-take-le}
 use denote.Ref.{now}
 use borrow.Author.Needs.{needs}
 use Rattle.pairs.specs.Pair.{pairTotal}
-use Rattle.pattern.proofs.Listing.{scratch-short, scratch-part}
-use Rattle.pattern.proofs.operator_lists.Statement.{statement}
-use Rattle.pattern.proofs.operator_lists.Tie as tie
+use Rattle.pattern_lists.proofs.Listing.{scratch-short, scratch-part}
+use Rattle.pattern_lists.proofs.operator_lists.Statement.{statement}
+use Rattle.pattern_lists.proofs.operator_lists.Tie as tie
 
 abbrev start : tie.After-pair-total → tie.Start
 start q = q .before .before .before .before .before .before

@@ -5,13 +5,14 @@ use denote.Ref.{now}
 use borrow.Author.Needs.{needs}
 use Rattle.lists.specs.Overwrite.{filled-length}
 use Rattle.pairs.specs.Marks.{marks-none}
-use Rattle.pattern_marks.specs.Marking.{rowsSet-operatorPair}
-use Rattle.pattern.proofs.Listing.{cleared-zero, listed-set}
-use Rattle.pattern.proofs.list_operator.Statement.{statement}
-use Rattle.pattern.proofs.list_operator.Tie as tie
+use Rattle.columns.specs.Kept.{nonzero}
+use Rattle.pattern_marks.specs.Marking.{columnsSet-keptPair}
+use Rattle.pattern_lists.proofs.Listing.{cleared-zero, listed-set}
+use Rattle.pattern_lists.proofs.list_factor.Statement.{statement}
+use Rattle.pattern_lists.proofs.list_factor.Tie as tie
 
 abbrev start : tie.After-clear → tie.Start
-start q = q .before .before .before .before .before .before .before
+start q = q .before .before .before .before .before .before .before .before
 
 -- the marks are as many as before
 long : (c : tie.After-clear) → length (c .clear .last .0) ≡ length (now (start c .args .marks))
@@ -20,8 +21,8 @@ long c = ap length (c .clear .ensures) ∙ filled-length (λ _. 0) _ (now (start
 clear-requires : tie.Need-clear-requires
 clear-requires c κs = search needs
 
-mark-operator-requires : tie.Need-mark-operator-requires
-mark-operator-requires c κs =
+mark-factor-requires : tie.Need-mark-factor-requires
+mark-factor-requires c κs =
     let d = c .before .before .before in
     let s = start d in
     (s .pre .0, (s .pre .1 .0, long d ∙ s .pre .1 .1, marks-none _ (cleared-zero (now (s .args .marks)) _ (d .clear .ensures))))
@@ -31,7 +32,7 @@ list-marked-requires c κs =
     let m = c .before .before .before .before .before in
     let d = m .before .before .before .before in
     let s = start d in
-    (s .pre .1 .0, m .mark-operator .ensures .long ∙ long d ∙ s .pre .1 .1, m .mark-operator .ensures .marks)
+    (s .pre .1 .0, m .mark-factor .ensures .long ∙ long d ∙ s .pre .1 .1, m .mark-factor .ensures .marks)
 
 same-length : tie.Need-same-length
 same-length c = search needs
@@ -49,15 +50,15 @@ returns c =
     let d = m .before .before .before .before in
     let s = start d in
     let a = s .args in
-    listed-set (a .n) _ _ (λ r c h l. rowsSet-operatorPair (now (a .row-starts)) (now (a .columns)) r c h)
-    (now (a .marks)) (now (a .pair-rows)) (now (a .pair-columns)) (s .pre .1 .1) (d .clear .ensures) (m .mark-operator .ensures) (v .list-marked .ensures)
+    listed-set (a .n) _ _ (λ r c h l. columnsSet-keptPair (now (a .starts)) (now (a .rows)) (nonzero (now (a .values))) (a .n) r c (omega arith))
+    (now (a .marks)) (now (a .pair-rows)) (now (a .pair-columns)) (s .pre .1 .1) (d .clear .ensures) (m .mark-factor .ensures) (v .list-marked .ensures)
 
-pub list-operator-spec : {M : Type 1} → statement M
-list-operator-spec =
+pub list-factor-spec : {M : Type 1} → statement M
+list-factor-spec =
     tie.close
     (tie.spec
     clear-requires
-    mark-operator-requires
+    mark-factor-requires
     list-marked-requires
     same-length
     same-length-2

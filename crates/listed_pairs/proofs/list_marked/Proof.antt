@@ -7,9 +7,9 @@ use borrow.Author.Needs.{needs}
 use Rattle.lists.specs.Overwrite.{cleared}
 use Rattle.pairs.specs.Marks.{marking, marks-count}
 use Rattle.pair_marks.specs.Listing.{PairsRoom}
-use Rattle.pattern.proofs.Listing.{rows-short, columns-short, listed-all}
-use Rattle.pattern.proofs.list_marked.Statement.{statement}
-use Rattle.pattern.proofs.list_marked.Tie as tie
+use Rattle.listed_pairs.proofs.Listing.{rows-short, columns-short, listed-all}
+use Rattle.listed_pairs.proofs.list_marked.Statement.{statement}
+use Rattle.listed_pairs.proofs.list_marked.Tie as tie
 
 abbrev start : tie.After-slice-known3 → tie.Start
 start q = q .before .before .before
