@@ -11,7 +11,7 @@ use Rattle.lists.specs.Tabulate.{tabulate}
 use Rattle.lists.specs.Overwrite.{overwrite}
 use Rattle.lists.specs.Place.{placeFrom}
 use Rattle.refusal.specs.Steps.{Reply, refused, answered, first, verdict, after, each}
-use Rattle.permutation.specs.Permutation.{validateSteps, invertSteps, inverseOf}
+use Rattle.factor_order.specs.Permutation.{validateSteps, invertSteps, inverseOf}
 use Rattle.lists.specs.Sum.{sumTo}
 use Rattle.lists.specs.Select.{picked, select}
 use Rattle.lists.specs.Cells.{cellCount}

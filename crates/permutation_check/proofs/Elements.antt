@@ -13,7 +13,7 @@ use borrow.Author.Tests.{le-leb, lt-leb, eq-eqb, ne-eqb}
 use Rattle.lists.specs.Test.{any, any-none, any-next}
 use Rattle.refusal.specs.Bounds.{maxDimension}
 use Rattle.refusal.specs.Steps.{Step, Reply, refused, each, verdict, Passed, first-hit, first-skip, first-end, each-none, each-more}
-use Rattle.permutation.specs.Permutation.{index, among, indexSteps, inverseSteps, elementSteps}
+use Rattle.factor_order.specs.Permutation.{index, among, indexSteps, inverseSteps, elementSteps}
 
 -- before element i: no fault so far, and the indices seen are marked
 pub record Looked (compared : Bool) (perm inv : List ℕ) (i : ℕ) (seen : List Bool) : Type 0 where

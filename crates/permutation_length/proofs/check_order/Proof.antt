@@ -4,8 +4,8 @@ use mathlib.Core.Bool.{Bool, not, true≢false}
 use borrow.Author.Needs.{needs}
 use borrow.Author.Tests.{eq-eqb, ne-eqb}
 use Rattle.refusal.specs.Steps.{first-hit, first-skip}
-use Rattle.permutation.proofs.check_order.Statement.{statement}
-use Rattle.permutation.proofs.check_order.Tie as tie
+use Rattle.permutation_length.proofs.check_order.Statement.{statement}
+use Rattle.permutation_length.proofs.check_order.Tie as tie
 
 returns : tie.Need-returns
 returns c = sym (first-hit 4 _ tt (ap not (ne-eqb _ _ (c .if1 .taken))))

@@ -20,7 +20,7 @@ use Rattle.lists.specs.Sum.{bit, bit-most, sumTo, sumTo-zero, sumTo-one, sumTo-
 use Rattle.lists.specs.Tabulate.{tabulate, tabulate-length, tabulate-at, tabulate-cong, tabulate-of}
 use Rattle.lists.specs.Overwrite.{overwrite, overwrite-length, overwrite-at, overwrite-past}
 use Rattle.refusal.specs.Steps.{Step, each, Passed, Clear, passed-clear, clear-passed, passed-append, passed-front, passed-back, each-passed, passed-each, first-end}
-use Rattle.permutation.specs.Permutation.{index, among, indexSteps, inverseSteps, elementSteps, permutationSteps, acceptSteps, roomStep, placeOf, inverseOf, reordered, Permutation}
+use Rattle.factor_order.specs.Permutation.{index, among, indexSteps, inverseSteps, elementSteps, permutationSteps, acceptSteps, roomStep, placeOf, inverseOf, reordered, Permutation}
 
 -- ---- passing 10 and 11
 

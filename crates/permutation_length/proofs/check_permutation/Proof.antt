@@ -6,9 +6,9 @@ use borrow.Author.Needs.{needs}
 use borrow.Author.Tests.{lt-ltb, le-ltb}
 use Rattle.refusal.specs.Steps.{first-hit, first-skip, first-end, append-refused, append-passed}
 use Rattle.refusal.specs.Refusal.{replyOf}
-use Rattle.permutation.specs.Permutation.{permutationSteps, roomStep}
-use Rattle.permutation.proofs.check_permutation.Statement.{statement}
-use Rattle.permutation.proofs.check_permutation.Tie as tie
+use Rattle.factor_order.specs.Permutation.{permutationSteps, roomStep}
+use Rattle.permutation_length.proofs.check_permutation.Statement.{statement}
+use Rattle.permutation_length.proofs.check_permutation.Tie as tie
 
 check-elements-requires : tie.Need-check-elements-requires
 check-elements-requires c κs = (c .before .pre, λ e. absurd (true≢false (sym e)))

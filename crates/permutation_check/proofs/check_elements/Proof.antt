@@ -7,10 +7,10 @@ use lib.ListN.{length, getD}
 use denote.Ref.{now}
 use borrow.Author.Needs.{needs}
 use Rattle.refusal.specs.Steps.{each-refused, Passed, each}
-use Rattle.permutation.specs.Permutation.{index, elementSteps}
-use Rattle.permutation.proofs.Elements.{Looked, looked-none, looked-more, element-large, element-repeated, element-disagrees}
-use Rattle.permutation.proofs.check_elements.Statement.{statement}
-use Rattle.permutation.proofs.check_elements.Tie as tie
+use Rattle.factor_order.specs.Permutation.{index, elementSteps}
+use Rattle.permutation_check.proofs.Elements.{Looked, looked-none, looked-more, element-large, element-repeated, element-disagrees}
+use Rattle.permutation_check.proofs.check_elements.Statement.{statement}
+use Rattle.permutation_check.proofs.check_elements.Tie as tie
 
 abbrev Inv-loop : tie.InvT-loop
 Inv-loop orig-to-perm perm-to-orig compared n seen₀ i₀ seen i = (i ≤ length orig-to-perm) × Looked compared orig-to-perm perm-to-orig i seen

@@ -7,9 +7,9 @@ use lib.Ieee.{Float, nan}
 use denote.Ref.{now}
 use borrow.Author.Needs.{needs}
 use Rattle.lists.specs.Overwrite.{filled, filled-none, filled-more}
-use Rattle.permutation.specs.Permutation.{index, reordered}
-use Rattle.permutation.proofs.reorder.Statement.{statement}
-use Rattle.permutation.proofs.reorder.Tie as tie
+use Rattle.factor_order.specs.Permutation.{index, reordered}
+use Rattle.reordering.proofs.reorder.Statement.{statement}
+use Rattle.reordering.proofs.reorder.Tie as tie
 
 abbrev moved : List ℕ → List Float → ℕ → Float
 moved perm input i = getD input (index perm i) nan

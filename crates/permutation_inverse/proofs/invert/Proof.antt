@@ -4,10 +4,10 @@ use mathlib.Core.Path.{_≡_, refl, sym, ap, subst, _∙_}
 use lib.ListN.{length, getD, set, length-set}
 use denote.Ref.{now}
 use borrow.Author.Needs.{needs}
-use Rattle.permutation.specs.Permutation.{index}
-use Rattle.permutation.specs.Laws.{storedTo, storedTo-none, storedTo-more, storedTo-length, stored-inverse}
-use Rattle.permutation.proofs.invert.Statement.{statement}
-use Rattle.permutation.proofs.invert.Tie as tie
+use Rattle.factor_order.specs.Permutation.{index}
+use Rattle.factor_order.specs.Laws.{storedTo, storedTo-none, storedTo-more, storedTo-length, stored-inverse}
+use Rattle.permutation_inverse.proofs.invert.Statement.{statement}
+use Rattle.permutation_inverse.proofs.invert.Tie as tie
 
 abbrev Inv-loop : tie.InvT-loop
 Inv-loop orig-to-perm perm-to-orig₀ count i₀ perm-to-orig i =

@@ -2,8 +2,8 @@ use mathlib.Core.Path.{_≡_, sym, ap, _∙_}
 use mathlib.Core.Bool.{Bool, true, false, not, _&&_}
 use lib.Dec.{eqb}
 use borrow.Author.Needs.{needs}
-use Rattle.permutation.proofs.disagrees.Statement.{statement}
-use Rattle.permutation.proofs.disagrees.Tie as tie
+use Rattle.permutation_check.proofs.disagrees.Statement.{statement}
+use Rattle.permutation_check.proofs.disagrees.Tie as tie
 
 at-requires : tie.Need-at-requires
 at-requires c κs = c .before .before .pre (c .if1 .taken)
