@@ -19,7 +19,9 @@ use Rattle.columns.specs.Kept.{f0, factorPairs}
 use Rattle.columns.specs.Columns.{boundSteps, brokenSteps, startsSteps, rowsSteps, columnSteps}
 use Rattle.columns.specs.Diagonal.{diagonalSteps}
 use Rattle.floor.specs.declared.StabilizedVariance.{StabilizedVariance}
-use Rattle.floor.specs.Floor.{floorSteps, floorOf, floored, stabilizedOf}
+use Rattle.floored.specs.Floored.{floored}
+use Rattle.variance_floor.specs.VarianceFloor.{floorSteps, floorOf}
+use Rattle.floor.specs.Floor.{stabilizedOf}
 use Rattle.floor.specs.Examples.{half, variances, worked-reply, worked-output}
 use Rattle.columns.specs.Examples.{whole}
 use Rattle.closed_set.specs.ClosedSet.{reach, member}

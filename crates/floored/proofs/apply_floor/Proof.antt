@@ -1,13 +1,13 @@
-use Rattle.floor.proofs.Applied.{Applied, applied-none, applied-above, applied-hit, applied-all}
-use Rattle.floor.specs.Floor.{hit}
+use Rattle.floored.proofs.Applied.{Applied, applied-none, applied-above, applied-hit, applied-all}
+use Rattle.floored.specs.Floored.{hit}
 use Rattle.lists.specs.Select.{tally-most}
 use mathlib.Core.Logic.{⊎-elim}
 use borrow.Author.Needs.{needs}
 use native.Mathlib.Omega.{arith}
 use Prim.Native.Nat.{_-_}
 use lib.ListN.{length}
-use Rattle.floor.proofs.apply_floor.Statement.{statement}
-use Rattle.floor.proofs.apply_floor.Tie as tie
+use Rattle.floored.proofs.apply_floor.Statement.{statement}
+use Rattle.floored.proofs.apply_floor.Tie as tie
 
 abbrev Inv-loop : tie.InvT-loop
 Inv-loop values floor-value output₀ floor-hits₀ i₀ output floor-hits i = Applied floor-value values output₀ output floor-hits i

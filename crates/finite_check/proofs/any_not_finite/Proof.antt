@@ -1,4 +1,4 @@
-use Rattle.floor.specs.Floor.{notFinite}
+use Rattle.finite_check.specs.NotFinite.{notFinite}
 use Rattle.lists.specs.Test.{any, any-none, any-more, any-hit}
 use mathlib.Core.Bool.{not, false}
 use borrow.Author.Needs.{needs}
@@ -6,8 +6,8 @@ use native.Mathlib.Omega.{arith}
 use Prim.Native.Nat.{_≤_, _-_}
 use mathlib.Core.Path.{_≡_, ap, sym, _∙_}
 use lib.ListN.{length}
-use Rattle.floor.proofs.any_not_finite.Statement.{statement}
-use Rattle.floor.proofs.any_not_finite.Tie as tie
+use Rattle.finite_check.proofs.any_not_finite.Statement.{statement}
+use Rattle.finite_check.proofs.any_not_finite.Tie as tie
 
 abbrev Inv-loop : tie.InvT-loop
 Inv-loop values i₀ i = (i ≤ length values) × (any (notFinite values) i ≡ false)

@@ -11,8 +11,7 @@ use Rattle.lists.specs.Sum.{bit}
 use Rattle.lists.specs.Select.{tally, tally-none, tally-next}
 use Rattle.lists.specs.Overwrite.{overwrite, filled, filled-none, filled-more}
 use Rattle.columns.specs.Columns.{value}
-use Rattle.floor.specs.declared.VarianceFloor.{VarianceFloor}
-use Rattle.floor.specs.Floor.{raised, floored, hit, floorHits, floorOf, stabilizedOf}
+use Rattle.floored.specs.Floored.{raised, floored, hit, floorHits}
 
 -- after the first i values
 pub record Applied (floor : Float) (values old output : List Float) (hits i : ℕ) : Type 0 where
@@ -59,8 +58,3 @@ module _ (floor : Float) (values old : List Float) where
         A .counted ∙ ap (tally (hit floor values) 0) e,
         A .listed ∙ ap (λ (k : ℕ). filled (λ k. raised floor (value values k)) k old) e,
       )
-
--- the floor and the hits, as the call answers them
-pub stabilized-is : (how : VarianceFloor) (values : List Float) {f : Float} {h : ℕ} → f ≡ floorOf how values → h ≡ floorHits f values
-    → record { floor = f; «floor_hits» = h } ≡ stabilizedOf how values
-stabilized-is how values p q = rw (q, p)

@@ -1,11 +1,11 @@
-use Rattle.floor.specs.declared.VarianceFloor.{VarianceFloor}
-use Rattle.floor.specs.Floor.{floorOf}
+use Rattle.variance_floor.specs.declared.VarianceFloor.{VarianceFloor}
+use Rattle.variance_floor.specs.VarianceFloor.{floorOf}
 use lib.Ieee.{Float, binary64, mul}
 use borrow.Author.Needs.{needs}
 use Prim.Native.Nat.{_-_}
 use mathlib.Core.Path.{ap, sym, _∙_}
-use Rattle.floor.proofs.floor_of.Statement.{statement}
-use Rattle.floor.proofs.floor_of.Tie as tie
+use Rattle.variance_floor.proofs.floor_of.Statement.{statement}
+use Rattle.variance_floor.proofs.floor_of.Tie as tie
 
 enum-told : tie.Need-enum-told
 enum-told c = search needs

@@ -3,8 +3,8 @@ use borrow.Author.Tests.{lt-ltb, le-ltb}
 use borrow.Author.Needs.{needs}
 use Prim.Native.Nat.{_-_}
 use mathlib.Core.Path.{sym, _∙_}
-use Rattle.floor.proofs.check_floor.Statement.{statement}
-use Rattle.floor.proofs.check_floor.Tie as tie
+use Rattle.variance_floor.proofs.check_floor.Statement.{statement}
+use Rattle.variance_floor.proofs.check_floor.Tie as tie
 
 returns : tie.Need-returns
 returns c = sym (first-hit 1 _ tt (lt-ltb _ _ (c .if1 .taken)))

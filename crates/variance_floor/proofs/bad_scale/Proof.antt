@@ -1,12 +1,12 @@
-use Rattle.floor.specs.Floor.{badScale}
+use Rattle.variance_floor.specs.VarianceFloor.{badScale}
 use Rattle.columns.specs.Kept.{f0}
 use lib.Ieee.{lt}
 use mathlib.Core.Bool.{Bool, not, _||_}
 use borrow.Author.Needs.{needs}
 use Prim.Native.Nat.{_-_}
 use mathlib.Core.Path.{ap, sym, _∙_}
-use Rattle.floor.proofs.bad_scale.Statement.{statement}
-use Rattle.floor.proofs.bad_scale.Tie as tie
+use Rattle.variance_floor.proofs.bad_scale.Statement.{statement}
+use Rattle.variance_floor.proofs.bad_scale.Tie as tie
 
 enum-told : tie.Need-enum-told
 enum-told c = search needs
