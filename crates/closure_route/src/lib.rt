@@ -7,7 +7,7 @@ ghost use Rattle.lists.specs.Overwrite.{overwrite};
 ghost use Rattle.pairs.specs.ColumnOrder.{columnMarking};
 ghost use Rattle.entries.specs.Entries.{entryValues, floatTable};
 ghost use Rattle.closure_route.specs.Route.{ClosureRoute, ColumnStep, Solved};
-use kept::diagonal;
+use kept_diagonal::diagonal;
 use pair_marks::pair_total;
 use route_finish::divide_part;
 use route_finish::store_diagonal;

@@ -10,9 +10,11 @@ use Rattle.lists.specs.Overwrite.{overwrite}
 use Rattle.refusal.specs.Steps.{answered, refused, first, after}
 use Rattle.columns.specs.Examples.{whole}
 use Rattle.positive_mean.specs.PositiveMean.{positiveSum}
-use Rattle.floor.specs.declared.VarianceFloor.{VarianceFloor}
-use Rattle.floor.specs.declared.VarianceFloor.the-variants.{Zero, PositiveMean}
-use Rattle.floor.specs.Floor.{floorSteps, floorOf, floored, stabilizedOf}
+use Rattle.variance_floor.specs.declared.VarianceFloor.{VarianceFloor}
+use Rattle.variance_floor.specs.declared.VarianceFloor.the-variants.{Zero, PositiveMean}
+use Rattle.floored.specs.Floored.{floored}
+use Rattle.variance_floor.specs.VarianceFloor.{floorSteps, floorOf}
+use Rattle.floor.specs.Floor.{stabilizedOf}
 
 -- 4, -2, 0
 abbrev pub variances : List Float

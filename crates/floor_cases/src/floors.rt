@@ -4,7 +4,6 @@ ghost use Rattle.floor.specs.Floor.{stabilizedReply};
 ghost use Rattle.replies.specs.Number.{replyNumber};
 use floor::Stabilized;
 use floor::StabilizedVariance;
-use floor::VarianceFloor;
 use floor::stabilize_variances;
 use replies::refusal_number;
 use reporting::list::same_values;
@@ -13,6 +12,7 @@ use reporting::report::Tally;
 use reporting::report::finish;
 use reporting::report::put_reply;
 use reporting::report::put_values;
+use variance_floor::VarianceFloor;
 
 // The reply's number, 0 where it is answered.
 pub fn number(s: Stabilized) -> u32

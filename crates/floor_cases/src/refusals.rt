@@ -1,7 +1,6 @@
 // Cases of `stabilize_variances` that are refused.
 use crate::floors::mean;
 use crate::floors::number;
-use floor::VarianceFloor;
 use floor::stabilize_variances;
 use reporting::list::same_values;
 use reporting::report::Reply;
@@ -9,6 +8,7 @@ use reporting::report::Tally;
 use reporting::report::finish;
 use reporting::report::put_reply;
 use reporting::report::put_values;
+use variance_floor::VarianceFloor;
 
 // Calls it; whether the reply is as expected.
 fn refused(

@@ -1,8 +1,8 @@
 // What a lookup replies, and whether two replies are the same.
 ghost use mathlib.Core.Path.{_≡_};
-ghost use Rattle.inverse.specs.Reply.{entryReply};
+ghost use Rattle.ordered_lookup.specs.Reply.{entryReply};
 ghost use Rattle.lookup_reporting.specs.Found.{foundOf, sameFound};
-use inverse::Entry;
+use ordered_lookup::Entry;
 use replies::refusal_number;
 use reporting::list::same_value;
 use reporting::report::Reply;

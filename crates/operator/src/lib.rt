@@ -20,14 +20,14 @@ pub fn operator_rows(row_starts: &[u32]) -> usize
 pub fn check_operator_bounds(row_starts: &[u32], columns: &[u32]) -> Checked
     ensures { λ r. ⌜ replyOf r ≡ verdict (operatorBoundSteps (now («row_starts» .entry)) (now (columns .entry))) ⌝ }
 {
-    factor::check_bounds(operator_rows(row_starts), columns.len())
+    bounds_check::check_bounds(operator_rows(row_starts), columns.len())
 }
 
 // The last part of step 9: columns below `ncols`.
 fn check_inside(ncols: usize, columns: &[u32]) -> Checked
     ensures { λ r. ⌜ replyOf r ≡ verdict (columnStep ncols (now (columns .entry))) ⌝ }
 {
-    if factor::index_outside(ncols, columns) {
+    if index_check::index_outside(ncols, columns) {
         return Checked::Refused(Refusal::BrokenOperator);
     }
     Checked::Accepted
@@ -40,7 +40,7 @@ pub fn check_operator(ncols: usize, row_starts: &[u32], columns: &[u32], weights
     if row_starts.len() == 0 {
         return Checked::Refused(Refusal::BrokenOperator);
     }
-    match factor::check_broken(
+    match starts_check::check_broken(
         Refusal::BrokenOperator,
         row_starts.len() - 1,
         row_starts,

@@ -25,8 +25,8 @@ use Rattle.result.specs.Lookup.{dimension}
 use Rattle.entries.specs.Entries.{entryStarts, entryRows, entryValues, entryStarts-length}
 use Rattle.read_back.specs.ReadBack.{lookup-filled, filled-result}
 use Rattle.operator_marks.specs.OperatorRequests.{operatorRequested, places-requested}
-use Rattle.operator_values.specs.RowValue.{columnAt, rowValue-cong, operatorValues}
-use Rattle.operator_values.specs.Reading.{held, OperatorReading}
+use Rattle.quadratic_form.specs.RowValue.{columnAt, rowValue-cong, operatorValues}
+use Rattle.quadratic_form.specs.Reading.{held, OperatorReading}
 
 -- an operator past its checks, a set that holds its pairs, and lists with room for the set's entries
 module _ (n : ℕ) (S : ℕ → ℕ → Bool) (Z : ℕ → ℕ → Float) (rows : List ℕ) (values : List Float) (rows-fit : setSize n S ≤ length rows)

@@ -1,7 +1,2 @@
--- The values of an operator's rows.
-pub mod RowValue
-pub mod Reading
-pub mod Exchange
+-- The values of an operator's rows from filled lists.
 pub mod Filled
-pub mod ExactRow
-pub mod Examples

@@ -24,8 +24,8 @@ use Rattle.selection.specs.Selection.{ResultLists, lists-refused, passed-starts
 use Rattle.selection.specs.SamePositions.{front-starts}
 use Rattle.selected.specs.declared.Selected.the-variants.{Answered, Refused}
 use Rattle.operator_marks.specs.OperatorRequests.{operatorRequested}
-use Rattle.operator_values.specs.RowValue.{operatorValues}
-use Rattle.operator_values.specs.Reading.{held, OperatorReading}
+use Rattle.quadratic_form.specs.RowValue.{operatorValues}
+use Rattle.quadratic_form.specs.Reading.{held, OperatorReading}
 use Rattle.operator_values.specs.Filled.{filled-reading, filled-values}
 use Rattle.operator_variances.specs.Transformed.{TransformedCall, transformedSelection, transformedSteps, transformedValues, TransformedDiagonal}
 use Rattle.operator_variances.specs.Transformed.{AcceptedTransformed}

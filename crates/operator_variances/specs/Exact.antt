@@ -27,8 +27,8 @@ use Rattle.selection.specs.Selection.{Lent, roomOf, selectedAnswer, selectedTab
 use Rattle.selection.specs.Status.{selected-complete}
 use Rattle.exact_entries.specs.ExactEntries.{ExactCall, ReadsBack, exact-entries, exact-either}
 use Rattle.operator_marks.specs.OperatorRequests.{places-requested}
-use Rattle.operator_values.specs.RowValue.{columnAt, rowValue, operatorValues, operatorValue}
-use Rattle.operator_values.specs.ExactRow.{quadratic, RowWithin, rowValue-exact}
+use Rattle.quadratic_form.specs.RowValue.{columnAt, rowValue, operatorValues, operatorValue}
+use Rattle.quadratic_form.specs.ExactRow.{quadratic, RowWithin, rowValue-exact}
 use Rattle.operator_variances.specs.Transformed.{TransformedCall, transformedSelection, transformedSteps, transformedValues, transformedAfter}
 use Rattle.operator_variances.specs.Transformed.{AcceptedTransformed, transformed-accepted}
 

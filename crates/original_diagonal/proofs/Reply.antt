@@ -23,7 +23,7 @@ use Rattle.closed_set.specs.Size.{closureSize-most}
 use Rattle.closure.specs.FactorPattern.{factor-pattern}
 use Rattle.entries.specs.Entries.{columnCount, position, entryStarts, entryValues, entryStarts-length, entryValues-length}
 use Rattle.entries.specs.Position.{position-first, position-below, entryValues-at}
-use Rattle.permutation.specs.Permutation.{index, reordered}
+use Rattle.factor_order.specs.Permutation.{index, reordered}
 use Rattle.diagnostics.specs.declared.SelectedInverseDiagnostics.{SelectedInverseDiagnostics}
 use Rattle.selection.specs.Selection.{Selection, Lent, roomOf, Accepted, selectedSet, selectedSize, selectedComplete, selectedAnswer, selectedTable}
 use Rattle.selection.specs.Selection.{ResultLists, lists-refused, complete-starts, complete-values}

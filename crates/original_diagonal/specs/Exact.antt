@@ -19,8 +19,8 @@ use Rattle.exact.specs.Multiple.{Whole}
 use Rattle.exact.specs.Factor.{factor}
 use Rattle.exact.specs.ExactCase.{ones}
 use Rattle.closed_set.specs.ClosedSet.{request}
-use Rattle.permutation.specs.Permutation.{index, reordered}
-use Rattle.permutation.specs.Laws.{reordered-length, reordered-at}
+use Rattle.factor_order.specs.Permutation.{index, reordered}
+use Rattle.factor_order.specs.Laws.{reordered-length, reordered-at}
 use Rattle.diagnostics.specs.declared.SelectedInverseStatus.the-variants.{Complete}
 use Rattle.selection.specs.Selection.{Lent, roomOf, selectedComplete, selectedAnswer, selectedTable, ResultLists}
 use Rattle.selection.specs.Status.{selected-complete}

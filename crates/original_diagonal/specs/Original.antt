@@ -14,8 +14,8 @@ use Rattle.refusal.specs.Bounds.{maxEntries}
 use Rattle.refusal.specs.Steps.{Step, Reply, first, after, Passed, passed-clear, passed-front, passed-back}
 use Rattle.columns.specs.Columns.{factorSteps}
 use Rattle.columns.specs.Factor.{Factor, factorSteps-bounded, factorSteps-sound}
-use Rattle.permutation.specs.Permutation.{index, orderSteps, permutationSteps, reordered, Permutation}
-use Rattle.permutation.specs.Laws.{passed-distinct, distinct-permutation}
+use Rattle.factor_order.specs.Permutation.{index, orderSteps, permutationSteps, reordered, Permutation}
+use Rattle.factor_order.specs.Laws.{passed-distinct, distinct-permutation}
 use Rattle.diagnostics.specs.declared.SelectedInverseDiagnostics.{SelectedInverseDiagnostics}
 use Rattle.selection.specs.Selection.{Selection, Lent, Room, roomOf, defaultLimit, fillSteps, selectedComplete, selectedAnswer, selectedTable, Accepted}
 use Rattle.selection.specs.Selection.{ResultLists}

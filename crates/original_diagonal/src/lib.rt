@@ -10,7 +10,7 @@ use diagnostics::SelectedInverseStatus;
 use diagonal_marks::mark_diagonals;
 use factor::check_factor;
 use fill::fill_entries;
-use permutation::check_order;
+use permutation_length::check_order;
 use refusal::Checked;
 use refusal::Refusal;
 use selected::Selected;

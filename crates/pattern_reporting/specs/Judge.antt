@@ -8,8 +8,9 @@ use Rattle.refusal.specs.Steps as steps
 use Rattle.refusal.specs.Steps.{Step, refused, answered, first, after}
 use Rattle.lists.specs.Overwrite.{overwrite, cleared}
 use Rattle.pairs.specs.Pair.{pairTotal, pairCount, pairRows, pairColumns}
-use Rattle.pattern.specs.declared.PatternPairs.{PatternPairs}
-use Rattle.pattern.specs.Pattern.{listReply, listSteps, scratchSteps, PatternLists}
+use Rattle.listed_pairs.specs.declared.PatternPairs.{PatternPairs}
+use Rattle.listed_pairs.specs.ListedMarks.{listReply}
+use Rattle.pattern_lists.specs.PatternLists.{listSteps, scratchSteps, PatternLists}
 use lib.ListN.{length}
 use Rattle.reporting.specs.declared.report.Reply.{Reply}
 use Rattle.reporting.specs.declared.report.Reply.the-variants.{Number, Pairs}

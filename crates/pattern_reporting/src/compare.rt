@@ -1,8 +1,8 @@
 // What a case of the pattern lists compares: the reply, and the three lists lent for writing as they are after the call.
 ghost use mathlib.Core.Path.{_≡_};
-ghost use Rattle.pattern.specs.Pattern.{listReply};
+ghost use Rattle.listed_pairs.specs.ListedMarks.{listReply};
 ghost use Rattle.pattern_reporting.specs.Judge.{lineReply, judged};
-use pattern::PatternPairs;
+use listed_pairs::PatternPairs;
 use replies::refusal_number;
 use reporting::list::same_words;
 use reporting::report::Reply;

@@ -26,8 +26,8 @@ use Rattle.scatter.specs.Sums.{Between}
 use Rattle.scatter.specs.Pattern.{degree, degree-small, cell-is, cell-fits, width, next-le}
 use Rattle.scatter.specs.Column.{scattered, column-right}
 use Rattle.scatter.specs.Values.{filled-none, filled-next, filled-end}
-use Rattle.pattern_columns.specs.Marking.{descBetween, ColumnMarked, Stored}
-use Rattle.pattern_columns.specs.Walk.{Walk}
+use Rattle.column_marks.specs.Marking.{descBetween, ColumnMarked, Stored}
+use Rattle.column_scatter.specs.Walk.{Walk}
 use Rattle.pattern_route.specs.Layout.{kept-pattern, kept-values, kept-laid, kept-size}
 
 -- an accepted factor whose kept pattern is closed, the starts and rows of the result over that pattern at the front of their lists, and room for

@@ -3,7 +3,7 @@ ghost use mathlib.Core.Path.{_≡_};
 ghost use lib.Dec.{eqb};
 ghost use Rattle.refusal.specs.Steps.{verdict};
 ghost use Rattle.replies.specs.Number.{replyNumber};
-ghost use Rattle.permutation.specs.Permutation.{validateSteps};
+ghost use Rattle.factor_order.specs.Permutation.{validateSteps};
 ghost use Rattle.reporting.specs.Count.{counted};
 use replies::checked_number;
 use reporting::list::fill_words;

@@ -6,7 +6,7 @@ ghost use lib.ListN.{length};
 ghost use Rattle.lists.specs.Overwrite.{overwrite};
 ghost use Rattle.refusal.specs.Steps.{verdict, after};
 ghost use Rattle.replies.specs.Number.{replyNumber};
-ghost use Rattle.permutation.specs.Permutation.{permuteSteps, reordered};
+ghost use Rattle.factor_order.specs.Permutation.{permuteSteps, reordered};
 ghost use Rattle.reporting.specs.Value.{sameValues};
 ghost use Rattle.reporting.specs.Count.{counted};
 use replies::checked_number;

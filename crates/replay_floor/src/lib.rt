@@ -10,10 +10,10 @@ use case_text::past_label;
 use case_text::skip_blanks;
 use case_text::skip_word;
 use floor::Stabilized;
-use floor::VarianceFloor;
 use floor::stabilize_variances;
 use least::count_and_least;
 use replay_replies::put_refused;
+use variance_floor::VarianceFloor;
 
 // The places of each list that a case is read into.
 const ROOM: usize = 4608;

@@ -7,7 +7,7 @@ use case_fields::value_field;
 use case_fields::word_field;
 use case_text::begins;
 use case_text::skip_blanks;
-use pattern::PatternPairs;
+use listed_pairs::PatternPairs;
 use pattern::from_cholesky_factor;
 use pattern::from_transformed_operator;
 use replay_replies::put_refused;

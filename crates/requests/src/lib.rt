@@ -3,7 +3,7 @@ ghost use mathlib.Core.Path.{_≡_};
 ghost use Rattle.refusal.specs.Steps.{verdict};
 ghost use Rattle.refusal.specs.Refusal.{replyOf};
 ghost use Rattle.requests.specs.Requests.{requestSteps};
-use factor::index_outside;
+use index_check::index_outside;
 use refusal::Checked;
 use refusal::Refusal;
 

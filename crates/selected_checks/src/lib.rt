@@ -91,7 +91,7 @@ pub fn check_fill(
     ensures { λ r. ⌜ replyOf r ≡ verdict (fillSteps n (now (starts .entry)) (now (rows .entry)) (now (values .entry)) limit
         (room «result_starts» «result_rows» «result_values» scratch)) ⌝ }
 {
-    let diagonals = kept::check_diagonals(n, starts, rows, values);
+    let diagonals = diagonal_check::check_diagonals(n, starts, rows, values);
     let room = check_room(n, limit, result_starts, result_rows, result_values, scratch);
     first_of(diagonals, room)
 }
@@ -190,7 +190,7 @@ pub fn check_selected(
         (call n (now (starts .entry)) (now (rows .entry)) (now (values .entry)) dimension (now («request_rows» .entry)) (now («request_columns» .entry)) limit)
         (room «result_starts» «result_rows» «result_values» scratch)) ⌝ }
 {
-    match factor::check_bounds(n, rows.len()) {
+    match bounds_check::check_bounds(n, rows.len()) {
         Checked::Refused(why) => Checked::Refused(why),
         Checked::Accepted => {
             if MAX_ENTRIES < request_rows.len() {

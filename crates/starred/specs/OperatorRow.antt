@@ -26,7 +26,7 @@ use Rattle.closure.specs.Diagnosis.{diagnosisOf}
 use Rattle.entries.specs.Entries.{floatTable}
 use Rattle.pattern_marks.specs.OperatorPair.{operatorPair}
 use Rattle.selection.specs.Selection.{room, roomSteps, selectedComplete, selectedAnswer}
-use Rattle.operator_values.specs.RowValue.{addTerms, addPlaces, operatorValues}
+use Rattle.quadratic_form.specs.RowValue.{addTerms, addPlaces, operatorValues}
 use Rattle.operator_variances.specs.Transformed.{TransformedCall, transformedCall, transformedSelection, transformedSteps, transformedValues}
 
 -- F2 and the row

@@ -11,7 +11,7 @@ use Rattle.lists.specs.Tabulate.{tabulate}
 use Rattle.lists.specs.Overwrite.{overwrite}
 use Rattle.lists.specs.Place.{placeFrom}
 use Rattle.refusal.specs.Steps.{Reply, refused, answered, first, verdict, after, each}
-use Rattle.permutation.specs.Permutation.{validateSteps, invertSteps, inverseOf}
+use Rattle.factor_order.specs.Permutation.{validateSteps, invertSteps, inverseOf}
 use Rattle.lists.specs.Sum.{sumTo}
 use Rattle.lists.specs.Select.{picked, select}
 use Rattle.lists.specs.Cells.{cellCount}
@@ -19,7 +19,9 @@ use Rattle.columns.specs.Kept.{f0, factorPairs}
 use Rattle.columns.specs.Columns.{boundSteps, brokenSteps, startsSteps, rowsSteps, columnSteps}
 use Rattle.columns.specs.Diagonal.{diagonalSteps}
 use Rattle.floor.specs.declared.StabilizedVariance.{StabilizedVariance}
-use Rattle.floor.specs.Floor.{floorSteps, floorOf, floored, stabilizedOf}
+use Rattle.floored.specs.Floored.{floored}
+use Rattle.variance_floor.specs.VarianceFloor.{floorSteps, floorOf}
+use Rattle.floor.specs.Floor.{stabilizedOf}
 use Rattle.floor.specs.Examples.{half, variances, worked-reply, worked-output}
 use Rattle.columns.specs.Examples.{whole}
 use Rattle.closed_set.specs.ClosedSet.{reach, member}

@@ -4,7 +4,6 @@ ghost use Rattle.starred.specs.Table.{stabilizedAs};
 ghost use Rattle.floor.specs.Floor.{stabilizedReply};
 use check::expect;
 use floor::Stabilized;
-use floor::VarianceFloor;
 use floor::stabilize_variances;
 use operator_variances::selected_inverse_transformed_diag;
 use replies::checked_number;
@@ -19,6 +18,7 @@ use starred_calls::is_refused;
 use starred_calls::is_value;
 use starred_calls::no_columns;
 use starred_calls::one_entry;
+use variance_floor::VarianceFloor;
 
 // Permutation 2 0 1 has inverse 1 2 0.
 fn inverse() {

@@ -13,7 +13,7 @@ use Rattle.columns.specs.Examples.{F2-starts, F2-rows, F2-values}
 use Rattle.read_back.specs.ReadBack.{readBack}
 use Rattle.selection.specs.Selection.{Selection, Lent, Room, room, roomOf, selectedSet, selectedComplete, selectedTable}
 use Rattle.selection.specs.Call.{Call, call, selectionOf, selectedSteps, accepted}
-use Rattle.inverse.specs.Reply.{entryReply}
+use Rattle.ordered_lookup.specs.Reply.{entryReply}
 use Rattle.exact_entries.specs.Recurrence.{found-entries}
 use Rattle.selected_entry.specs.declared.SelectedEntry.{SelectedEntry}
 use Rattle.selected_entry.specs.declared.SelectedEntry.the-variants.{Found, ClosureTooLarge, Refused}

@@ -4,7 +4,7 @@ ghost use Rattle.selected.specs.Selected.{selectedReplyOf};
 ghost use Rattle.starred_calls.specs.Counts.{F2, F3, NoColumns, showsOf, countedOf, hasRatio};
 ghost use Rattle.starred_calls.specs.Answer.{answerOf, isValue, isNan, isAbsent, isRefused, F2-entry, one-entry};
 use diagnostics::SelectedInverseDiagnostics;
-use inverse::Entry;
+use ordered_lookup::Entry;
 use replies::refusal_number;
 use selected::Selected;
 use selected::selected_inverse_entries_with_limit;

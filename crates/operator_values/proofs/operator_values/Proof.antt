@@ -10,8 +10,8 @@ use Rattle.lists.specs.Overwrite.{filled, filled-none, filled-more}
 use Rattle.columns.specs.Columns.{value}
 use Rattle.columns.specs.Operator.{operatorRows}
 use Rattle.exact.specs.Exact.{floats}
-use Rattle.operator_values.specs.RowValue.{rowValue, columnAt, operatorValue, operatorValues}
-use Rattle.operator_values.specs.Reading.{held, RowReading, row-reading}
+use Rattle.quadratic_form.specs.RowValue.{rowValue, columnAt, operatorValue, operatorValues}
+use Rattle.quadratic_form.specs.Reading.{held, RowReading, row-reading}
 use Rattle.operator_values.proofs.operator_values.Statement.{statement}
 use Rattle.operator_values.proofs.operator_values.Tie as tie
 

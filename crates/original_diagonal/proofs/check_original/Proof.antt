@@ -10,7 +10,7 @@ use Rattle.refusal.specs.Steps.{Step, Passed, append-refused, append-passed}
 use Rattle.refusal.specs.Refusal.{replyOf}
 use Rattle.columns.specs.Columns.{factorSteps}
 use Rattle.columns.specs.Factor.{factorSteps-bounded, factorSteps-sound}
-use Rattle.permutation.specs.Permutation.{orderSteps}
+use Rattle.factor_order.specs.Permutation.{orderSteps}
 use Rattle.selection.specs.Selection.{room, defaultLimit, fillSteps}
 use Rattle.selected_checks.specs.FirstOf.{verdicts}
 use Rattle.original_diagonal.specs.Original.{originalSteps}

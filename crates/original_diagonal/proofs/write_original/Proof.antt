@@ -7,7 +7,7 @@ use lib.Ieee.{Float, nan}
 use denote.Ref.{now}
 use borrow.Author.Needs.{needs}
 use Rattle.lists.specs.Overwrite.{filled, filled-none, filled-more}
-use Rattle.permutation.specs.Permutation.{index}
+use Rattle.factor_order.specs.Permutation.{index}
 use Rattle.original_diagonal.proofs.write_original.Statement.{statement}
 use Rattle.original_diagonal.proofs.write_original.Tie as tie
 

@@ -6,8 +6,8 @@ use borrow.Author.Needs.{needs}
 use borrow.Author.Tests.{lt-ltb, le-ltb}
 use Rattle.refusal.specs.Steps.{first-hit, first-skip, both-refused, both-passed}
 use Rattle.refusal.specs.Refusal.{replyOf}
-use Rattle.permutation.specs.Permutation.{invertSteps}
-use Rattle.permutation.specs.Laws.{accept-permutation}
+use Rattle.factor_order.specs.Permutation.{invertSteps}
+use Rattle.factor_order.specs.Laws.{accept-permutation}
 use Rattle.permutation.proofs.from_orig_to_perm.Statement.{statement}
 use Rattle.permutation.proofs.from_orig_to_perm.Tie as tie
 

@@ -7,8 +7,8 @@ use borrow.Author.Needs.{needs}
 use borrow.Author.Tests.{lt-ltb, le-ltb, eq-eqb, ne-eqb}
 use Rattle.refusal.specs.Steps.{first-hit, first-skip, both-refused, both-passed}
 use Rattle.refusal.specs.Refusal.{replyOf}
-use Rattle.permutation.specs.Permutation.{permuteSteps}
-use Rattle.permutation.specs.Laws.{accept-permutation}
+use Rattle.factor_order.specs.Permutation.{permuteSteps}
+use Rattle.factor_order.specs.Laws.{accept-permutation}
 use Rattle.permutation.proofs.permute_factor_to_original.Statement.{statement}
 use Rattle.permutation.proofs.permute_factor_to_original.Tie as tie
 

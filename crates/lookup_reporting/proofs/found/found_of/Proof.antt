@@ -1,7 +1,7 @@
 use Rattle.lookup_reporting.specs.Found.{foundOf}
 use Rattle.lookup_reporting.specs.declared.found.Found.the-variants.{Number}
-use Rattle.inverse.specs.Reply.{entryReply}
-use Rattle.inverse.specs.declared.Entry.{Entry}
+use Rattle.ordered_lookup.specs.Reply.{entryReply}
+use Rattle.ordered_lookup.specs.declared.Entry.{Entry}
 use borrow.Author.Needs.{needs}
 use mathlib.Core.Path.{_≡_, refl, ap, sym, _∙_}
 use Rattle.lookup_reporting.proofs.found.found_of.Statement.{statement}

@@ -1,7 +1,7 @@
 use Rattle.pattern_reporting.specs.Judge.{lineReply}
 use Rattle.reporting.specs.declared.report.Reply.the-variants.{Number}
-use Rattle.pattern.specs.Pattern.{listReply}
-use Rattle.pattern.specs.declared.PatternPairs.{PatternPairs}
+use Rattle.listed_pairs.specs.ListedMarks.{listReply}
+use Rattle.listed_pairs.specs.declared.PatternPairs.{PatternPairs}
 use borrow.Author.Needs.{needs}
 use mathlib.Core.Path.{_≡_, refl, ap, sym, _∙_}
 use Rattle.pattern_reporting.proofs.compare.reply_of.Statement.{statement}

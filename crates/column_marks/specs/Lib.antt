@@ -1,0 +1,2 @@
+-- The marks of a column of the factor-pattern route.
+pub mod Marking

@@ -1,0 +1,2 @@
+-- Floats that are not finite.
+pub mod NotFinite

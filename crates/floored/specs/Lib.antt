@@ -1,0 +1,3 @@
+-- Values raised to a floor.
+pub mod Floored
+pub mod Laws

@@ -1,0 +1,2 @@
+-- The marked pairs listed.
+pub mod ListedMarks

@@ -1,0 +1,2 @@
+-- Pattern lists with the marks in the scratch.
+pub mod PatternLists

@@ -1,0 +1,6 @@
+-- The value of an operator's row, wᵀXw.
+pub mod RowValue
+pub mod Reading
+pub mod Exchange
+pub mod ExactRow
+pub mod Examples

@@ -1,0 +1,3 @@
+-- A floor that is asked for.
+pub mod VarianceFloor
+pub mod Laws
