@@ -1,18 +1,19 @@
-// Calls for selected entries as document 01's starred cases make them, of F2, F3 and factors of one column and of none, and tests of the replies.
+// The starred cases' calls for selected entries of F2 and of factors of one column and of none; and their closed sets and limits,
+// compared: that each comparison holds is proved from the contracts and the table.
 ghost use mathlib.Core.Path.{_≡_};
 ghost use Rattle.selected.specs.Selected.{selectedReplyOf};
-ghost use Rattle.starred_calls.specs.Counts.{F2, F3, NoColumns, showsOf, countedOf, hasRatio};
-ghost use Rattle.starred_calls.specs.Answer.{answerOf, isValue, isNan, isAbsent, isRefused, F2-entry, one-entry};
-use diagnostics::SelectedInverseDiagnostics;
-use ordered_lookup::Entry;
-use replies::refusal_number;
+ghost use Rattle.starred_table.specs.Calls.{F2, NoColumns};
+ghost use Rattle.starred_table.specs.Answer.{answerOf, F2-entry, one-entry};
+use check::expect;
 use selected::Selected;
 use selected::selected_inverse_entries_with_limit;
 use selected_entry::SelectedEntry;
 use selected_entry::selected_inverse_entry_with_limit;
+use starred_replies::counted;
+use starred_replies::has_ratio;
 
 // The call for F2.
-pub fn f2(request_rows: &[u32], request_columns: &[u32], limit: usize) -> Selected
+fn f2(request_rows: &[u32], request_columns: &[u32], limit: usize) -> Selected
     ensures { λ r. ⌜ selectedReplyOf r ≡ F2 (now («request_rows» .entry)) (now («request_columns» .entry)) limit ⌝ }
 {
     let mut result_starts = [7u32; 3];
@@ -35,32 +36,8 @@ pub fn f2(request_rows: &[u32], request_columns: &[u32], limit: usize) -> Select
     )
 }
 
-// The call for F3.
-pub fn f3(request_rows: &[u32], request_columns: &[u32], limit: usize) -> Selected
-    ensures { λ r. ⌜ selectedReplyOf r ≡ F3 (now («request_rows» .entry)) (now («request_columns» .entry)) limit ⌝ }
-{
-    let mut result_starts = [7u32; 4];
-    let mut result_rows = [7u32; 6];
-    let mut result_values = [7.0f64; 6];
-    let mut scratch = [7u32; 24];
-    selected_inverse_entries_with_limit(
-        3,
-        &[0, 3, 4, 5],
-        &[0, 1, 2, 1, 2],
-        &[1.0, 2.0, 3.0, 1.0, 1.0],
-        3,
-        request_rows,
-        request_columns,
-        limit,
-        &mut result_starts,
-        &mut result_rows,
-        &mut result_values,
-        &mut scratch,
-    )
-}
-
 // The call for a factor without columns, and no requests.
-pub fn no_columns(limit: usize) -> Selected
+fn no_columns(limit: usize) -> Selected
     ensures { λ r. ⌜ selectedReplyOf r ≡ NoColumns limit ⌝ }
 {
     let mut result_starts = [7u32; 1];
@@ -81,57 +58,6 @@ pub fn no_columns(limit: usize) -> Selected
         &mut result_values,
         &mut scratch,
     )
-}
-
-// Whether a diagnosis has these counts and is complete or not.
-fn shows(
-    d: SelectedInverseDiagnostics,
-    requested: usize,
-    closure: usize,
-    factor: usize,
-    complete: bool,
-) -> bool
-    ensures { λ r. ⌜ r ≡ showsOf d requested closure factor complete ⌝ }
-{
-    if d.requested_pairs != requested {
-        return false;
-    }
-    if d.closure_pairs != closure {
-        return false;
-    }
-    if d.factor_pairs != factor {
-        return false;
-    }
-    if complete {
-        return d.is_complete();
-    }
-    !d.is_complete()
-}
-
-// Whether a call is answered with these counts and a status that is Complete or not.
-pub fn counted(
-    reply: Selected,
-    requested: usize,
-    closure: usize,
-    factor: usize,
-    complete: bool,
-) -> bool
-    ensures { λ r. ⌜ r ≡ countedOf (selectedReplyOf reply) requested closure factor complete ⌝ }
-{
-    match reply {
-        Selected::Answered(d) => shows(d, requested, closure, factor, complete),
-        Selected::Refused(_) => false,
-    }
-}
-
-// Whether a call is answered with this ratio.
-pub fn has_ratio(reply: Selected, ratio: f64) -> bool
-    ensures { λ r. ⌜ r ≡ hasRatio (selectedReplyOf reply) ratio ⌝ }
-{
-    match reply {
-        Selected::Answered(d) => d.closure_over_factor == ratio,
-        Selected::Refused(_) => false,
-    }
 }
 
 // The entry of F2 at a row and a column, for the requests and limit 3.
@@ -191,55 +117,26 @@ pub fn one_entry(diagonal: f64) -> SelectedEntry
     )
 }
 
-// Whether the lookup found this value.
-pub fn is_value(e: SelectedEntry, v: f64) -> bool
-    ensures { λ r. ⌜ r ≡ isValue (answerOf e) v ⌝ }
-{
-    match e {
-        SelectedEntry::Found(entry) => match entry {
-            Entry::Value(z) => z == v,
-            Entry::Refused(_) => false,
-        },
-        SelectedEntry::ClosureTooLarge => false,
-        SelectedEntry::Refused(_) => false,
-    }
+// F2 with (0,0) at limits 3 and 2, (1,0), (1,1), (0,1) with (1,0), and no requests at limit 0.
+pub fn closed_sets_of_f2() {
+    expect(counted(f2(&[0], &[0], 3), 1, 3, 3, true));
+    expect(counted(f2(&[0], &[0], 2), 1, 3, 3, false));
+    expect(counted(f2(&[1], &[0], 3), 1, 2, 3, true));
+    expect(counted(f2(&[1], &[1], 3), 1, 1, 3, true));
+    expect(counted(f2(&[0, 1], &[1, 0], 3), 1, 2, 3, true));
+    expect(counted(f2(&[], &[], 0), 0, 0, 3, true));
 }
 
-// Whether the lookup found NaN.
-pub fn is_nan(e: SelectedEntry) -> bool
-    ensures { λ r. ⌜ r ≡ isNan (answerOf e) ⌝ }
-{
-    match e {
-        SelectedEntry::Found(entry) => match entry {
-            Entry::Value(z) => z != z,
-            Entry::Refused(_) => false,
-        },
-        SelectedEntry::ClosureTooLarge => false,
-        SelectedEntry::Refused(_) => false,
-    }
+// No columns and no requests: Complete, and the ratio is 0.0.
+pub fn closed_set_of_no_columns() {
+    expect(counted(no_columns(3), 0, 0, 0, true));
+    expect(has_ratio(no_columns(3), 0.0));
 }
 
-// Whether the lookup gave 8.
-pub fn is_absent(e: SelectedEntry) -> bool
-    ensures { λ r. ⌜ r ≡ isAbsent (answerOf e) ⌝ }
-{
-    match e {
-        SelectedEntry::Found(entry) => match entry {
-            Entry::Value(_) => false,
-            Entry::Refused(why) => refusal_number(why) == 8,
-        },
-        SelectedEntry::ClosureTooLarge => false,
-        SelectedEntry::Refused(_) => false,
-    }
-}
-
-// Whether the call was refused with this number.
-pub fn is_refused(e: SelectedEntry, number: u32) -> bool
-    ensures { λ r. ⌜ r ≡ isRefused (answerOf e) number ⌝ }
-{
-    match e {
-        SelectedEntry::Found(_) => false,
-        SelectedEntry::ClosureTooLarge => false,
-        SelectedEntry::Refused(why) => refusal_number(why) == number,
-    }
+// F2 at limits 0 and 2^32 - 1, with a pair requested twice, and with more requests than the limit.
+pub fn limits() {
+    expect(counted(f2(&[0], &[0], 0), 1, 1, 3, false));
+    expect(counted(f2(&[0], &[0], 4294967295), 1, 3, 3, true));
+    expect(counted(f2(&[0, 0], &[0, 0], 3), 1, 3, 3, true));
+    expect(counted(f2(&[0, 1], &[0, 1], 0), 2, 1, 3, false));
 }

@@ -1,6 +1,6 @@
 use borrow.Author.Needs.{needs}
 use lib.Ieee.{ofBits, ofInt}
-use Rattle.starred_calls.specs.Answer.{read-answer}
+use Rattle.starred_table.specs.Answer.{read-answer}
 use Rattle.starred_calls.proofs.f2_entry.Statement.{statement}
 use Rattle.starred_calls.proofs.f2_entry.Tie as tie
 

@@ -1,5 +1,5 @@
 use borrow.Author.Needs.{needs}
-use Rattle.starred_calls.specs.Answer.{read-answer}
+use Rattle.starred_table.specs.Answer.{read-answer}
 use Rattle.starred_calls.proofs.one_entry.Statement.{statement}
 use Rattle.starred_calls.proofs.one_entry.Tie as tie
 

@@ -1,0 +1,2 @@
+-- What a floor's reply shows.
+pub mod Stabilized

@@ -1,0 +1,2 @@
+// Document 01's starred cases: what each says, as one table. No code.
+// Theory only: see specs/.
