@@ -11,70 +11,56 @@ use Rattle.starred_table.specs.Table.{operator-answered, operator-written}
 use Rattle.starred_operator_row.proofs.operator_row.Statement.{statement}
 use Rattle.starred_operator_row.proofs.operator_row.Tie as tie
 
--- src/main.rt:79:9
 slice-aggregate-selected-inverse-transformed-diag :
     tie.Need-slice-aggregate-selected-inverse-transformed-diag
 slice-aggregate-selected-inverse-transformed-diag c = search needs
 
--- src/main.rt:80:9
 slice-aggregate-selected-inverse-transformed-diag-2 :
     tie.Need-slice-aggregate-selected-inverse-transformed-diag-2
 slice-aggregate-selected-inverse-transformed-diag-2 c = search needs
 
--- src/main.rt:81:9
 slice-aggregate-selected-inverse-transformed-diag-3 :
     tie.Need-slice-aggregate-selected-inverse-transformed-diag-3
 slice-aggregate-selected-inverse-transformed-diag-3 c = search needs
 
--- src/main.rt:83:9
 slice-aggregate-selected-inverse-transformed-diag-4 :
     tie.Need-slice-aggregate-selected-inverse-transformed-diag-4
 slice-aggregate-selected-inverse-transformed-diag-4 c = search needs
 
--- src/main.rt:84:9
 slice-aggregate-selected-inverse-transformed-diag-5 :
     tie.Need-slice-aggregate-selected-inverse-transformed-diag-5
 slice-aggregate-selected-inverse-transformed-diag-5 c = search needs
 
--- src/main.rt:85:9
 slice-aggregate-selected-inverse-transformed-diag-6 :
     tie.Need-slice-aggregate-selected-inverse-transformed-diag-6
 slice-aggregate-selected-inverse-transformed-diag-6 c = search needs
 
--- src/main.rt:86:9
 slice-aggregate-selected-inverse-transformed-diag-7 :
     tie.Need-slice-aggregate-selected-inverse-transformed-diag-7
 slice-aggregate-selected-inverse-transformed-diag-7 c = search needs
 
--- src/main.rt:87:9
 slice-aggregate-selected-inverse-transformed-diag-8 :
     tie.Need-slice-aggregate-selected-inverse-transformed-diag-8
 slice-aggregate-selected-inverse-transformed-diag-8 c = search needs
 
--- src/main.rt:88:9
 slice-aggregate-selected-inverse-transformed-diag-9 :
     tie.Need-slice-aggregate-selected-inverse-transformed-diag-9
 slice-aggregate-selected-inverse-transformed-diag-9 c = search needs
 
--- src/main.rt:89:9
 slice-aggregate-selected-inverse-transformed-diag-10 :
     tie.Need-slice-aggregate-selected-inverse-transformed-diag-10
 slice-aggregate-selected-inverse-transformed-diag-10 c = search needs
 
--- src/main.rt:90:9
 slice-aggregate-selected-inverse-transformed-diag-11 :
     tie.Need-slice-aggregate-selected-inverse-transformed-diag-11
 slice-aggregate-selected-inverse-transformed-diag-11 c = search needs
 
--- src/main.rt:77:9
 selected-inverse-transformed-diag-requires : tie.Need-selected-inverse-transformed-diag-requires
 selected-inverse-transformed-diag-requires c κs = search needs
 
--- src/main.rt:92:12
 counted-requires : tie.Need-counted-requires
 counted-requires c κs = search needs
 
--- src/main.rt:92:5
 expect-requires : tie.Need-expect-requires
 unfolding ofInt ofBits
 expect-requires c κs =
@@ -83,18 +69,15 @@ expect-requires c κs =
     ∙ ap (λ (r : Reply SelectedInverseDiagnostics). countedOf r 3 3 3 true) (d .selected-inverse-transformed-diag .ensures .replies ∙ operator-answered)
     ∙ shows-complete 3 3 3 30
 
--- src/main.rt:93:12
 array-read-expect : tie.Need-array-read-expect
 array-read-expect c = search needs
 
--- src/main.rt:93:5
 expect-requires-2 : tie.Need-expect-requires-2
 unfolding eq ofInt ofBits
 expect-requires-2 c κs =
     let d = c .before .before .before .before .before .before .before in
     ap (λ (l : List Float). eq (getD l 0 nan) (ofBits binary64 0x4000_0000_0000_0000)) (d .selected-inverse-transformed-diag .ensures .output-is ∙ operator-written _)
 
--- src/main.rt:71:1
 returns : tie.Need-returns
 returns c = search needs
 
