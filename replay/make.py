@@ -70,24 +70,26 @@ LENT = {
     "floor": OUTPUT,
     "least": {},
 }
-FIELDS = {
-    "entries": FACTOR + ("rdim", "rrows", "rcols", "limit", *RESULT, "prows", "pcols"),
+# the fields after the lists lent
+READ = {
+    "entries": FACTOR + ("rdim", "rrows", "rcols", "limit", "prows", "pcols"),
     "get": FACTOR[1:] + ("prows", "pcols"),
-    "diag": FACTOR[1:] + ("lout",),
-    "patfactor": FACTOR + (*PATTERN,),
-    "patoperator": OPERATOR + (*PATTERN,),
+    "diag": FACTOR[1:],
+    "patfactor": FACTOR,
+    "patoperator": OPERATOR,
     "permvalidate": ("perm", "inv"),
-    "permfrom": ("perm", "linv"),
-    "permapply": ("perm", "input", "lout"),
-    "diagorig": FACTOR + ("perm", *RESULT, "lout"),
-    "opvar": FACTOR + OPERATOR + (*RESULT, "lout"),
-    "floor": ("floor", "scale", "input", "lout"),
+    "permfrom": ("perm",),
+    "permapply": ("perm", "input"),
+    "diagorig": FACTOR + ("perm",),
+    "opvar": FACTOR + OPERATOR,
+    "floor": ("floor", "scale", "input"),
     "least": ("input",),
 }
+FIELDS = {kind: (*LENT[kind], *READ[kind]) for kind in READ}
 SCALARS = ("n", "rdim", "limit", "ncols", "floor", "scale")
 VALUES = ("values", "oweights", "input", "lvalues", "lout")
-# what the program has room for: pairs, lent lists that a case gives, the dimension for the others, the text
-PAIRS, GIVEN, DIMENSION, TEXT = 64, 64, 256, 1572864
+# what the program has room for: ROOM items of a list, so many pairs and bytes, and this dimension where it lends its own lists
+PAIRS, TEXT, DIMENSION = 64, 1572864, 256
 SEVENS = struct.pack(">d", 7777.0).hex()
 
 
@@ -549,7 +551,7 @@ def error_number(kind, word):
 def cleared(kind, f, number):
     """How many words of the scratch end 0."""
     if kind in ("patfactor", "patoperator"):
-        words = triangle(f[FIELDS[kind][0]])
+        words = triangle(f[READ[kind][0]])
         return words if number == 0 or (number == 7 and room(kind, f, "lscratch") >= words) else 0
     return 2 * triangle(f["n"]) + 4 * f["n"] if number in (0, 8) else 0
 
@@ -648,10 +650,8 @@ def finished(name, kind, f, answer):
 
 def fits(kind, f):
     """Whether the program has room for the case."""
-    given = ROOM if kind in ("diag", "permfrom", "permapply", "floor") else GIVEN
-    for name in FIELDS[kind]:
-        most = PAIRS if name in ("prows", "pcols") else given if name in LENT[kind] else ROOM
-        if name in f and name not in SCALARS and len(f[name]) > most:
+    for name, words in f.items():
+        if name not in SCALARS and len(words) > (PAIRS if name in ("prows", "pcols") else ROOM):
             return False
     return f.get("n", f.get("ncols", 0)) <= DIMENSION or refusal(kind, f) > 0
 
