@@ -588,11 +588,15 @@ def told(kind, f, got):
 
 
 def get_answer(f, got):
-    line = " ".join(["gets", str(len(f["prows"]))] + [lookup_word(x) for x in lookups(f)])
+    """The lookups, and how the Rust's first other one differs."""
+    found, difference = [lookup_word(x) for x in lookups(f)], None
     if got["reply"] != ["ok"]:
-        return ["reply ok", line], "lookup: the Rust: " + " ".join(got["reply"])
-    gets = " ".join(["gets"] + got["gets"])
-    return ["reply ok", line], None if gets == line else "lookup: the Rust finds %s, document 01 %s" % (gets, line)
+        difference = "lookup: the Rust: " + " ".join(got["reply"])
+    else:
+        for document, rust in zip(found, got["gets"][1:], strict=True):
+            if document != rust and not difference:
+                difference = "lookup: document 01 gives %s, the Rust %s" % (document, "none" if rust == "none" else "a value")
+    return ["reply ok", " ".join(["gets", str(len(found))] + found)], difference
 
 
 def expected(kind, f, answer):
