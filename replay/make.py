@@ -36,7 +36,7 @@ SETS = {
     "special": (90, 2000, 12),
     "exact": (80, 3000, 12),
     "grid": (24, 60000, 6),
-    "lookup": (100, 4000, 12),
+    "lookup": (100, 3000, 12),
     "default": (60, 6000, 12),
     "refuse": (140, 2000, 12),
     "diagorig": (60, 4000, 12),
@@ -656,6 +656,8 @@ def fits(kind, f):
     """Whether the program has room for the case."""
     for name, words in f.items():
         if name not in SCALARS and len(words) > (PAIRS if name in ("prows", "pcols") else ROOM):
+            return False
+        if name not in SCALARS + VALUES and max(words, default=0) >= 2**32:
             return False
     return f.get("n", f.get("ncols", 0)) <= DIMENSION or refusal(kind, f) > 0
 
