@@ -2,62 +2,104 @@
 """Makes crates/replay/stdin and crates/replay/stdout from the Rust's own functions.
 
     replay/make.py PROGRAMS                            writes both files and prints the counts
-    replay/make.py PROGRAMS --compare REPLAY [SEED]    runs the program REPLAY on every case of the sets that it can hold
+    replay/make.py PROGRAMS --compare REPLAY [SEED]    runs the program REPLAY on every case that it can hold
 
 PROGRAMS is the folder with the programs `generate`, which writes cases, and `oracle`, which answers
 them by the Rust's functions; both are built from the Rust that NOTICE names. See replay/README.md
 for the text form.
 
-Which cases are taken is fixed: the sets below in this order, each grouped by kind and answer; every
-group gives its share of the set's number and at least twelve (or all it has), spread evenly over it.
+First come the cases of replay/cases.txt, all of them, then those taken from the sets below in this
+order. Which are taken is fixed: each set is grouped by kind and answer; every group gives its share
+of the set's number and at least so many as SETS says (or all it has), spread evenly over it. A generated case of
+kind `defaultlimit` becomes one of `entries` with no requests and the default limit.
 
 What the answers file holds is the Rust's answer with these changes:
 - `reply err ..` becomes `reply N`, document 01's number;
 - where document 01 refuses, which `refusal` below reads from its text and not from our code, the
-  answer is that number, whatever the Rust says (it panics, cannot be fed, or accepts);
-- `route` and `nanbits`, which a call does not tell, are left out;
-- `kept` is added where lists are lent for writing: the program prints it when every place that the
-  call must leave holds what it held, and `changed` otherwise.
+  answer is that number, whatever the Rust says (it panics, cannot be fed, or accepts). For a refused
+  case of cases.txt the Rust is not asked;
+- a lookup is document 01's where the Rust's columns cannot hold the lists;
+- the lists lent for writing are whole: what the Rust gives stands in front, and the rest is what
+  document 01 says is left;
+- of `least`, two zeros count as equal, and document 01's is written;
+- `route`, `nanbits`, `finish`, `whole`, and a diagonal's `negative` and `least`, which a call does
+  not tell, are left out. `opvar` is answered without `SparseRowOperator::new`, which refuses weights
+  that document 01 accepts.
 """
-import os, subprocess, sys
+import collections, itertools, math, os, struct, subprocess, sys
 
-# set: how many cases, and the largest case in bytes
+# set: how many cases, the largest case in bytes, and the least number of a group
 SETS = {
-    "worked": (100, 60000),
-    "tiny": (120, 2000),
-    "random": (70, 9000),
-    "special": (90, 2000),
-    "exact": (80, 3000),
-    "grid": (48, 60000),
-    "lookup": (100, 4000),
-    "default": (60, 6000),
-    "refuse": (140, 2000),
+    "worked": (100, 60000, 12),
+    "tiny": (120, 2000, 12),
+    "random": (70, 7000, 12),
+    "special": (90, 2000, 12),
+    "exact": (80, 3000, 12),
+    "grid": (24, 60000, 6),
+    "lookup": (100, 3000, 12),
+    "default": (60, 6000, 12),
+    "refuse": (140, 2000, 12),
+    "diagorig": (60, 4000, 12),
+    "opvar": (80, 4000, 12),
+    "floor": (90, 2000, 12),
+    "least": (60, 2000, 12),
+    "perm": (90, 2000, 12),
+    "pattern": (70, 4000, 12),
 }
-KINDS = ("entries", "defaultlimit", "get", "diag")
-FIELDS = {
-    "entries": ("n", "starts", "rows", "values", "rdim", "rrows", "rcols", "limit", "prows", "pcols"),
-    "defaultlimit": ("n", "starts", "rows", "values"),
-    "get": ("starts", "rows", "values", "prows", "pcols"),
-    "diag": ("starts", "rows", "values"),
-}
-# what the program lends: input lists, pairs, and the dimension that its result lists and scratch suffice for
-ROOM, PAIRS, DIMENSION = 4608, 64, 256
-TEXT = 1572864
 
-ERRORS = {
-    "NonPositiveDefinite": 6,
-    "selected-inverse-pattern-dimension-must-match-factor-dimension": 4,
-    "symmetric-pattern-index-exceeds-dimension": 5,
+# ---- the text form
+
+FACTOR = ("n", "starts", "rows", "values")
+OPERATOR = ("ncols", "ostarts", "ocols", "oweights")
+# the lists lent for writing, by kind, each with the length that it has where the case does not give it
+ROOM, ENTRIES = 4608, 33024
+RESULT = {"lstarts": ROOM, "lrows": ENTRIES, "lvalues": ENTRIES, "lscratch": 67072}
+OUTPUT = {"lout": ROOM}
+PATTERN = {"lscratch": ENTRIES, "lprows": ENTRIES, "lpcols": ENTRIES}
+LENT = {
+    "entries": RESULT,
+    "get": {},
+    "diag": OUTPUT,
+    "patfactor": PATTERN,
+    "patoperator": PATTERN,
+    "permvalidate": {},
+    "permfrom": {"linv": ROOM},
+    "permapply": OUTPUT,
+    "diagorig": {**RESULT, **OUTPUT},
+    "opvar": {**RESULT, **OUTPUT},
+    "floor": OUTPUT,
+    "least": {},
 }
+# the fields after the lists lent
+READ = {
+    "entries": FACTOR + ("rdim", "rrows", "rcols", "limit", "prows", "pcols"),
+    "get": FACTOR[1:] + ("prows", "pcols"),
+    "diag": FACTOR[1:],
+    "patfactor": FACTOR,
+    "patoperator": OPERATOR,
+    "permvalidate": ("perm", "inv"),
+    "permfrom": ("perm",),
+    "permapply": ("perm", "input"),
+    "diagorig": FACTOR + ("perm",),
+    "opvar": FACTOR + OPERATOR,
+    "floor": ("floor", "scale", "input"),
+    "least": ("input",),
+}
+FIELDS = {kind: (*LENT[kind], *READ[kind]) for kind in READ}
+SCALARS = ("n", "rdim", "limit", "ncols", "floor", "scale")
+VALUES = ("values", "oweights", "input", "lvalues", "lout")
+# what the program has room for: ROOM items of a list, so many pairs and bytes, and this dimension where it lends its own lists
+PAIRS, TEXT, DIMENSION = 64, 1572864, 256
+SEVENS = struct.pack(">d", 7777.0).hex()
 
 
 def blocks(text):
     """The cases or answers of a text: (id, kind, lines without the first and the last)."""
     head, lines = None, []
     for line in text.split("\n"):
-        if not line or line.startswith("#"):
-            continue
         words = line.split()
+        if not words or line.startswith("#"):
+            continue
         if words[0] == "case":
             head, lines = words[1:], []
         elif words[0] == "end":
@@ -66,242 +108,661 @@ def blocks(text):
             lines.append(line)
 
 
+def scalar(name, word):
+    return word if name in ("floor", "scale") or word == "default" else int(word)
+
+
 def fields(lines):
-    """A case's fields: a number, or a list without its count."""
-    out = {}
+    """A case's fields: a number or a word, or a list of words or of values' digits."""
+    f = {}
     for line in lines:
         name, *words = line.split()
-        if name in ("n", "rdim", "limit"):
-            out[name] = words[0]
-        elif name == "values":
-            out[name] = words[1:]
+        if name in SCALARS:
+            f[name] = scalar(name, words[0])
         elif name != "expect":
-            out[name] = [int(w) for w in words[1:]]
-            assert len(out[name]) == int(words[0])
+            assert int(words[0]) == len(words) - 1, line
+            f[name] = words[1:] if name in VALUES else [int(w) for w in words[1:]]
+    return f
+
+
+def block(name, kind, lines):
+    return "\n".join(["case %s %s" % (name, kind)] + lines + ["end"]) + "\n"
+
+
+def case_text(name, kind, f):
+    assert all(x in FIELDS[kind] for x in f), name
+    lines = []
+    for x in FIELDS[kind]:
+        if x in f:
+            words = [f[x]] if x in SCALARS else [len(f[x])] + f[x]
+            lines.append(" ".join([x] + [str(w) for w in words]))
+    return block(name, kind, lines)
+
+
+# A list is kept as its runs, (item, how many).
+
+
+def runs(items):
+    return [(x, 1) for x in items]
+
+
+def size(held):
+    return sum(k for _, k in held)
+
+
+def written_over(front, held):
+    """The front's items in the first places of a list, the others as they are."""
+    out, skip = list(front), size(front)
+    for x, k in held:
+        out.append((x, max(k - skip, 0)))
+        skip = max(skip - k, 0)
     return out
 
 
+def is_value(x):
+    return isinstance(x, str)
+
+
 def is_nan(bits):
-    return int(bits, 16) % 2**63 > 0x7FF0 << 48
+    return bits == "nan" or int(bits, 16) % 2**63 > 0x7FF0 << 48
 
 
 def is_zero(bits):
-    return int(bits, 16) % 2**63 == 0
+    return bits != "nan" and int(bits, 16) % 2**63 == 0
+
+
+def list_line(name, held):
+    """A list of an answer: its length and its items, equal ones in a row as item*k; zeros and NaNs among values one by one."""
+    words = [name, str(size(held))]
+    shown = (("nan" if is_value(x) and is_nan(x) else x, k) for x, k in held if k)
+    for x, group in itertools.groupby(shown, key=lambda run: run[0]):
+        k = sum(run[1] for run in group)
+        if is_value(x) and (is_nan(x) or is_zero(x)):
+            words += [x] * k
+        else:
+            words.append("%s*%d" % (x, k) if k > 1 else str(x))
+    return " ".join(words)
+
+
+# ---- the readable form of replay/cases.txt
+
+
+def value_bits(word):
+    """A value's digits: from its 0x.. bits, from a power such as -2^-1074, or from its decimal, nan or inf."""
+    if word.startswith("0x"):
+        assert len(word) == 18
+        return word[2:]
+    if "^" in word:
+        sign, power = word.split("2^")
+        x = math.ldexp(-1.0 if sign else 1.0, int(power))
+    else:
+        x = float(word)
+    return struct.pack(">d", x).hex()
+
+
+def items(word):
+    """The items that a word stands for: item*k is k of them, a..b all from a to b, either way."""
+    word, _, times = word.partition("*")
+    first, dots, last = word.partition("..")
+    if not dots:
+        return [word] * int(times or 1)
+    a, b = float(first), float(last)
+    count = int(abs(b - a)) + 1
+    steps = [a + k if b >= a else a - k for k in range(count)]
+    return [str(x) if "." in first else str(int(x)) for x in steps]
+
+
+def readable_fields(lines):
+    """The fields of a case of cases.txt, and the replies it expects."""
+    f, expect = {}, []
+    for line in lines:
+        name, *words = line.split("#")[0].split()
+        if name == "expect":
+            expect = [int(w) for w in words]
+        elif name in SCALARS:
+            f[name] = value_bits(words[0]) if name == "scale" else scalar(name, words[0])
+        else:
+            long = [x for w in words for x in items(w)]
+            f[name] = [value_bits(x) for x in long] if name in VALUES else [int(x) for x in long]
+    return f, expect
+
+
+# ---- document 01: what each call refuses, in its order; the first number decides
+
+MOST_COLUMNS, MOST_ENTRIES = 2048, 1048576
 
 
 def at_most_zero(bits):
     return not is_nan(bits) and (is_zero(bits) or int(bits, 16) >= 2**63)
 
 
-def column_fault(starts, rows, values, c):
-    """The lookup's 2 and 3 for a column of a result."""
-    a, e = starts[c], starts[c + 1]
-    if e < a or e > len(rows) or e > len(values):
-        return 2
-    if any(rows[p] <= rows[p - 1] for p in range(a + 1, e)):
-        return 3
-    return 0
+def finite(bits):
+    return int(bits, 16) % 2**63 < 0x7FF0 << 48
 
 
-def factor_fault(n, starts, rows, values):
-    """2 and 3 for a factor."""
-    if len(starts) != n + 1 or starts[0] != 0 or any(a > b for a, b in zip(starts, starts[1:])):
-        return 2
-    if starts[-1] != len(rows) or len(rows) != len(values):
-        return 2
+def triangle(n):
+    return n * (n + 1) // 2
+
+
+def room(kind, f, name):
+    """The length of a lent list."""
+    return len(f[name]) if name in f else LENT[kind][name]
+
+
+def broken(starts, indices, values):
+    """What 2 says of starts but for their number, and 9 of row starts."""
+    return (
+        starts[0] != 0
+        or any(a > b for a, b in zip(starts, starts[1:]))
+        or starts[-1] != len(indices)
+        or len(indices) != len(values)
+    )
+
+
+def factor_refusals(f):
+    n, starts, rows = f["n"], f["starts"], f["rows"]
+    if len(starts) != n + 1 or broken(starts, rows, f["values"]):
+        yield 2
     for c in range(n):
         for p in range(starts[c], starts[c + 1]):
             if rows[p] >= n or (p > starts[c] and rows[p] <= rows[p - 1]):
-                return 3
-    return 0
+                yield 3
+
+
+def operator_refusals(f, columns):
+    if not f["ostarts"] or broken(f["ostarts"], f["ocols"], f["oweights"]) or any(c >= columns for c in f["ocols"]):
+        yield 9
+
+
+def kept(f, c):
+    """The kept entries of a column, (row, value)."""
+    entries = ((f["rows"][p], f["values"][p]) for p in range(f["starts"][c], f["starts"][c + 1]))
+    return [(r, v) for r, v in entries if r >= c and not is_zero(v)]
+
+
+def diagonal_refusals(f):
+    for c in range(f["n"]):
+        entries = kept(f, c)
+        if not entries or entries[0][0] != c or at_most_zero(entries[0][1]):
+            yield 6
+
+
+def room_refusals(kind, f, limit):
+    n = f["n"]
+    entries = min(limit, triangle(n))
+    if (
+        room(kind, f, "lstarts") < n + 1
+        or room(kind, f, "lrows") < entries
+        or room(kind, f, "lvalues") < entries
+        or room(kind, f, "lscratch") < 2 * triangle(n) + 4 * n
+    ):
+        yield 7
+
+
+def permutation_refusals(perm, inverse=None):
+    seen = set()
+    for i, x in enumerate(perm):
+        if x >= len(perm):
+            yield 10
+        if x in seen:
+            yield 11
+        if inverse is not None and inverse[x] != i:
+            yield 12
+        seen.add(x)
+
+
+def limit_of(f):
+    """The limit of a call: 10 times the stored entries where none is given."""
+    return f["limit"] if f.get("limit", "default") != "default" else 10 * len(f["rows"])
+
+
+def past_limit(f, requests, limit):
+    """Whether the closed set has more pairs than the limit."""
+    below = [[r for r, _ in kept(f, c) if r > c] for c in range(f["n"])]
+    found, queue = set(requests), list(requests)
+    while queue and len(found) <= limit:
+        r, c = queue.pop()
+        for d in below[c]:
+            pair = (max(r, d), min(r, d))
+            if pair not in found:
+                found.add(pair)
+                queue.append(pair)
+    return len(found) > limit
+
+
+def factor_pattern(f):
+    return {(r, c) for c in range(f["n"]) for r, _ in kept(f, c)}
+
+
+def operator_pattern(f):
+    rows = (f["ocols"][a:b] for a, b in zip(f["ostarts"], f["ostarts"][1:]))
+    return {(max(a, b), min(a, b)) for row in rows for a in row for b in row}
+
+
+def entries_refusals(f):
+    n, rows, cols = f["n"], f["rrows"], f["rcols"]
+    if n > MOST_COLUMNS or len(f["rows"]) > MOST_ENTRIES or len(rows) > MOST_ENTRIES:
+        yield 1
+    yield from factor_refusals(f)
+    if f["rdim"] != n or len(rows) != len(cols):
+        yield 4
+    if any(i >= n for i in rows + cols):
+        yield 5
+    yield from diagonal_refusals(f)
+    yield from room_refusals("entries", f, limit_of(f))
+
+
+def column_refusals(starts, rows, values, c):
+    """The lookup's 2 and 3 for a column of a result."""
+    a, e = starts[c], starts[c + 1]
+    if e < a or e > len(rows) or e > len(values):
+        yield 2
+    if any(rows[p] <= rows[p - 1] for p in range(a + 1, e)):
+        yield 3
+
+
+def diag_refusals(f):
+    starts = f["starts"]
+    if not starts:
+        yield 2
+    for c in range(len(starts) - 1):
+        yield from column_refusals(starts, f["rows"], f["values"], c)
+    if room("diag", f, "lout") < len(starts) - 1:
+        yield 7
+
+
+def pattern_refusals(kind, f, n, pattern):
+    if room(kind, f, "lscratch") < triangle(n):
+        yield 7
+    pairs = len(pattern(f))
+    if room(kind, f, "lprows") < pairs or room(kind, f, "lpcols") < pairs:
+        yield 7
+
+
+def patfactor_refusals(f):
+    if f["n"] > MOST_COLUMNS or len(f["rows"]) > MOST_ENTRIES:
+        yield 1
+    yield from factor_refusals(f)
+    yield from pattern_refusals("patfactor", f, f["n"], factor_pattern)
+
+
+def patoperator_refusals(f):
+    if f["ncols"] > MOST_COLUMNS or len(f["ostarts"]) - 1 > MOST_COLUMNS or len(f["ocols"]) > MOST_ENTRIES:
+        yield 1
+    yield from operator_refusals(f, f["ncols"])
+    yield from pattern_refusals("patoperator", f, f["ncols"], operator_pattern)
+
+
+def permvalidate_refusals(f):
+    if len(f["perm"]) > MOST_COLUMNS or len(f["inv"]) > MOST_COLUMNS:
+        yield 1
+    if len(f["perm"]) != len(f["inv"]):
+        yield 12
+    yield from permutation_refusals(f["perm"], f["inv"])
+
+
+def permfrom_refusals(f):
+    if len(f["perm"]) > MOST_COLUMNS:
+        yield 1
+    yield from permutation_refusals(f["perm"])
+    if room("permfrom", f, "linv") < len(f["perm"]):
+        yield 7
+
+
+def permapply_refusals(f):
+    if len(f["perm"]) > MOST_COLUMNS or len(f["input"]) > MOST_COLUMNS:
+        yield 1
+    if len(f["input"]) != len(f["perm"]):
+        yield 4
+    yield from permutation_refusals(f["perm"])
+    if room("permapply", f, "lout") < len(f["perm"]):
+        yield 7
+
+
+def diagorig_refusals(f):
+    n = f["n"]
+    if n > MOST_COLUMNS or len(f["rows"]) > MOST_ENTRIES:
+        yield 1
+    yield from factor_refusals(f)
+    if len(f["perm"]) != n:
+        yield 4
+    yield from permutation_refusals(f["perm"])
+    yield from diagonal_refusals(f)
+    yield from room_refusals("diagorig", f, limit_of(f))
+    if room("diagorig", f, "lout") < n:
+        yield 7
+    if past_limit(f, [(i, i) for i in range(n)], limit_of(f)):
+        yield 8
+
+
+def opvar_refusals(f):
+    n, rows = f["n"], len(f["ostarts"]) - 1
+    if n > MOST_COLUMNS or len(f["rows"]) > MOST_ENTRIES or rows > MOST_COLUMNS or len(f["ocols"]) > MOST_ENTRIES:
+        yield 1
+    yield from factor_refusals(f)
+    if f["ncols"] != n:
+        yield 4
+    yield from operator_refusals(f, n)
+    yield from diagonal_refusals(f)
+    yield from room_refusals("opvar", f, limit_of(f))
+    if room("opvar", f, "lout") < rows:
+        yield 7
+
+
+def floor_refusals(f):
+    if len(f["input"]) > MOST_ENTRIES:
+        yield 1
+    if not all(finite(x) for x in f["input"]):
+        yield 13
+    if f["floor"] == "mean" and not (finite(f["scale"]) and (is_zero(f["scale"]) or int(f["scale"], 16) < 2**63)):
+        yield 14
+    if room("floor", f, "lout") < len(f["input"]):
+        yield 7
+
+
+def no_refusals(f):
+    return iter(())
+
+
+REFUSALS = {
+    "entries": entries_refusals,
+    "get": no_refusals,
+    "diag": diag_refusals,
+    "patfactor": patfactor_refusals,
+    "patoperator": patoperator_refusals,
+    "permvalidate": permvalidate_refusals,
+    "permfrom": permfrom_refusals,
+    "permapply": permapply_refusals,
+    "diagorig": diagorig_refusals,
+    "opvar": opvar_refusals,
+    "floor": floor_refusals,
+    "least": no_refusals,
+}
 
 
 def refusal(kind, f):
-    """Document 01's refusal of a call, 0 for none; 7 does not arise, as the lent lists are long enough."""
-    starts, rows, values = f["starts"], f["rows"], f["values"]
-    if kind == "get":
-        return 0
-    if kind == "diag":
-        if not starts:
-            return 2
-        faults = (column_fault(starts, rows, values, c) for c in range(len(starts) - 1))
-        return next((k for k in faults if k), 0)
-    n = int(f["n"])
-    rrows, rcols, rdim = f.get("rrows", []), f.get("rcols", []), int(f.get("rdim", n))
-    if n > 2048 or len(rows) > 1048576 or len(rrows) > 1048576:
-        return 1
-    fault = factor_fault(n, starts, rows, values)
-    if fault:
-        return fault
-    if rdim != n or len(rrows) != len(rcols):
-        return 4
-    if any(i >= n for i in rrows + rcols):
-        return 5
-    for c in range(n):
-        diagonal = [values[p] for p in range(starts[c], starts[c + 1]) if rows[p] == c and not is_zero(values[p])]
-        if not diagonal or at_most_zero(diagonal[0]):
-            return 6
-    return 0
+    """Document 01's refusal of a call, 0 for none."""
+    return next(REFUSALS[kind](f), 0)
 
 
 def lookup(f, row, col):
-    """Document 01's lookup of a pair, as the answers write it."""
+    """Document 01's lookup of a pair: the value's digits, or the refusal's number."""
     starts, rows, values = f["starts"], f["rows"], f["values"]
     r, c = max(row, col), min(row, col)
     if not starts:
-        return "refused-2"
+        return 2
     n = len(starts) - 1
     if c >= n:
-        return "none"
-    fault = column_fault(starts, rows, values, c)
+        return 8
+    fault = next(column_refusals(starts, rows, values, c), 0)
     if fault:
-        return "refused-%d" % fault
-    if r >= n:
-        return "none"
-    for p in range(starts[c], starts[c + 1]):
-        if rows[p] == r:
-            return "nan" if is_nan(values[p]) else values[p]
-    return "none"
+        return fault
+    found = [values[p] for p in range(starts[c], starts[c + 1]) if rows[p] == r]
+    return found[0] if r < n and found else 8
 
 
-def fits(kind, f):
-    """Whether the program has room for the case."""
-    if any(len(f.get(x, [])) > ROOM for x in ("starts", "rows", "values", "rrows", "rcols")):
-        return False
-    if len(f.get("prows", [])) > PAIRS or len(f.get("pcols", [])) > PAIRS:
-        return False
-    return kind in ("get", "diag") or int(f["n"]) <= DIMENSION or refusal(kind, f) > 0
+def lookup_word(found):
+    if is_value(found):
+        return "nan" if is_nan(found) else found
+    return "none" if found == 8 else "refused-%d" % found
 
 
-differences = {}
+def lookups(f):
+    return [lookup(f, r, c) for r, c in zip(f["prows"], f["pcols"])]
 
 
-def differs(what, name):
-    differences.setdefault(what, []).append(name)
+def earlier_zero(f):
+    """The first zero of a list, 0.0 where it has no values."""
+    return next((x for x in f["input"] if is_zero(x)), "0" * 16)
 
 
-def expected(name, kind, f, answer):
-    """The lines of the answer that the program must write."""
-    reply, rest = answer[0].split()[1:], [x for x in answer[1:] if x.split()[0] not in ("route", "nanbits")]
-    word = reply[-1] if reply[0] == "err" else reply[0]
-    number = refusal(kind, f)
+# ---- the answers
+
+ERRORS = {
+    "NonPositiveDefinite": 6,
+    "SelectedInversePatternNotCovered": 8,
+    "selected-inverse-pattern-dimension-must-match-factor-dimension": 4,
+    "operator-columns-must-match-factor-dimension": 4,
+    "vector-length-must-match-factor-dimension": 4,
+    "permutation-index-exceeds-dimension": 10,
+    "permutation-contains-duplicate-entries": 11,
+    "permutation-arrays-must-have-the-same-length": 12,
+    "permutation-arrays-are-not-inverses": 12,
+    "variance-vector-contains-non-finite-entries": 13,
+    "variance-floor-scale-must-be-finite-and-nonnegative": 14,
+}
+DIAGNOSIS = ("status", "requested", "closure", "factor", "limit", "ratio")
+# the answer's lines that the Rust gives in front of the lists
+TOLD = {
+    "entries": DIAGNOSIS,
+    "diagorig": DIAGNOSIS,
+    "opvar": DIAGNOSIS,
+    "floor": ("floor", "hits"),
+    "least": ("negative", "least"),
+}
+
+
+def error_number(kind, word):
+    if word == "symmetric-pattern-index-exceeds-dimension":
+        return 5 if kind == "entries" else 9
+    return ERRORS.get(word)
+
+
+def cleared(kind, f, number):
+    """How many words of the scratch end 0."""
+    if kind in ("patfactor", "patoperator"):
+        words = triangle(f[READ[kind][0]])
+        return words if number == 0 or (number == 7 and room(kind, f, "lscratch") >= words) else 0
+    return 2 * triangle(f["n"]) + 4 * f["n"] if number in (0, 8) else 0
+
+
+def filled(kind, name, got):
+    """What the Rust puts into the front of a list."""
+    words = got["diag" if kind == "diag" else name][1:]
+    return runs(words if "l" + name in VALUES else [int(w) for w in words])
+
+
+def lists_after(kind, f, number, got):
+    """The lines of the lent lists after a call."""
+    complete = number == 0 and got.get("status", ["Complete"]) == ["Complete"]
+    lines = []
+    for field, length in LENT[kind].items():
+        name = field[1:]
+        held = runs(f[field]) if field in f else [(SEVENS if field in VALUES else 7777, length)]
+        if name == "scratch":
+            held = written_over([(0, cleared(kind, f, number))], held)
+        elif complete:
+            held = written_over(filled(kind, name, got), held)
+        lines.append(list_line(name, held))
+    return lines
+
+
+def told(kind, f, got):
+    """The lines in front of the lists where a call is accepted."""
+    lines = [" ".join([name] + got[name]) for name in TOLD.get(kind, ())]
+    if kind in ("patfactor", "patoperator"):
+        lines.append("pairs " + got["prows"][0])
+    if kind == "least" and is_zero(got["least"][0]):
+        lines[-1] = "least " + earlier_zero(f)
+    return lines
+
+
+def get_answer(f, got):
+    """The lookups, and how the Rust's first other one differs."""
+    found, difference = [lookup_word(x) for x in lookups(f)], None
+    if got["reply"] != ["ok"]:
+        difference = "lookup: the Rust: " + " ".join(got["reply"])
+    else:
+        for document, rust in zip(found, got["gets"][1:], strict=True):
+            if document != rust and not difference:
+                difference = "lookup: document 01 gives %s, the Rust %s" % (document, "none" if rust == "none" else "a value")
+    return ["reply ok", " ".join(["gets", str(len(found))] + found)], difference
+
+
+def expected(kind, f, answer):
+    """The lines of the answer that the program must write, and how the Rust differs; the answer is None where the Rust was not asked."""
+    got = {x.split()[0]: x.split()[1:] for x in answer or []}
     if kind == "get":
-        gets = [lookup(f, r, c) for r, c in zip(f["prows"], f["pcols"])]
-        line = " ".join(["gets", str(len(gets))] + gets)
-        if reply[0] != "ok":
-            differs("lookup: the Rust %s" % " ".join(reply), name)
-        elif rest != [line]:
-            differs("lookup: the Rust finds %s, document 01 %s" % (rest, line), name)
-        return ["reply ok", line]
+        return get_answer(f, got)
+    number, difference = refusal(kind, f), None
+    reply = got.get("reply", [])
+    said = 0 if reply == ["ok"] else error_number(kind, reply[-1]) if reply else number
+    if said != number:
+        what = "refuses with %d" % number if number else "accepts"
+        difference = "%s: document 01 %s, the Rust: %s" % (kind, what, " ".join(reply))
     if number:
-        if ERRORS.get(word) != number:
-            differs("%s: document 01 refuses with %d, the Rust: %s" % (kind, number, " ".join(reply)), name)
-        return ["reply %d" % number, "kept"]
-    if reply[0] != "ok":
-        differs("%s: document 01 accepts, the Rust: %s" % (kind, " ".join(reply)), name)
-        return ["reply %s" % ERRORS.get(word, word), "kept"]
-    return ["reply ok"] + rest + ["kept"]
+        return ["reply %d" % number] + lists_after(kind, f, number, got), difference
+    assert reply == ["ok"], difference
+    lines = ["reply ok"] + told(kind, f, got)
+    if kind == "least" and lines[-1].split()[1:] != got["least"]:
+        difference = "least: of two zeros the Rust keeps the later"
+    gets = [" ".join(["gets"] + got["gets"])] if "gets" in got else []
+    return lines + lists_after(kind, f, number, got) + gets, difference
 
 
-def case_text(name, kind, lines):
-    kept = [x for x in lines if x.split()[0] != "expect"]
-    assert [x.split()[0] for x in kept] == [x for x in FIELDS[kind] if any(y.split()[0] == x for y in kept)], name
-    return "\n".join(["case %s %s" % (name, kind)] + kept + ["end"]) + "\n"
+# ---- the cases
 
-
-def answer_text(name, kind, lines):
-    return "\n".join(["case %s %s" % (name, kind)] + lines + ["end"]) + "\n"
+# the group is kind and answer
+Case = collections.namedtuple("Case", "name text answer group difference")
 
 
 def run(program, *args, text=""):
     return subprocess.run([program, *args], input=text, capture_output=True, text=True, check=True).stdout
 
 
-def cases_of(programs, name, *seed):
-    """Every case of a set that the program can hold: (id, kind, case's text, answer's text, answer's class)."""
-    text = run(os.path.join(programs, "generate"), name, *seed)
-    answers = blocks(run(os.path.join(programs, "oracle"), text=text))
+def answers(programs, cases):
+    """The Rust's answers to cases (id, kind, fields)."""
+    text = run(os.path.join(programs, "oracle"), text="".join(case_text(*c) for c in cases))
     out = []
-    for (i, kind, lines), (j, other, answer) in zip(blocks(text), answers):
-        assert (i, kind) == (j, other)
-        if kind not in KINDS:
-            continue
-        f = fields(lines)
-        if not fits(kind, f):
-            continue
-        want = expected(i, kind, f, answer)
-        out.append((i, kind, case_text(i, kind, lines), answer_text(i, kind, want), kind + " " + answer_class(want)))
+    for (name, kind, _), (i, other, answer) in zip(cases, blocks(text), strict=True):
+        assert (name, kind) == (i, other)
+        out.append(answer)
     return out
 
 
-def answer_class(lines):
-    """The reply with the status, or with the refusal that a lookup met."""
+def group(kind, lines):
+    """Kind and reply, with the status, or with the refusal that a lookup met."""
     status = [x for x in lines if x.startswith("status")]
     refused = [w for x in lines if x.startswith("gets") for w in x.split() if w.startswith("refused")]
-    return " ".join([lines[0]] + status + refused[:1])
+    return " ".join([kind, lines[0]] + status + refused[:1])
 
 
-def spread(items, count):
-    """So many of the items, evenly spread, the first and the last among them."""
-    if count >= len(items):
-        return items
-    return [items[k * (len(items) - 1) // max(count - 1, 1)] for k in range(count)]
+def finished(name, kind, f, answer):
+    lines, difference = expected(kind, f, answer)
+    return Case(name, case_text(name, kind, f), block(name, kind, lines), group(kind, lines), difference)
 
 
-def chosen(cases, count, most):
+def fits(kind, f):
+    """Whether the program has room for the case."""
+    for name, words in f.items():
+        if name not in SCALARS and len(words) > (PAIRS if name in ("prows", "pcols") else ROOM):
+            return False
+        if name not in SCALARS + VALUES and max(words, default=0) >= 2**32:
+            return False
+    return f.get("n", f.get("ncols", 0)) <= DIMENSION or refusal(kind, f) > 0
+
+
+def generated(programs, name, *seed):
+    """Every case of a set that the program can hold."""
+    cases = []
+    for i, kind, lines in blocks(run(os.path.join(programs, "generate"), name, *seed)):
+        f = fields(lines)
+        if kind == "defaultlimit":
+            kind, f = "entries", {**f, "rdim": f["n"], "rrows": [], "rcols": [], "limit": "default"}
+        if kind in FIELDS and fits(kind, f):
+            cases.append((i, kind, f))
+    return [finished(*c, answer) for c, answer in zip(cases, answers(programs, cases))]
+
+
+def given(programs):
+    """The cases of cases.txt; what each expects must be document 01's."""
+    with open(os.path.join(os.path.dirname(os.path.abspath(__file__)), "cases.txt")) as file:
+        text = file.read()
+    cases, asked, names = [], [], set()
+    for name, kind, lines in blocks(text):
+        f, expect = readable_fields(lines)
+        assert name not in names and fits(kind, f), name
+        names.add(name)
+        number = [0 if is_value(x) else x for x in lookups(f)] if kind == "get" else [refusal(kind, f)]
+        assert number == expect, "%s: expects %s, document 01 gives %s" % (name, expect, number)
+        lent = [x in f for x in LENT[kind]]
+        assert all(lent) or not any(lent), name
+        cases.append((name, kind, f))
+        if kind == "get" or number[0] in (0, 8):
+            asked.append((name, kind, f))
+    said = {c[0]: answer for c, answer in zip(asked, answers(programs, asked))}
+    return [finished(*c, said.get(c[0])) for c in cases]
+
+
+def spread(cases, count):
+    """So many of the cases, evenly spread, the first and the last among them."""
+    if count >= len(cases):
+        return cases
+    return [cases[k * (len(cases) - 1) // max(count - 1, 1)] for k in range(count)]
+
+
+def chosen(cases, count, most, least):
     groups = {}
     for case in cases:
-        if len(case[2]) + len(case[3]) <= most:
-            groups.setdefault(case[4], []).append(case)
+        if len(case.text) + len(case.answer) <= most:
+            groups.setdefault(case.group, []).append(case)
     total = sum(len(g) for g in groups.values())
     names = set()
-    for group in groups.values():
-        names.update(case[0] for case in spread(group, max(12, count * len(group) // max(total, 1))))
-    return [case for case in cases if case[0] in names]
+    for g in groups.values():
+        names.update(case.name for case in spread(g, max(least, count * len(g) // max(total, 1))))
+    return [case for case in cases if case.name in names]
+
+
+def put_differences(cases):
+    names = {}
+    for case in cases:
+        if case.difference:
+            names.setdefault(case.difference, []).append(case.name)
+    for what, which in sorted(names.items()):
+        print("%s: %d, as %s" % (what[:300], len(which), which[0]))
 
 
 def write_list(programs):
     top = os.path.join(os.path.dirname(os.path.abspath(__file__)), "..", "crates", "replay")
-    cases, answers, counts = [], [], {}
-    for name, (count, most) in SETS.items():
-        taken = chosen(cases_of(programs, name), count, most)
-        ids = {case[0] for case in taken}
-        for what in differences:
-            differences[what] = [x for x in differences[what] if not x.startswith((name + "-", name + ":")) or x in ids]
-        cases += [case[2] for case in taken]
-        answers += [case[3] for case in taken]
-        for case in taken:
-            counts.setdefault(name, {}).setdefault(case[4].strip(), 0)
-            counts[name][case[4].strip()] += 1
-    stdin, stdout = "".join(cases), "".join(answers)
-    assert len(stdin) <= TEXT
-    with open(os.path.join(top, "stdin"), "w") as f:
-        f.write(stdin)
-    with open(os.path.join(top, "stdout"), "w") as f:
-        f.write(stdout)
-    for name, how in counts.items():
-        print(name, sum(how.values()), "; ".join("%s: %d" % x for x in sorted(how.items())))
+    parts = {"cases.txt": given(programs)}
+    for name, numbers in SETS.items():
+        parts[name] = chosen(generated(programs, name), *numbers)
+    cases = [case for part in parts.values() for case in part]
+    stdin, stdout = "".join(case.text for case in cases), "".join(case.answer for case in cases)
+    assert len({case.name for case in cases}) == len(cases)
+    assert len(stdin) <= TEXT, len(stdin)
+    for name, text in (("stdin", stdin), ("stdout", stdout)):
+        with open(os.path.join(top, name), "w") as file:
+            file.write(text)
+    for name, part in parts.items():
+        counts = collections.Counter(case.group for case in part)
+        print(name, len(part), "; ".join("%s: %d" % x for x in sorted(counts.items())))
     print(len(cases), "cases,", len(stdin), "and", len(stdout), "bytes")
+    put_differences(cases)
 
 
 def compare(programs, program, *seed):
-    """Runs the program on all cases of the sets, as many at a time as its text holds."""
-    for name in SETS:
-        cases, wrong, at = cases_of(programs, name, *seed), 0, 0
+    """Runs the program on all cases, as many at a time as its text holds."""
+    found = []
+    for name in ["cases.txt", *SETS]:
+        cases = given(programs) if name == "cases.txt" else generated(programs, name, *seed)
+        wrong = at = 0
         while at < len(cases):
-            end, size = at, 0
-            while end < len(cases) and size + len(cases[end][2]) <= TEXT:
-                size += len(cases[end][2])
+            end, length = at, 0
+            while end < len(cases) and length + len(cases[end].text) <= TEXT:
+                length += len(cases[end].text)
                 end += 1
-            got = [answer_text(*x) for x in blocks(run(program, text="".join(c[2] for c in cases[at:end])))]
+            got = [block(*x) for x in blocks(run(program, text="".join(c.text for c in cases[at:end])))]
             assert len(got) == end - at, (name, len(got), end - at)
             for case, text in zip(cases[at:end], got):
-                if case[3] != text:
+                if case.answer != text:
                     wrong += 1
                     if wrong <= 3:
-                        print("DIFFERENT", case[2], "expected", case[3], "got", text, sep="\n")
+                        print("DIFFERENT", case.text, "expected", case.answer, "got", text, sep="\n")
             at = end
+        found += [case for case in cases if case.difference]
         print(name, len(cases), "cases,", wrong, "different")
+    put_differences(found)
 
 
 def main():
@@ -311,9 +772,6 @@ def main():
         compare(sys.argv[1], *sys.argv[3:])
     else:
         sys.exit(__doc__)
-    for what, names in sorted(differences.items()):
-        if names:
-            print("%s: %d, as %s" % (what[:300], len(names), names[0]))
 
 
 if __name__ == "__main__":
