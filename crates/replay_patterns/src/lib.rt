@@ -15,7 +15,8 @@ use replay_replies::put_refused;
 // The places of each list that a case is read into.
 const ROOM: usize = 4608;
 
-fn put_pairs(answer: PatternPairs, scratch: &[u32], pair_rows: &[u32], pair_columns: &[u32]) {
+// The reply, and the lists after the call.
+pub fn put_pairs(answer: PatternPairs, scratch: &[u32], pair_rows: &[u32], pair_columns: &[u32]) {
     match answer {
         PatternPairs::Listed(count) => {
             put(b"reply ok\n");

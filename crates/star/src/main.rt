@@ -1,14 +1,11 @@
 // Runs F3 of document 01 with the request (0,0) and limit 6; prints status, counts and limit, then each pair with its value's bits.
+use answer_text::put;
+use answer_text::put_value;
 use diagnostics::SelectedInverseDiagnostics;
 use diagnostics::SelectedInverseStatus;
-use reporting::report::put_bits;
 use selected::Selected;
 use selected::selected_inverse_entries_with_limit;
 use words::at;
-
-fn put(text: &[u8]) {
-    io::write_all(1, text);
-}
 
 fn put_number(n: usize) {
     io::print_decimal(1, n as u64);
@@ -40,7 +37,7 @@ fn put_column(c: usize, first: usize, last: usize, rows: &[u32], values: &[f64])
                 put(b" ");
                 put_number(c);
                 put(b" ");
-                put_bits(values[p]);
+                put_value(values[p]);
                 put(b"\n");
             }
         }

@@ -1,2 +1,0 @@
--- What a case of the lookup and of the diagonal list compares.
-pub mod Found

@@ -1,2 +1,0 @@
--- What a case of the pattern lists compares.
-pub mod Judge
