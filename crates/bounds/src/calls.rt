@@ -1,11 +1,13 @@
 // The calls, on F2 of document 01 but for the list of indices.
 use answer_text::put;
 use answer_text::put_values;
+use inverse::get;
 use operator_variances::selected_inverse_transformed_diag;
 use original_diagonal::selected_inverse_diag_with_diagnostics;
 use pattern::from_cholesky_factor;
 use pattern::from_transformed_operator;
 use replay_entries::put_selected;
+use replay_lookups::put_entry;
 use replay_patterns::put_pairs;
 use selected::selected_inverse_entries;
 
@@ -203,4 +205,19 @@ pub fn variances_of_terms(indices: &[u32]) {
         &scratch,
     );
     put_values(b"out ", &output);
+}
+
+// Lookups of the largest row and column, in F2's inverse and in no result.
+pub fn lookups() {
+    let none: [u32; 0] = [];
+    let no_values: [f64; 0] = [];
+    let starts = [0u32, 2, 3];
+    let rows = [0u32, 1, 1];
+    let values = [5.0, -2.0, 1.0];
+    let most = 18446744073709551615;
+    put(b"lookups");
+    put_entry(get(&starts, &rows, &values, most, 0));
+    put_entry(get(&starts, &rows, &values, most, most));
+    put_entry(get(&none, &none, &no_values, most, most));
+    put(b"\n");
 }

@@ -35,9 +35,9 @@ digitOf b = cond (ltb b 48) 16 (cond (ltb b 58) (b - 48) (cond (ltb b 97) 16 (co
 abbrev pub digitAt : ℕ → List ℕ → ℕ → Bool
 digitAt base text p = ltb (digitOf (getD text p 0)) base
 
--- one more digit d after x; a number from 2^60 on takes none
+-- one more digit d after x; a digit that takes the number to 2^64 or above is left out
 unfoldable pub digitMore : ℕ → ℕ → ℕ → ℕ
-digitMore base x d = cond (ltb x 1152921504606846976) (x * base + d) x
+digitMore base x d = cond (leb (x * base + d) 18446744073709551615) (x * base + d) x
 
 -- x followed by the digits from p on, k of them at most
 unfoldable pub numberFrom : ℕ → List ℕ → ℕ → ℕ → ℕ → ℕ

@@ -1,6 +1,6 @@
 // Reading the text of cases: what stands at a place, and the place after it.
 ghost use mathlib.Core.Path.{_≡_};
-ghost use Prim.Native.Nat.{_≤_, _<_};
+ghost use Prim.Native.Nat.{_+_, _*_, _≤_, _<_};
 ghost use lib.Ieee.{binary64, ofBits};
 ghost use Rattle.case_text.specs.Text.{pastBlanks, pastWord, digitOf, digitMore, numberAt, pastLabel, pastFirst, begins as Text·begins};
 
@@ -57,20 +57,24 @@ fn digit(b: u8) -> u64
     16
 }
 
-// One more digit d after x.
-fn digit_more(base: u64, x: u64, d: u64) -> u64
-    requires { ⌜ (base ≤ 16) × (d < 16) ⌝ }
+// One more digit d after x, where the number stays below 2^64; `most` is the largest that may take one.
+fn digit_more(base: u64, most: u64, x: u64, d: u64) -> u64
+    requires { ⌜ (most * base ≤ 18446744073709551615) × (18446744073709551615 < (most + 1) * base) × (d < 16) ⌝ }
     ensures { λ r. ⌜ r ≡ digitMore base x d ⌝ }
 {
-    if x < 1152921504606846976 {
-        return x * base + d;
+    if x > most {
+        return x;
     }
-    x
+    let y = x * base;
+    if y > 18446744073709551615 - d {
+        return x;
+    }
+    y + d
 }
 
 // The number in the base whose digits start at p.
-fn number_in_base(text: &[u8], p: usize, base: u64) -> u64
-    requires { ⌜ base ≤ 16 ⌝ }
+fn number_in_base(text: &[u8], p: usize, base: u64, most: u64) -> u64
+    requires { ⌜ (base ≤ 16) × (most * base ≤ 18446744073709551615) × (18446744073709551615 < (most + 1) * base) ⌝ }
     ensures { λ r. ⌜ r ≡ numberAt base (now (text .entry)) p ⌝ }
 {
     let mut value = 0;
@@ -80,7 +84,7 @@ fn number_in_base(text: &[u8], p: usize, base: u64) -> u64
         if d >= base {
             return value;
         }
-        value = digit_more(base, value, d);
+        value = digit_more(base, most, value, d);
         i += 1;
     }
     value
@@ -90,7 +94,7 @@ fn number_in_base(text: &[u8], p: usize, base: u64) -> u64
 pub fn decimal(text: &[u8], p: usize) -> u64
     ensures { λ r. ⌜ r ≡ numberAt 10 (now (text .entry)) p ⌝ }
 {
-    number_in_base(text, p, 10)
+    number_in_base(text, p, 10, 1844674407370955161)
 }
 
 // The value that the bits are; any NaN's bits give a NaN.
@@ -107,7 +111,7 @@ fn of_bits(bits: u64) -> f64
 pub fn float_value(text: &[u8], p: usize) -> f64
     ensures { λ r. ⌜ r ≡ ofBits binary64 (numberAt 16 (now (text .entry)) p) ⌝ }
 {
-    of_bits(number_in_base(text, p, 16))
+    of_bits(number_in_base(text, p, 16, 1152921504606846975))
 }
 
 // Whether the bytes of the label stand from p on.

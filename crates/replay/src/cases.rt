@@ -1,5 +1,4 @@
 // The cases of a text, one after another.
-use crate::factors::factors;
 use answer_text::put;
 use answer_text::put_part;
 use case_text::begins;
@@ -7,6 +6,7 @@ use case_text::past_label;
 use case_text::skip_blanks;
 use case_text::skip_to;
 use case_text::skip_word;
+use replay_factors::factors;
 use replay_floor::least_value;
 use replay_floor::stabilization;
 use replay_lookups::diagonals;

@@ -28,7 +28,8 @@ fn put_refusal(why: Refusal) {
     }
 }
 
-fn put_entry(entry: Entry) {
+// What a lookup finds.
+pub fn put_entry(entry: Entry) {
     match entry {
         Entry::Value(z) => {
             put(b" ");

@@ -11,10 +11,10 @@ use Rattle.case_text.proofs.number_in_base.Statement.{statement}
 use Rattle.case_text.proofs.number_in_base.Tie as tie
 
 abbrev Inv-loop : tie.InvT-loop
-Inv-loop text p base value₀ i₀ value i = numberAt base text p ≡ numberFrom base text value i (length text - i)
+Inv-loop text p base most value₀ i₀ value i = numberAt base text p ≡ numberFrom base text value i (length text - i)
 
 abbrev μ-loop : tie.MeasureT-loop
-μ-loop text p base value₀ i₀ value i = length text - i
+μ-loop text p base most value₀ i₀ value i = length text - i
 
 loop-holds : tie.Need-loop-holds Inv-loop μ-loop
 loop-holds c = refl

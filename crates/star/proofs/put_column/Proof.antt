@@ -33,14 +33,14 @@ slice-aggregate-put-2 c = search needs
 put-requires-2 : tie.Need-put-requires-2 Inv-loop μ-loop
 put-requires-2 c κs = search needs
 
-mul-put-bits : tie.Need-mul-put-bits Inv-loop μ-loop
-mul-put-bits c = search needs
+mul-put-value : tie.Need-mul-put-value Inv-loop μ-loop
+mul-put-value c = search needs
 
-shared-slice-read-put-bits : tie.Need-shared-slice-read-put-bits Inv-loop μ-loop
-shared-slice-read-put-bits c = search needs
+shared-slice-read-put-value : tie.Need-shared-slice-read-put-value Inv-loop μ-loop
+shared-slice-read-put-value c = search needs
 
-put-bits-requires : tie.Need-put-bits-requires Inv-loop μ-loop
-put-bits-requires c κs = search needs
+put-value-requires : tie.Need-put-value-requires Inv-loop μ-loop
+put-value-requires c κs = search needs
 
 slice-aggregate-put-3 : tie.Need-slice-aggregate-put-3 Inv-loop μ-loop
 slice-aggregate-put-3 c = search needs
@@ -74,9 +74,9 @@ put-column-spec =
     put-number-requires-2
     slice-aggregate-put-2
     put-requires-2
-    mul-put-bits
-    shared-slice-read-put-bits
-    put-bits-requires
+    mul-put-value
+    shared-slice-read-put-value
+    put-value-requires
     slice-aggregate-put-3
     put-requires-3
     add-p
