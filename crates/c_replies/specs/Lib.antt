@@ -1,0 +1,2 @@
+-- Answers as structs of numbers.
+pub mod Numbers

@@ -1,0 +1,150 @@
+// Answers as structs of numbers, laid out as in C: document 01's number of a refusal, 0 for none, beside what the call tells, 0 where it is refused.
+ghost use mathlib.Core.Path.{_≡_};
+ghost use Rattle.selected.specs.Selected.{selectedReplyOf};
+ghost use Rattle.ordered_lookup.specs.Reply.{entryReply};
+ghost use Rattle.listed_pairs.specs.ListedMarks.{listReply};
+ghost use Rattle.floor.specs.Floor.{stabilizedReply};
+ghost use Rattle.c_replies.specs.Numbers.{statusNumber, selectedNumbers, entryNumbers, pairNumbers, floorNumbers, leastNumbers};
+use diagnostics::SelectedInverseDiagnostics;
+use diagnostics::SelectedInverseStatus;
+use floor::Stabilized;
+use least::CountAndLeast;
+use listed_pairs::PatternPairs;
+use ordered_lookup::Entry;
+use replies::refusal_number;
+use selected::Selected;
+
+// The answer of a call that selects entries.
+#[repr(C)]
+pub struct SelectedNumbers {
+    pub refusal: u32,
+    pub status: u32,
+    pub requested_pairs: usize,
+    pub closure_pairs: usize,
+    pub factor_pairs: usize,
+    pub closure_limit: usize,
+    pub closure_over_factor: f64,
+}
+
+// The answer of a lookup.
+#[repr(C)]
+pub struct EntryNumbers {
+    pub refusal: u32,
+    pub value: f64,
+}
+
+// The answer of a pattern list.
+#[repr(C)]
+pub struct PairNumbers {
+    pub refusal: u32,
+    pub pairs: usize,
+}
+
+// The answer of the floor.
+#[repr(C)]
+pub struct FloorNumbers {
+    pub refusal: u32,
+    pub floor: f64,
+    pub floor_hits: usize,
+}
+
+// The count and the least.
+#[repr(C)]
+pub struct LeastNumbers {
+    pub num_negative: usize,
+    pub min_value: f64,
+}
+
+// 0 for Complete, 1 for ClosureTooLarge.
+fn status_number(status: SelectedInverseStatus) -> u32
+    ensures { λ r. ⌜ r ≡ statusNumber status ⌝ }
+{
+    match status {
+        SelectedInverseStatus::Complete => 0,
+        SelectedInverseStatus::ClosureTooLarge => 1,
+    }
+}
+
+pub fn selected_numbers(answer: Selected) -> SelectedNumbers
+    ensures { λ r. ⌜ r ≡ selectedNumbers (selectedReplyOf answer) ⌝ }
+{
+    match answer {
+        Selected::Answered(d) => {
+            let status = d.status;
+            SelectedNumbers {
+                refusal: 0,
+                status: status_number(status),
+                requested_pairs: d.requested_pairs,
+                closure_pairs: d.closure_pairs,
+                factor_pairs: d.factor_pairs,
+                closure_limit: d.closure_limit,
+                closure_over_factor: d.closure_over_factor,
+            }
+        }
+        Selected::Refused(why) => SelectedNumbers {
+            refusal: refusal_number(why),
+            status: 0,
+            requested_pairs: 0,
+            closure_pairs: 0,
+            factor_pairs: 0,
+            closure_limit: 0,
+            closure_over_factor: 0.0,
+        },
+    }
+}
+
+pub fn entry_numbers(entry: Entry) -> EntryNumbers
+    ensures { λ r. ⌜ r ≡ entryNumbers (entryReply entry) ⌝ }
+{
+    match entry {
+        Entry::Value(z) => EntryNumbers {
+            refusal: 0,
+            value: z,
+        },
+        Entry::Refused(why) => EntryNumbers {
+            refusal: refusal_number(why),
+            value: 0.0,
+        },
+    }
+}
+
+pub fn pair_numbers(answer: PatternPairs) -> PairNumbers
+    ensures { λ r. ⌜ r ≡ pairNumbers (listReply answer) ⌝ }
+{
+    match answer {
+        PatternPairs::Listed(count) => PairNumbers {
+            refusal: 0,
+            pairs: count,
+        },
+        PatternPairs::Refused(why) => PairNumbers {
+            refusal: refusal_number(why),
+            pairs: 0,
+        },
+    }
+}
+
+pub fn floor_numbers(answer: Stabilized) -> FloorNumbers
+    ensures { λ r. ⌜ r ≡ floorNumbers (stabilizedReply answer) ⌝ }
+{
+    match answer {
+        Stabilized::Answered(s) => FloorNumbers {
+            refusal: 0,
+            floor: s.floor,
+            floor_hits: s.floor_hits,
+        },
+        Stabilized::Refused(why) => FloorNumbers {
+            refusal: refusal_number(why),
+            floor: 0.0,
+            floor_hits: 0,
+        },
+    }
+}
+
+pub fn least_numbers(answer: CountAndLeast) -> LeastNumbers
+    ensures { λ r. ⌜ r ≡ leastNumbers answer ⌝ }
+{
+    LeastNumbers {
+        num_negative: answer.num_negative,
+        min_value: answer.min_value,
+    }
+}

@@ -1,0 +1,23 @@
+use Rattle.c_replies.specs.Numbers.{floorNumbers}
+use borrow.Author.Needs.{needs}
+use mathlib.Core.Path.{ap, _∙_}
+use Rattle.redstartgilt.proofs.redstartgilt_stabilize_variances_positive_mean.Statement.{statement}
+use Rattle.redstartgilt.proofs.redstartgilt_stabilize_variances_positive_mean.Tie as tie
+
+stabilize-variances-requires : tie.Need-stabilize-variances-requires
+stabilize-variances-requires c κs = search needs
+
+floor-numbers-requires : tie.Need-floor-numbers-requires
+floor-numbers-requires c κs = search needs
+
+same-length : tie.Need-same-length
+same-length c = search needs
+
+returns : tie.Need-returns
+returns c =
+    let d = c .before .before .before .stabilize-variances .ensures in
+    (c .floor-numbers .ensures ∙ ap floorNumbers (d .0), d .1)
+
+pub redstartgilt-stabilize-variances-positive-mean-spec : {M : Type 1} → statement M
+redstartgilt-stabilize-variances-positive-mean-spec =
+    tie.close (tie.spec stabilize-variances-requires floor-numbers-requires same-length returns)
