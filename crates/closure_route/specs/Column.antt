@@ -6,14 +6,14 @@ use native.Mathlib.Nat.{eq-or-lt-of-le}
 use mathlib.Core.Path.{_≡_, refl, sym, ap, ap₂, subst, subst₂, _∙_}
 use mathlib.Core.Bool.{Bool, true, false}
 use mathlib.Core.Logic.{⊎-elim}
-use mathlib.Core.List.{List, [], _∷_, map}
+use mathlib.Core.List.{List}
 use lib.Dec.{ltb}
 use lib.ListN.{length, getD, length-map}
 use lib.Seq.{getD-set-same}
 use lib.Ieee.{Float, nan}
 use borrow.Author.Tests.{ltb-true}
 use Rattle.lists.specs.Test.{and-left}
-use Rattle.lists.specs.Select.{select-at, select-holds}
+use Rattle.lists.specs.Select.{select-holds}
 use Rattle.pairs.specs.Pair.{pairTotal}
 use Rattle.pairs.specs.ColumnOrder.{columnMarking, setSize}
 use Rattle.closed_set.specs.ClosedSet.{descends, descends-at}
@@ -21,9 +21,10 @@ use Rattle.columns.specs.Columns.{start, row}
 use Rattle.columns.specs.Kept.{nonzero, keptBelow, entry, descPlaces, desc, diag, pattern}
 use Rattle.columns.specs.Factor.{Column, factor-column}
 use Rattle.columns.specs.Pattern.{pattern-at}
-use Rattle.takahashi.specs.Recurrence.{Entry, Rows, Lower, Solves, at, table-solves}
+use Rattle.takahashi.specs.Recurrence.{Lower, Solves, at}
 use Rattle.exact.specs.Exact.{floats, float-off, float-on}
 use Rattle.entries.specs.Entries.{columnCount, position, floatTable}
+use Rattle.entries.specs.Descendants.{float-solves}
 use Rattle.entries.specs.Position.{columnCount-mono, position-first, position-in, position-below, position-rises, position-found}
 use Rattle.route_sums.specs.Sums.{positionWord, inverseAt, sumBetween, sumBetween-cong, Summing}
 use Rattle.route_sums.specs.Stored.{putIf, putIf-length, putIf-other, entrySum, Storing, SumsStored}
@@ -36,12 +37,6 @@ pub record Ends (n : ℕ) (starts scratch : List ℕ) (j first last s e : ℕ) :
   pub last-is : last ≡ columnCount n (columnMarking n scratch) (j + 1)
   pub start-is : s ≡ start starts j
   pub end-is : e ≡ start starts (j + 1)
-
--- each row of a mapped list, by its place
-rows-of : {W : Type 0} (n j : ℕ) (f : ℕ → Entry W) (l : List ℕ)
-    → ((i : ℕ) → i < length l → (j < f (getD l i 0) .row) × (f (getD l i 0) .row < n)) → Rows n j (map f l)
-rows-of n j f [] h = tt
-rows-of n j f (p ∷ l) h = (h 0 (omega arith) .0, h 0 (omega arith) .1, rows-of n j f l (λ i b. h (suc i) (omega arith)))
 
 module _ {n : ℕ} {starts rows : List ℕ} {values : List Float} {firsts listed scratch : List ℕ} {size : ℕ}
     (G : ClosureRoute n starts rows values firsts listed scratch size) where
@@ -66,15 +61,7 @@ module _ {n : ℕ} {starts rows : List ℕ} {values : List Float} {firsts listed
 
   -- the table solves the recurrence
   solves : Solves floats float-off float-on (diag starts rows values) (desc starts rows values) (Lower n) Z
-  unfolding floatTable
-  solves = table-solves floats float-off float-on n (diag starts rows values) (desc starts rows values) descendants
-    where
-      descendants : (j : ℕ) → j < n → Rows n j (desc starts rows values j)
-      descendants j jn =
-          rows-of n j (entry rows values) (descPlaces starts rows (nonzero values) j)
-          (λ i l.
-          let u = select-at (keptBelow rows (nonzero values) j) (start starts j) (start starts (j + 1)) i (column j jn .ordered) l in
-          (row-below j _ (u .from, u .below, u .passes), row-inside j _ jn (u .from) (u .below)))
+  solves = float-solves values (G .factor)
 
   -- the pair of a member's row and a descendant of its column is a member
   dependency : (r j p : ℕ) → j ≤ r → r < n → S r j ≡ true → Kept j p → S (max r (row rows p)) (min r (row rows p)) ≡ true

@@ -1,3 +1,4 @@
 -- The entries of a selected inverse as lists.
 pub mod Entries
 pub mod Position
+pub mod Descendants

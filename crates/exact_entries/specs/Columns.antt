@@ -9,10 +9,9 @@ use mathlib.Core.List.{List, [], _∷_, map}
 use lib.IntN.{ℤ}
 use lib.ListN.{length, getD, length-map}
 use lib.Ieee.{Float}
-use Rattle.columns.specs.Columns.{row}
 use Rattle.columns.specs.Kept.{nonzero, entry, descPlaces, desc, pattern}
 use Rattle.columns.specs.Factor.{Factor}
-use Rattle.columns.specs.Pattern.{pattern-at, pattern-above, pattern-inside, pattern-rises}
+use Rattle.entries.specs.Descendants.{desc-at}
 use Rattle.closed_set.specs.ClosedSet.{Needed, dependency, needed-range, Pattern, Ranged, descends, descends-at}
 use Rattle.takahashi.specs.Entries.{Entry, Each, Ascend, each-map, ascend-rows}
 use Rattle.takahashi.specs.Recurrence.{Closed}
@@ -20,16 +19,6 @@ use Rattle.exact.specs.Exact.{Alike}
 
 -- ---- lists of entries made from places
 module _ {W : Type 0} (f : ℕ → Entry W) where
-  ascend-places : (n a : ℕ) (l : List ℕ) → ((i : ℕ) → i < length l → (a ≤ f (getD l i 0) .row) × (f (getD l i 0) .row < n))
-      → ((i k : ℕ) → i < k → k < length l → f (getD l i 0) .row < f (getD l k 0) .row) → Ascend n a (map f l)
-  ascend-places n a [] inside rises = tt
-  ascend-places n a (p ∷ l) inside rises = (
-    inside 0 (omega arith) .0,
-    inside 0 (omega arith) .1,
-    ascend-places n (suc (f p .row)) l (λ i h. (rises 0 (suc i) (omega arith) (omega arith), inside (suc i) (omega arith) .1))
-        (λ i k h m. rises (suc i) (suc k) (omega arith) (omega arith)),
-  )
-
   each-places : (Q : ℕ → Type 0) (l : List ℕ) → ((i : ℕ) → i < length l → Q (f (getD l i 0) .row)) → Each Q (map f l)
   each-places Q [] h = tt
   each-places Q (p ∷ l) h = (h 0 (omega arith), each-places Q l (λ i m. h (suc i) (omega arith)))
@@ -49,27 +38,11 @@ alike-each s Q (p ∷ ps) (q ∷ qs) e h = (subst Q (e .0) (h .0), alike-each s 
 
 -- ---- the descendants of a column
 module _ {n : ℕ} {starts rows : List ℕ} (values : List Float) (F : Factor n starts rows (length values)) (j : ℕ) (h : j < n) where
-  abbrev rowsOf : List ℕ
-  rowsOf = pattern starts rows (nonzero values) j
-
-  at-place : (i : ℕ) → i < length (descPlaces starts rows (nonzero values) j) → getD rowsOf i 0 ≡ row rows (getD (descPlaces starts rows (nonzero values) j) i 0)
-  at-place i l = pattern-at (nonzero values) (F .starts-rise) j h i (rw length-map l)
-
-  -- their rows ascend
-  pub desc-ascend : Ascend n (suc j) (desc starts rows values j)
-  desc-ascend =
-      ascend-places (entry rows values) n (suc j) (descPlaces starts rows (nonzero values) j)
-      (λ i l. (
-        omega (arith, at-place i l, pattern-above (nonzero values) (F .starts-rise) j h i (rw length-map l)),
-        omega (arith, at-place i l, pattern-inside (nonzero values) (F .starts-rise) (F .rows-ascend) j h i (rw length-map l)),
-      ))
-      (λ i k m l. omega (arith, at-place i (omega arith), at-place k l, pattern-rises (nonzero values) (F .starts-rise) (F .rows-ascend) j h i k m (rw length-map l)))
-
   pub desc-descends : Each (λ k. descends (pattern starts rows (nonzero values)) j k ≡ true) (desc starts rows values j)
   desc-descends =
       each-places (entry rows values) (λ k. descends (pattern starts rows (nonzero values)) j k ≡ true) (descPlaces starts rows (nonzero values) j)
       (λ i l.
-      subst (λ (k : ℕ). descends (pattern starts rows (nonzero values)) j k ≡ true) (at-place i l)
+      subst (λ (k : ℕ). descends (pattern starts rows (nonzero values)) j k ≡ true) (desc-at values F j h i l)
       (descends-at (pattern starts rows (nonzero values)) j i (rw length-map l)))
 
 -- ---- the closed set is closed for the recurrence over entries of the same rows

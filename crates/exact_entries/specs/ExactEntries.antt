@@ -24,7 +24,8 @@ use Rattle.exact.specs.ExactCase.{ones, WithinBound, unit-has-inverse, exact-ca
 use Rattle.diagnostics.specs.declared.SelectedInverseStatus.the-variants.{Complete}
 use Rattle.selection.specs.Selection.{Selection, Lent, roomOf, Accepted, selectedSize, selectedAnswer, selectedTable, ResultLists}
 use Rattle.selection.specs.Call.{Call, selectionOf, selectedSteps, accepted}
-use Rattle.exact_entries.specs.Columns.{desc-ascend, desc-descends, alike-ascend, alike-each, needed-closed}
+use Rattle.entries.specs.Descendants.{desc-ascend}
+use Rattle.exact_entries.specs.Columns.{desc-descends, alike-ascend, alike-each, needed-closed}
 use Rattle.exact_entries.specs.Recurrence.{Selected, found, selected-pattern, table-recurs, reads-recurrence}
 
 module _ (x : Selection) where

@@ -29,7 +29,7 @@ use Rattle.selection.specs.Selection.{Selection, Lent, roomOf, Accepted, select
 use Rattle.selection.specs.Selection.{ResultLists, passed-starts, complete-rows, complete-values}
 use Rattle.selection.specs.Status.{selected-complete}
 use Rattle.selection.specs.SamePositions.{front-starts}
-use Rattle.exact_entries.specs.Columns.{desc-ascend}
+use Rattle.entries.specs.Descendants.{float-solves}
 
 module _ (x : Selection) where
   -- the closed set: the requested pairs and the dependencies of its pairs, and no other
@@ -79,13 +79,11 @@ module _ (x : Selection) (lent : Lent) (A : Accepted x (roomOf lent)) where
 
   -- f64's table solves the recurrence over the set
   pub table-recurs : SolvesRecurrence x (selectedTable x)
-  unfolding floatTable
   table-recurs =
       solves-part floats float-off float-on (diag (x .starts) (x .rows) (x .values)) (desc (x .starts) (x .rows) (x .values)) (Selected x) (Lower (x .n))
       (selectedTable x)
       (λ i j p. needed-range pat (x .requests) (x .n) selected-pattern (A .requests) p)
-      (table-solves floats float-off float-on (x .n) (diag (x .starts) (x .rows) (x .values)) (desc (x .starts) (x .rows) (x .values))
-      (λ j jn. ascend-rows (x .n) j (suc j) (desc (x .starts) (x .rows) (x .values) j) (le-refl (suc j)) (desc-ascend (x .values) (A .factor) j jn)))
+      (float-solves (x .values) (A .factor))
 
   module _ (steps : List Step) (passed : Passed steps) {rs rr : List ℕ} {rv : List Float} {s : List ℕ} (L : ResultLists steps x lent rs rr rv s) where
     -- within the limit, the lookup finds the set's entries

@@ -1,0 +1,57 @@
+-- A factor's descendants as lists of entries: their rows ascend, so that the table solves the recurrence.
+-- Assumes nothing.
+use Prim.Native.Nat.{ℕ, suc, _+_, _≤_, _<_}
+use native.Mathlib.Omega.{arith}
+use native.Mathlib.Nat.{le-refl}
+use mathlib.Core.Path.{_≡_}
+use mathlib.Core.List.{List, [], _∷_, map}
+use lib.ListN.{length, getD, length-map}
+use lib.Ieee.{Float}
+use Rattle.columns.specs.Columns.{row}
+use Rattle.columns.specs.Kept.{nonzero, entry, descPlaces, desc, diag, pattern}
+use Rattle.columns.specs.Factor.{Factor}
+use Rattle.columns.specs.Pattern.{pattern-at, pattern-above, pattern-inside, pattern-rises}
+use Rattle.takahashi.specs.Entries.{Entry, Ascend, ascend-rows}
+use Rattle.takahashi.specs.Recurrence.{Rows, Lower, Solves, table-solves}
+use Rattle.exact.specs.Exact.{floats, float-off, float-on}
+use Rattle.entries.specs.Entries.{floatTable}
+
+-- a list of entries made from places
+ascend-places : {W : Type 0} (f : ℕ → Entry W) (n a : ℕ) (l : List ℕ) → ((i : ℕ) → i < length l → (a ≤ f (getD l i 0) .row) × (f (getD l i 0) .row < n))
+    → ((i k : ℕ) → i < k → k < length l → f (getD l i 0) .row < f (getD l k 0) .row) → Ascend n a (map f l)
+ascend-places f n a [] inside rises = tt
+ascend-places f n a (p ∷ l) inside rises = (
+  inside 0 (omega arith) .0,
+  inside 0 (omega arith) .1,
+  ascend-places f n (suc (f p .row)) l (λ i h. (rises 0 (suc i) (omega arith) (omega arith), inside (suc i) (omega arith) .1))
+      (λ i k h m. rises (suc i) (suc k) (omega arith) (omega arith)),
+)
+
+-- the descendants of a column
+module _ {n : ℕ} {starts rows : List ℕ} (values : List Float) (F : Factor n starts rows (length values)) (j : ℕ) (h : j < n) where
+  abbrev rowsOf : List ℕ
+  rowsOf = pattern starts rows (nonzero values) j
+
+  pub desc-at : (i : ℕ) → i < length (descPlaces starts rows (nonzero values) j) → getD rowsOf i 0 ≡ row rows (getD (descPlaces starts rows (nonzero values) j) i 0)
+  desc-at i l = pattern-at (nonzero values) (F .starts-rise) j h i (rw length-map l)
+
+  -- their rows ascend
+  pub desc-ascend : Ascend n (suc j) (desc starts rows values j)
+  desc-ascend =
+      ascend-places (entry rows values) n (suc j) (descPlaces starts rows (nonzero values) j)
+      (λ i l. (
+        omega (arith, desc-at i l, pattern-above (nonzero values) (F .starts-rise) j h i (rw length-map l)),
+        omega (arith, desc-at i l, pattern-inside (nonzero values) (F .starts-rise) (F .rows-ascend) j h i (rw length-map l)),
+      ))
+      (λ i k m l. omega (arith, desc-at i (omega arith), desc-at k l, pattern-rises (nonzero values) (F .starts-rise) (F .rows-ascend) j h i k m (rw length-map l)))
+
+  -- they are rows of the triangle below column j
+  pub desc-rows : Rows n j (desc starts rows values j)
+  desc-rows = ascend-rows n j (suc j) (desc starts rows values j) (le-refl (suc j)) desc-ascend
+
+-- the table of a factor solves the recurrence
+pub float-solves : {n : ℕ} {starts rows : List ℕ} (values : List Float) → Factor n starts rows (length values) →
+    Solves floats float-off float-on (diag starts rows values) (desc starts rows values) (Lower n) (floatTable n starts rows values)
+unfolding floatTable
+float-solves {n} {starts} {rows} values F =
+    table-solves floats float-off float-on n (diag starts rows values) (desc starts rows values) (λ j jn. desc-rows values F j jn)
