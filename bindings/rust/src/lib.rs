@@ -1,0 +1,3 @@
+//! A proved selected inverse of a sparse Cholesky factor.
+
+pub mod sys;
