@@ -312,6 +312,5 @@ extern "C" {
     ) -> redstartgilt_floored;
 
     /// Count and least.
-    pub fn redstartgilt_count_and_least(values: *const f64, values_len: usize)
-        -> redstartgilt_least;
+    pub fn redstartgilt_count_and_least(values: *const f64, values_len: usize) -> redstartgilt_least;
 }
