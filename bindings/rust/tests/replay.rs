@@ -70,32 +70,35 @@ fn shown(value: f64) -> String {
     }
 }
 
-/// Equal items in a row as item*k, unless `single` says that they are written one by one.
-fn put_items(answer: &mut String, name: &str, items: &[String], single: impl Fn(usize) -> bool) {
+/// Items that `same` joins are written once, as item*k.
+fn put_items<T>(
+    answer: &mut String,
+    name: &str,
+    items: &[T],
+    same: impl Fn(&T, &T) -> bool,
+    show: impl Fn(&T) -> String,
+) {
     let _ = write!(answer, "{name} {}", items.len());
     let mut place = 0;
     while place < items.len() {
-        let mut end = place + 1;
-        while end < items.len() && items[end] == items[place] && !single(place) {
-            end += 1;
-        }
-        let _ = match end - place {
-            1 => write!(answer, " {}", items[place]),
-            times => write!(answer, " {}*{times}", items[place]),
+        let rest = items[place..].iter();
+        let times = rest.skip(1).take_while(|item| same(&items[place], item)).count() + 1;
+        let _ = match times {
+            1 => write!(answer, " {}", show(&items[place])),
+            _ => write!(answer, " {}*{times}", show(&items[place])),
         };
-        place = end;
+        place += times;
     }
     answer.push('\n');
 }
 
 fn put_words(answer: &mut String, name: &str, list: &[u32]) {
-    let items = list.iter().map(u32::to_string).collect::<Vec<_>>();
-    put_items(answer, name, &items, |_| false);
+    put_items(answer, name, list, u32::eq, u32::to_string);
 }
 
+/// Zeros and NaNs are written one by one.
 fn put_values(answer: &mut String, name: &str, list: &[f64]) {
-    let items = list.iter().copied().map(shown).collect::<Vec<_>>();
-    put_items(answer, name, &items, |place| list[place] == 0.0 || list[place].is_nan());
+    put_items(answer, name, list, |a, b| a == b && *a != 0.0, |value| shown(*value));
 }
 
 fn put_reply(answer: &mut String, refusal: u32) -> bool {
@@ -163,7 +166,7 @@ fn put_gets(answer: &mut String, starts: &[u32], rows: &[u32], values: &[f64], c
             }
         })
         .collect::<Vec<_>>();
-    put_items(answer, "gets", &items, |_| true);
+    put_items(answer, "gets", &items, |_, _| false, String::clone);
 }
 
 /// Entries, the diagonal in original order, and operator variances: all take a factor and fill result lists.

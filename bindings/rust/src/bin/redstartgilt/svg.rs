@@ -151,7 +151,7 @@ fn legend(svg: &mut String, picture: &Picture<'_>, range: Option<(f64, f64)>, le
     let _ = writeln!(
         svg,
         "<text x=\"{left}\" y=\"{}\">{}</text>",
-        TITLE_ROOM - 6,
+        TITLE_ROOM - 16,
         escaped(picture.measure)
     );
     if let Some((least, largest)) = range {
