@@ -45,7 +45,7 @@ impl CholeskyFactor {
     /// A factor of dimension n from its compressed columns: n + 1 starts, then for each column its row indices,
     /// ascending, and its values.
     ///
-    /// Refuses with [`Error::TooLarge`], [`Error::BrokenStarts`] and [`Error::BrokenRows`], by the library's own checks.
+    /// Refuses with [`Error::TooLarge`], [`Error::BrokenStarts`] and [`Error::BrokenRows`], by the library's checks.
     pub fn new(n: usize, starts: Vec<u32>, rows: Vec<u32>, values: Vec<f64>) -> Result<Self, Error> {
         let factor = Self {
             n,

@@ -41,7 +41,7 @@ Exit status:
   0   done
   1   a file cannot be read or written, or is malformed: the message has its name and line
   2   bad usage
-  3   ClosureTooLarge: the requests need more pairs than the limit
+  3   ClosureTooLarge: the requests need more pairs than the limit; without --requests, --limit and --entries it is 18
   10 + N  the library refuses with number N:
 ";
 
