@@ -1,0 +1,69 @@
+/* Selected entries of a factor of two columns, (1, 2) and (1): the inverse of L times its transpose is
+ * (5, -2; -2, 1).
+ *
+ * Built and run from the top of the repository, after `rt staticlib redstartgilt`:
+ *   gcc bindings/c/example.c target/staticlib/libredstartgilt.a -o example && ./example
+ */
+#include <stdio.h>
+
+#include "../../include/redstartgilt.h"
+
+#define COUNT(list) (sizeof(list) / sizeof((list)[0]))
+
+int main(void)
+{
+    const uint32_t starts[] = {0, 2, 3};
+    const uint32_t rows[] = {0, 1, 1};
+    const double values[] = {1.0, 2.0, 1.0};
+    const uint32_t request_rows[] = {0};
+    const uint32_t request_columns[] = {0};
+    uint32_t result_starts[3];
+    uint32_t result_rows[3]; /* the lesser of the limit, 3, and T, which is 3 */
+    double result_values[3];
+    uint32_t scratch[14]; /* 2T + 4n */
+    double diagonal[2];
+
+    redstartgilt_selected reply = redstartgilt_selected_inverse_entries_with_limit(
+        2, starts, COUNT(starts), rows, COUNT(rows), values, COUNT(values),
+        2, request_rows, COUNT(request_rows), request_columns, COUNT(request_columns),
+        3,
+        result_starts, COUNT(result_starts), result_rows, COUNT(result_rows), result_values, COUNT(result_values),
+        scratch, COUNT(scratch));
+    if (reply.refusal != REDSTARTGILT_ACCEPTED) {
+        printf("refusal %u\n", (unsigned)reply.refusal);
+        return 1;
+    }
+    printf("%s: %zu requested, %zu computed, %zu in the factor, limit %zu, ratio %.17g\n",
+        reply.status == REDSTARTGILT_COMPLETE ? "Complete" : "ClosureTooLarge",
+        reply.requested_pairs, reply.closure_pairs, reply.factor_pairs, reply.closure_limit,
+        reply.closure_over_factor);
+    if (reply.status != REDSTARTGILT_COMPLETE)
+        return 1;
+    for (size_t column = 0; column < 2; column++)
+        for (uint32_t place = result_starts[column]; place < result_starts[column + 1]; place++)
+            printf("(%u, %zu) %.17g\n", (unsigned)result_rows[place], column, result_values[place]);
+
+    /* Row and column of a lookup may be exchanged; a pair that is not there is refused with 8. */
+    redstartgilt_entry entry = redstartgilt_get(
+        result_starts, COUNT(result_starts), result_rows, COUNT(result_rows), result_values, COUNT(result_values), 0, 1);
+    printf("lookup (0, 1): refusal %u, %.17g\n", (unsigned)entry.refusal, entry.value);
+    entry = redstartgilt_get(
+        result_starts, COUNT(result_starts), result_rows, COUNT(result_rows), result_values, COUNT(result_values), 2, 0);
+    printf("lookup (2, 0): refusal %u\n", (unsigned)entry.refusal);
+
+    uint32_t refusal = redstartgilt_diag(
+        result_starts, COUNT(result_starts), result_rows, COUNT(result_rows), result_values, COUNT(result_values),
+        diagonal, COUNT(diagonal));
+    redstartgilt_least least = redstartgilt_count_and_least(diagonal, COUNT(diagonal));
+    printf("diagonal: refusal %u, %.17g %.17g, %zu negative, least %.17g\n",
+        (unsigned)refusal, diagonal[0], diagonal[1], least.num_negative, least.min_value);
+
+    /* A list too short is refused with 7, and nothing is written. */
+    reply = redstartgilt_selected_inverse_entries(
+        2, starts, COUNT(starts), rows, COUNT(rows), values, COUNT(values),
+        2, request_rows, COUNT(request_rows), request_columns, COUNT(request_columns),
+        result_starts, COUNT(result_starts), result_rows, COUNT(result_rows), result_values, COUNT(result_values),
+        scratch, COUNT(scratch) - 1);
+    printf("scratch one word short: refusal %u\n", (unsigned)reply.refusal);
+    return 0;
+}

@@ -1,0 +1,326 @@
+//! A small harbour: a depth field with soundings of different density.
+
+use crate::failure::{written, Failure};
+use crate::grid::Grid;
+use crate::report;
+use crate::svg::{draw, Cell, Picture};
+use redstartgilt::{
+    selected_inverse_diag_with_diagnostics_in, selected_inverse_transformed_diag_in, CholeskyFactor, Permutation,
+    SparseRowOperator, Workspace,
+};
+use std::io::{self, Write};
+
+/// `#` land, `.` water that nobody has sounded, `+` one sounding by lead line, `*` sounded by echo sounder.
+const CHART: [&str; 16] = [
+    "....+....######.....####",
+    "...........####..+....##",
+    ".+........+.####......##",
+    ".............###..+..###",
+    "....+.........##.....###",
+    "..........+....#....####",
+    ".+..............+..#####",
+    "......************..####",
+    "..********************##",
+    "***************+******##",
+    "*****....+...##.******##",
+    "..........#####.******##",
+    "..+.....########****####",
+    "......+..#########..####",
+    ".........###############",
+    "...+....################",
+];
+const LAND: u8 = b'#';
+
+/// Standard deviations in metres.
+const DEPTH_ANYWHERE: f64 = 8.0;
+const STEP_BETWEEN_NEIGHBOURS: f64 = 0.6;
+const LEAD_LINE: f64 = 0.3;
+const ECHO_SOUNDER: f64 = 0.1;
+
+/// Cells of the table, by column and row from 0.
+const PLACES: [(&str, usize, usize); 7] = [
+    ("fairway, seaward end", 0, 9),
+    ("fairway, middle", 10, 8),
+    ("turning basin", 19, 9),
+    ("beside the fairway", 10, 6),
+    ("shoal with one sounding", 4, 4),
+    ("creek", 20, 1),
+    ("bay without soundings", 8, 14),
+];
+
+/// The basin whose mean depth is asked for: columns and rows.
+const BASIN: (std::ops::Range<usize>, std::ops::Range<usize>) = (16..22, 9..12);
+
+pub struct Harbour {
+    pub grid: Grid,
+    /// The water cell at each cell of the grid, counted row by row.
+    water: Vec<Option<usize>>,
+    /// The grid's cell of each water cell.
+    cells: Vec<usize>,
+}
+
+/// What is printed and drawn.
+pub struct Answer {
+    /// The variance of each water cell, row by row.
+    variances: Vec<f64>,
+    basin_mean: f64,
+    diagnostics: redstartgilt::SelectedInverseDiagnostics,
+}
+
+impl Harbour {
+    pub fn new() -> Self {
+        let grid = Grid {
+            width: CHART[0].len(),
+            height: CHART.len(),
+        };
+        let mut cells = Vec::new();
+        let mut water = Vec::new();
+        for (number, mark) in CHART.iter().flat_map(|row| row.bytes()).enumerate() {
+            water.push((mark != LAND).then_some(cells.len()));
+            if mark != LAND {
+                cells.push(number);
+            }
+        }
+        Self { grid, water, cells }
+    }
+
+    fn mark(&self, water: usize) -> u8 {
+        let (column, row) = self.grid.place(self.cells[water]);
+        CHART[row].as_bytes()[column]
+    }
+
+    fn at(&self, column: usize, row: usize) -> Option<usize> {
+        (column < self.grid.width && row < self.grid.height)
+            .then(|| self.water[row * self.grid.width + column])
+            .flatten()
+    }
+
+    /// Pairs of neighbouring water cells.
+    fn neighbours(&self) -> Vec<(usize, usize)> {
+        let mut pairs = Vec::new();
+        for (water, cell) in self.cells.iter().enumerate() {
+            let (column, row) = self.grid.place(*cell);
+            let beside = [self.at(column + 1, row), self.at(column, row + 1)];
+            pairs.extend(beside.into_iter().flatten().map(|other| (water, other)));
+        }
+        pairs
+    }
+
+    /// Column by column, as the grid is wider than high: the factor then has fewer entries.
+    pub fn order(&self) -> Permutation {
+        let mut perm_to_orig = (0..self.cells.len()).collect::<Vec<_>>();
+        perm_to_orig.sort_by_key(|water| self.grid.place(self.cells[*water]));
+        let mut orig_to_perm = vec![0; perm_to_orig.len()];
+        for (place, water) in perm_to_orig.iter().enumerate() {
+            orig_to_perm[*water] = place;
+        }
+        Permutation {
+            orig_to_perm,
+            perm_to_orig,
+        }
+    }
+
+    /// The precision matrix of the depths given the soundings, rows and columns in this order.
+    pub fn precision(&self, order: &Permutation) -> Vec<Vec<f64>> {
+        let precision_of = |deviation: f64| 1.0 / (deviation * deviation);
+        let n = self.cells.len();
+        let mut matrix = vec![vec![0.0; n]; n];
+        for water in 0..n {
+            let place = order.orig_to_perm[water];
+            matrix[place][place] += precision_of(DEPTH_ANYWHERE);
+            match self.mark(water) {
+                b'+' => matrix[place][place] += precision_of(LEAD_LINE),
+                b'*' => matrix[place][place] += precision_of(ECHO_SOUNDER),
+                _ => {}
+            }
+        }
+        for (one, other) in self.neighbours() {
+            let (a, b) = (order.orig_to_perm[one], order.orig_to_perm[other]);
+            let step = precision_of(STEP_BETWEEN_NEIGHBOURS);
+            matrix[a][a] += step;
+            matrix[b][b] += step;
+            matrix[a][b] -= step;
+            matrix[b][a] -= step;
+        }
+        matrix
+    }
+
+    pub fn answer(&self) -> Result<Answer, redstartgilt::Error> {
+        let order = self.order();
+        let lower = cholesky(self.precision(&order));
+        let factor = CholeskyFactor::from_triplets(self.cells.len(), &lower)?.with_permutation(order)?;
+        let (columns, rows) = BASIN;
+        let basin = rows
+            .flat_map(|row| columns.clone().filter_map(move |column| self.at(column, row)))
+            .collect::<Vec<_>>();
+        let weight = 1.0 / basin.len() as f64;
+        let mean = SparseRowOperator::new(
+            self.cells.len(),
+            vec![basin.into_iter().map(|water| (water, weight)).collect()],
+        )?;
+        let mut workspace = Workspace::new();
+        let cells = selected_inverse_diag_with_diagnostics_in(&factor, &mut workspace)?;
+        let means = selected_inverse_transformed_diag_in(&factor, &mean, &mut workspace)?;
+        // Its closed set is within all pairs of the harbour, which are within the limit.
+        let means = means.estimate.ok_or(redstartgilt::Error::NotCovered)?;
+        Ok(Answer {
+            variances: cells.estimate.values,
+            basin_mean: means.values[0],
+            diagnostics: cells.diagnostics,
+        })
+    }
+
+    fn soundings(&self, water: usize) -> &'static str {
+        match self.mark(water) {
+            b'+' => "lead line",
+            b'*' => "echo sounder",
+            _ => "none",
+        }
+    }
+
+    /// A short table of a few places.
+    pub fn table(&self, output: &mut impl Write, answer: &Answer) -> io::Result<()> {
+        writeln!(
+            output,
+            "A harbour of {} x {} cells, {} of them water; variances of the depth in square metres.",
+            self.grid.width,
+            self.grid.height,
+            self.cells.len()
+        )?;
+        report::counts(output, &answer.diagnostics)?;
+        writeln!(
+            output,
+            "{:<24} {:>6} {:>3}  {:<12} {:>9}  variance",
+            "place", "column", "row", "sounded by", "deviation"
+        )?;
+        for (name, column, row) in PLACES {
+            if let Some(water) = self.at(column, row) {
+                let variance = answer.variances[water];
+                writeln!(
+                    output,
+                    "{name:<24} {:>6} {:>3}  {:<12} {:>7.3} m  {variance:?}",
+                    column + 1,
+                    row + 1,
+                    self.soundings(water),
+                    variance.sqrt()
+                )?;
+            }
+        }
+        writeln!(
+            output,
+            "{:<48} {:>7.3} m  {:?}",
+            "mean depth of the turning basin",
+            answer.basin_mean.sqrt(),
+            answer.basin_mean
+        )
+    }
+
+    /// Every water cell.
+    pub fn csv(&self, output: &mut impl Write, answer: &Answer) -> io::Result<()> {
+        writeln!(output, "cell,column,row,variance")?;
+        for (water, (cell, variance)) in self.cells.iter().zip(&answer.variances).enumerate() {
+            let (column, row) = self.grid.place(*cell);
+            writeln!(output, "{},{},{},{variance:?}", water + 1, column + 1, row + 1)?;
+        }
+        Ok(())
+    }
+
+    /// The variances as an SVG document.
+    pub fn picture(&self, answer: &Answer) -> String {
+        let cells = self
+            .water
+            .iter()
+            .map(|water| water.map_or(Cell::Land, |water| Cell::Variance(answer.variances[water])))
+            .collect::<Vec<_>>();
+        draw(&Picture {
+            title: "Harbour: variance of the depth",
+            measure: "variance, m\u{b2}",
+            grid: self.grid,
+            cells: &cells,
+        })
+    }
+}
+
+/// The entries (row, column, value) other than 0.0 of the lower factor of a positive definite matrix.
+fn cholesky(mut matrix: Vec<Vec<f64>>) -> Vec<(usize, usize, f64)> {
+    let n = matrix.len();
+    let mut triplets = Vec::new();
+    for column in 0..n {
+        for row in column..n {
+            let sum: f64 = (0..column).map(|k| matrix[row][k] * matrix[column][k]).sum();
+            let left = matrix[row][column] - sum;
+            matrix[row][column] = if row == column {
+                left.sqrt()
+            } else {
+                left / matrix[column][column]
+            };
+            if matrix[row][column] != 0.0 {
+                triplets.push((row, column, matrix[row][column]));
+            }
+        }
+    }
+    triplets
+}
+
+/// Prints the harbour and gives its picture.
+pub fn run(output: &mut impl Write, csv: bool) -> Result<String, Failure> {
+    let harbour = Harbour::new();
+    let answer = harbour
+        .answer()
+        .map_err(|error| Failure::refused_at("the harbour", error))?;
+    written(if csv {
+        harbour.csv(output, &answer)
+    } else {
+        harbour.table(output, &answer)
+    })?;
+    Ok(harbour.picture(&answer))
+}
+
+#[cfg(test)]
+mod tests {
+    use super::{Harbour, CHART, PLACES};
+
+    #[test]
+    fn the_chart_is_a_grid_and_its_places_are_water() {
+        assert!(CHART.iter().all(|row| row.len() == CHART[0].len()));
+        let harbour = Harbour::new();
+        for (name, column, row) in PLACES {
+            assert!(harbour.at(column, row).is_some(), "{name}");
+        }
+    }
+
+    /// Each column of the inverse by solving with the precision matrix itself, without the factor.
+    #[test]
+    fn the_variances_are_those_of_the_inverse() {
+        let harbour = Harbour::new();
+        let order = harbour.order();
+        let answer = harbour.answer().unwrap();
+        let n = harbour.cells.len();
+        let mut left = harbour.precision(&order);
+        let mut right = vec![vec![0.0; n]; n];
+        for (place, row) in right.iter_mut().enumerate() {
+            row[place] = 1.0;
+        }
+        for pivot in 0..n {
+            let (left_pivot, right_pivot) = (left[pivot].clone(), right[pivot].clone());
+            for row in (0..n).filter(|row| *row != pivot) {
+                let times = left[row][pivot] / left_pivot[pivot];
+                if times != 0.0 {
+                    for column in 0..n {
+                        left[row][column] -= times * left_pivot[column];
+                        right[row][column] -= times * right_pivot[column];
+                    }
+                }
+            }
+        }
+        for water in 0..n {
+            let place = order.orig_to_perm[water];
+            let expected = right[place][place] / left[place][place];
+            let found = answer.variances[water];
+            assert!(
+                (found - expected).abs() <= 1e-9 * expected,
+                "{water}: {found} {expected}"
+            );
+        }
+    }
+}

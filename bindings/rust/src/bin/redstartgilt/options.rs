@@ -1,0 +1,173 @@
+//! The words of the command line.
+
+use crate::failure::Failure;
+use crate::grid::Grid;
+use std::ffi::OsString;
+use std::path::PathBuf;
+
+pub const HELP: &str = "\
+redstartgilt: variances from a sparse Cholesky factor, by a proved selected inverse
+
+Usage:
+  redstartgilt [OPTIONS] FACTOR
+  redstartgilt --demo [--csv] [--svg FILE]
+
+FACTOR is a Matrix Market file of a lower factor L: the header
+  %%MatrixMarket matrix coordinate real general
+(or integer for real, or symmetric for general, where only the lower triangle is stored), comment lines that begin
+with %, a line with rows, columns and entries, then a line with row, column and value for each entry, in any order.
+Indices count from 1 in all files and in all output. The command prints the variance of every cell: the diagonal of
+the inverse of L times its transpose. In a general file, entries above the diagonal and zeros are dropped.
+
+Options:
+  --requests FILE     the pairs whose entries are wanted, two indices a line; without it all diagonals. Lines that are
+                      empty or begin with % or # are passed over, here and in the next
+  --permutation FILE  the order of the factor: line i has the place of cell i in the factor. Requests and output are
+                      then in the order of the cells, not of the factor
+  --limit N           give no entries if the requests and what the recurrence needs for them are more than N pairs;
+                      without it 10 times the stored entries
+  --entries           print row, column and value of every entry that was computed, by column then row, and not the
+                      variances
+  --csv               print comma-separated values with a line of names, and no summary
+  --svg FILE          write the variances as a picture; needs --grid or --demo
+  --grid WxH          the cells are a grid of W columns and H rows, numbered row by row from the top left
+  --demo              take no file: a small harbour, made and factorised by the command
+  --help, --version
+
+A cell is printed only if its variance was computed: with --requests not all need be. Values are printed with as many
+digits as are needed to read them back bit for bit.
+
+Exit status:
+  0   done
+  1   a file cannot be read or written, or is malformed: the message has its name and line
+  2   bad usage
+  3   ClosureTooLarge: the requests need more pairs than the limit; without --requests, --limit and --entries it is 18
+  10 + N  the library refuses with number N:
+";
+
+/// The help with the list of refusals.
+pub fn help() -> String {
+    let mut text = HELP.to_string();
+    for error in redstartgilt::Error::ALL {
+        let status = u32::from(crate::failure::REFUSED) + error.number();
+        text.push_str(&format!("  {status}  {error}\n"));
+    }
+    text
+}
+
+#[derive(Debug, Clone, PartialEq)]
+pub struct Options {
+    /// `None` with `--demo`.
+    pub factor: Option<PathBuf>,
+    pub requests: Option<PathBuf>,
+    pub permutation: Option<PathBuf>,
+    pub limit: Option<usize>,
+    pub entries: bool,
+    pub csv: bool,
+    pub svg: Option<PathBuf>,
+    pub grid: Option<Grid>,
+}
+
+#[derive(Debug, Clone, PartialEq)]
+pub enum Command {
+    Run(Options),
+    Help,
+    Version,
+}
+
+/// The command that the words after the program's name give.
+pub fn read(words: impl IntoIterator<Item = OsString>) -> Result<Command, Failure> {
+    let mut options = Options {
+        factor: None,
+        requests: None,
+        permutation: None,
+        limit: None,
+        entries: false,
+        csv: false,
+        svg: None,
+        grid: None,
+    };
+    let mut demo = false;
+    let mut names_only = false;
+    let mut words = words.into_iter();
+    while let Some(word) = words.next() {
+        let text = word.to_str().unwrap_or("");
+        if names_only || !text.starts_with('-') {
+            if options.factor.replace(PathBuf::from(&word)).is_some() {
+                return Err(Failure::usage("more than one factor is given"));
+            }
+            continue;
+        }
+        let (name, joined) = match text.split_once('=') {
+            Some((name, value)) => (name, Some(OsString::from(value))),
+            None => (text, None),
+        };
+        let takes_value = matches!(name, "--requests" | "--permutation" | "--limit" | "--svg" | "--grid");
+        let value = match (takes_value, joined) {
+            (true, Some(value)) => value,
+            (true, None) => words
+                .next()
+                .ok_or_else(|| Failure::usage(format!("{name} needs a value")))?,
+            (false, Some(_)) => return Err(Failure::usage(format!("{name} takes no value"))),
+            (false, None) => OsString::new(),
+        };
+        let twice = match name {
+            "--requests" => options.requests.replace(value.into()).is_some(),
+            "--permutation" => options.permutation.replace(value.into()).is_some(),
+            "--limit" => options.limit.replace(number(&value)?).is_some(),
+            "--svg" => options.svg.replace(value.into()).is_some(),
+            "--grid" => options.grid.replace(grid(&value)?).is_some(),
+            "--entries" => std::mem::replace(&mut options.entries, true),
+            "--csv" => std::mem::replace(&mut options.csv, true),
+            "--demo" => std::mem::replace(&mut demo, true),
+            "--" => std::mem::replace(&mut names_only, true),
+            "--help" | "-h" => return Ok(Command::Help),
+            "--version" | "-V" => return Ok(Command::Version),
+            _ => return Err(Failure::usage(format!("there is no option {name}"))),
+        };
+        if twice {
+            return Err(Failure::usage(format!("{name} is given twice")));
+        }
+    }
+    checked(options, demo)
+}
+
+fn checked(options: Options, demo: bool) -> Result<Command, Failure> {
+    if demo {
+        let other = [
+            ("a factor", options.factor.is_some()),
+            ("--requests", options.requests.is_some()),
+            ("--permutation", options.permutation.is_some()),
+            ("--limit", options.limit.is_some()),
+            ("--entries", options.entries),
+            ("--grid", options.grid.is_some()),
+        ];
+        if let Some((name, _)) = other.iter().find(|(_, given)| *given) {
+            return Err(Failure::usage(format!("--demo does not go with {name}")));
+        }
+    } else {
+        if options.factor.is_none() {
+            return Err(Failure::usage("no factor is given"));
+        }
+        if options.svg.is_some() != options.grid.is_some() {
+            return Err(Failure::usage("--svg and --grid go together"));
+        }
+    }
+    Ok(Command::Run(options))
+}
+
+fn number(value: &OsString) -> Result<usize, Failure> {
+    value
+        .to_str()
+        .and_then(|text| text.parse().ok())
+        .ok_or_else(|| Failure::usage(format!("--limit needs a whole number, not {}", value.to_string_lossy())))
+}
+
+fn grid(value: &OsString) -> Result<Grid, Failure> {
+    value.to_str().and_then(Grid::read).ok_or_else(|| {
+        Failure::usage(format!(
+            "--grid needs two numbers above 0 as in 24x16, not {}",
+            value.to_string_lossy()
+        ))
+    })
+}

@@ -1,0 +1,155 @@
+//! Refusals: one variant for each number.
+
+use crate::sys;
+use std::fmt;
+
+/// Why a call was refused.
+///
+/// The library checks in a fixed order, and the first check that fails decides. [`Error::number`] is the refusal's
+/// number in every language. A refused call gives no result.
+///
+/// ```
+/// use redstartgilt::{CholeskyFactor, Error};
+///
+/// // Rows of a column must ascend.
+/// let refused = CholeskyFactor::new(2, vec![0, 2, 3], vec![1, 0, 1], vec![2.0, 1.0, 1.0]);
+/// assert_eq!(refused.unwrap_err(), Error::BrokenRows);
+/// assert_eq!(Error::BrokenRows.number(), 3);
+/// assert!(Error::BrokenRows.to_string().starts_with("refusal 3: broken rows"));
+/// ```
+#[derive(Debug, Clone, Copy, PartialEq, Eq, Hash)]
+#[non_exhaustive]
+pub enum Error {
+    /// 1: a dimension above [`MAX_DIMENSION`](crate::MAX_DIMENSION) or a list above
+    /// [`MAX_ENTRIES`](crate::MAX_ENTRIES).
+    TooLarge,
+    /// 2: starts that are not n + 1, do not begin with 0, fall, or do not end with the number of rows; or rows and
+    /// values of unequal length.
+    BrokenStarts,
+    /// 3: a row index of n or more, or not above the one before it in its column.
+    BrokenRows,
+    /// 4: requests, a permutation, an operator or a vector of another dimension, or request lists of unequal length.
+    DimensionMismatch,
+    /// 5: a requested index of n or more.
+    RequestOutOfRange,
+    /// 6: a column without a diagonal entry, or with one at most 0.0; an entry of 0.0 counts as none.
+    NonPositiveDefinite,
+    /// 7: a list lent for results, scratch or output that is too short.
+    TooShort,
+    /// 8: a pair that is not among the selected entries; or, of the diagonal in original order, a closed set above the
+    /// default limit.
+    NotCovered,
+    /// 9: row starts of an operator that are not those of its rows, or a column of n or more.
+    BrokenOperator,
+    /// 10: a permutation's index that is not below its length.
+    IndexTooLarge,
+    /// 11: an index that a permutation has twice.
+    DuplicateEntry,
+    /// 12: two permutations that are not each other's inverses, or not of one length.
+    NotInverse,
+    /// 13: a variance that is not finite.
+    NotFinite,
+    /// 14: a floor's scale that is not finite, or below 0.
+    BadScale,
+}
+
+impl Error {
+    /// Every refusal, by number.
+    pub const ALL: [Error; 14] = [
+        Error::TooLarge,
+        Error::BrokenStarts,
+        Error::BrokenRows,
+        Error::DimensionMismatch,
+        Error::RequestOutOfRange,
+        Error::NonPositiveDefinite,
+        Error::TooShort,
+        Error::NotCovered,
+        Error::BrokenOperator,
+        Error::IndexTooLarge,
+        Error::DuplicateEntry,
+        Error::NotInverse,
+        Error::NotFinite,
+        Error::BadScale,
+    ];
+
+    /// The refusal's number.
+    pub const fn number(self) -> u32 {
+        match self {
+            Error::TooLarge => sys::REDSTARTGILT_TOO_LARGE,
+            Error::BrokenStarts => sys::REDSTARTGILT_BROKEN_STARTS,
+            Error::BrokenRows => sys::REDSTARTGILT_BROKEN_ROWS,
+            Error::DimensionMismatch => sys::REDSTARTGILT_DIMENSION_MISMATCH,
+            Error::RequestOutOfRange => sys::REDSTARTGILT_REQUEST_OUT_OF_RANGE,
+            Error::NonPositiveDefinite => sys::REDSTARTGILT_NON_POSITIVE_DEFINITE,
+            Error::TooShort => sys::REDSTARTGILT_TOO_SHORT,
+            Error::NotCovered => sys::REDSTARTGILT_NOT_COVERED,
+            Error::BrokenOperator => sys::REDSTARTGILT_BROKEN_OPERATOR,
+            Error::IndexTooLarge => sys::REDSTARTGILT_INDEX_TOO_LARGE,
+            Error::DuplicateEntry => sys::REDSTARTGILT_DUPLICATE_ENTRY,
+            Error::NotInverse => sys::REDSTARTGILT_NOT_INVERSE,
+            Error::NotFinite => sys::REDSTARTGILT_NOT_FINITE,
+            Error::BadScale => sys::REDSTARTGILT_BAD_SCALE,
+        }
+    }
+
+    /// The refusal of a number; `None` for 0, which is no refusal, and for a number that is not given.
+    pub fn from_number(number: u32) -> Option<Error> {
+        Error::ALL.into_iter().find(|error| error.number() == number)
+    }
+
+    /// What is wrong, in words.
+    pub const fn reason(self) -> &'static str {
+        match self {
+            Error::TooLarge => {
+                "too large: a dimension, a permutation or a number of operator rows above 2,048, or more than \
+                 1,048,576 stored entries, requests, operator terms or variances"
+            }
+            Error::BrokenStarts => {
+                "broken starts: there must be n + 1 of them, from 0, never falling, to the number of rows, and as many \
+                 values as rows"
+            }
+            Error::BrokenRows => "broken rows: the row indices of each column must be below n and ascend",
+            Error::DimensionMismatch => {
+                "dimensions do not match: requests, permutation, operator or vector are of another dimension than the \
+                 factor, or two lists that go together differ in length"
+            }
+            Error::RequestOutOfRange => "a requested index is outside: it must be below the dimension",
+            Error::NonPositiveDefinite => {
+                "not positive definite: a column of the factor has no diagonal entry, or one that is at most 0"
+            }
+            Error::TooShort => "a list lent for results, scratch or output is too short",
+            Error::NotCovered => {
+                "not covered: the pair is not among the selected entries, or all diagonals need more entries than the \
+                 limit of 10 times the stored entries"
+            }
+            Error::BrokenOperator => {
+                "broken operator: its row starts must go from 0, never falling, to the number of columns, with as many \
+                 weights, and its columns must be below the dimension"
+            }
+            Error::IndexTooLarge => "an index of the permutation is not below its length",
+            Error::DuplicateEntry => "the permutation has an index twice",
+            Error::NotInverse => "the two permutations are not each other's inverses",
+            Error::NotFinite => "a variance is not finite",
+            Error::BadScale => "the scale of the floor is not finite, or is below 0",
+        }
+    }
+
+    /// `Ok` for 0, the refusal for another number.
+    pub(crate) fn check(number: u32) -> Result<(), Error> {
+        if number == sys::REDSTARTGILT_ACCEPTED {
+            return Ok(());
+        }
+        match Error::from_number(number) {
+            Some(error) => Err(error),
+            None => panic!("the linked library refuses with {number}, which this crate does not know"),
+        }
+    }
+}
+
+impl fmt::Display for Error {
+    fn fmt(&self, formatter: &mut fmt::Formatter<'_>) -> fmt::Result {
+        write!(formatter, "refusal {}: {}", self.number(), self.reason())
+    }
+}
+
+impl std::error::Error for Error {}

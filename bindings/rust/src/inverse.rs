@@ -1,0 +1,188 @@
+//! Selected entries of the inverse.
+
+use crate::lent::{self, default_limit, EntryLists};
+use crate::{CholeskyFactor, Error, SelectedInverseDiagnostics, SparseSymmetricPattern, Workspace};
+
+/// Entries of the inverse of L·Lᵀ on a closed set of pairs, in the factor's order.
+#[derive(Debug, Clone, PartialEq)]
+pub struct SparseSelectedInverse {
+    dimension: usize,
+    starts: Vec<u32>,
+    rows: Vec<u32>,
+    values: Vec<f64>,
+}
+
+impl SparseSelectedInverse {
+    /// The dimension of the factor.
+    pub fn dimension(&self) -> usize {
+        self.dimension
+    }
+
+    /// The entry at a pair, which may be in either order; `None` for a pair that is not in the closed set.
+    pub fn get(&self, row: usize, column: usize) -> Option<f64> {
+        match lent::get(self.lists(), row, column) {
+            Ok(value) => Some(value),
+            Err(Error::NotCovered) => None,
+            Err(error) => panic!("entries that a call has filled: {error}"),
+        }
+    }
+
+    /// The diagonal; 0.0 stands for a diagonal that is not in the closed set, which [`get`](Self::get) tells apart.
+    ///
+    /// ```
+    /// use redstartgilt::{selected_inverse_entries, CholeskyFactor, SparseSymmetricPattern};
+    ///
+    /// let factor = CholeskyFactor::new(2, vec![0, 2, 3], vec![0, 1, 1], vec![1.0, 2.0, 1.0])?;
+    /// let mut requested = SparseSymmetricPattern::new(2);
+    /// requested.insert(1, 1)?;
+    /// let inverse = selected_inverse_entries(&factor, &requested)?.inverse.unwrap();
+    /// assert_eq!(inverse.diag(), [0.0, 1.0]);
+    /// assert_eq!(inverse.get(0, 0), None);
+    /// # Ok::<(), redstartgilt::Error>(())
+    /// ```
+    pub fn diag(&self) -> Vec<f64> {
+        let mut output = vec![0.0; self.dimension];
+        self.diag_into(&mut output)
+            .expect("entries that a call has filled, and an output of their dimension");
+        output
+    }
+
+    /// Writes the diagonal to the first places of `output`; [`Error::TooShort`] where it has too few.
+    pub fn diag_into(&self, output: &mut [f64]) -> Result<(), Error> {
+        lent::diag(self.lists(), output)
+    }
+
+    /// The number of entries.
+    pub fn len(&self) -> usize {
+        self.values.len()
+    }
+
+    /// Whether there are no entries.
+    pub fn is_empty(&self) -> bool {
+        self.values.is_empty()
+    }
+
+    /// The entries (row, column, value), row ≥ column, by column then row.
+    pub fn entries(&self) -> impl Iterator<Item = (usize, usize, f64)> + '_ {
+        (0..self.dimension).flat_map(move |column| {
+            let places = self.starts[column] as usize..self.starts[column + 1] as usize;
+            places.map(move |place| (self.rows[place] as usize, column, self.values[place]))
+        })
+    }
+
+    /// The entries' lists, in the layout of a factor.
+    pub fn lists(&self) -> EntryLists<'_> {
+        EntryLists {
+            starts: &self.starts,
+            rows: &self.rows,
+            values: &self.values,
+        }
+    }
+}
+
+/// The answer to a request for entries.
+#[derive(Debug, Clone, PartialEq)]
+pub struct SelectedInverseEntries {
+    /// The entries; `None` where the closed set passes the limit.
+    pub inverse: Option<SparseSelectedInverse>,
+    /// Status and counts.
+    pub diagnostics: SelectedInverseDiagnostics,
+}
+
+/// The entries at the requested pairs, and at all pairs that the recurrence needs for them, with the default limit of
+/// 10 times the factor's stored entries.
+///
+/// Requests are in the factor's order. Refuses with [`Error::TooLarge`] above 1,048,576 requests, then with
+/// [`Error::DimensionMismatch`], [`Error::RequestOutOfRange`] and [`Error::NonPositiveDefinite`].
+///
+/// ```
+/// use redstartgilt::{selected_inverse_entries, CholeskyFactor, SparseSymmetricPattern};
+///
+/// let factor = CholeskyFactor::new(1, vec![0, 1], vec![0], vec![2.0])?;
+/// let selected = selected_inverse_entries(&factor, &SparseSymmetricPattern::diagonal(1))?;
+/// assert_eq!(selected.inverse.unwrap().get(0, 0), Some(0.25));
+/// assert_eq!(selected.diagnostics.closure_limit, 10);
+/// # Ok::<(), redstartgilt::Error>(())
+/// ```
+pub fn selected_inverse_entries(
+    factor: &CholeskyFactor,
+    requested: &SparseSymmetricPattern,
+) -> Result<SelectedInverseEntries, Error> {
+    selected_inverse_entries_in(factor, requested, &mut Workspace::new())
+}
+
+/// [`selected_inverse_entries`] with memory that is used again.
+pub fn selected_inverse_entries_in(
+    factor: &CholeskyFactor,
+    requested: &SparseSymmetricPattern,
+    workspace: &mut Workspace,
+) -> Result<SelectedInverseEntries, Error> {
+    let n = factor.dimension();
+    let (rows, columns) = requested.request_lists();
+    let (result, scratch) = workspace.lend(n, default_limit(factor.nnz()));
+    let diagnostics =
+        lent::selected_inverse_entries(factor.lists(), requested.dimension, &rows, &columns, result, scratch)?;
+    Ok(answer(n, diagnostics, workspace))
+}
+
+/// The entries at the requested pairs, and at all pairs that the recurrence needs for them, if they are at most
+/// `closure_limit`.
+///
+/// Refuses as [`selected_inverse_entries`] does.
+///
+/// ```
+/// use redstartgilt::{
+///     selected_inverse_entries_with_limit, CholeskyFactor, SelectedInverseStatus, SparseSymmetricPattern,
+/// };
+///
+/// let factor = CholeskyFactor::new(2, vec![0, 2, 3], vec![0, 1, 1], vec![1.0, 2.0, 1.0])?;
+/// let mut requested = SparseSymmetricPattern::new(2);
+/// requested.insert(0, 0)?;
+/// let selected = selected_inverse_entries_with_limit(&factor, &requested, 2)?;
+/// assert_eq!(selected.diagnostics.status, SelectedInverseStatus::ClosureTooLarge);
+/// assert_eq!(selected.diagnostics.closure_pairs, 3);
+/// assert!(selected.inverse.is_none());
+/// # Ok::<(), redstartgilt::Error>(())
+/// ```
+pub fn selected_inverse_entries_with_limit(
+    factor: &CholeskyFactor,
+    requested: &SparseSymmetricPattern,
+    closure_limit: usize,
+) -> Result<SelectedInverseEntries, Error> {
+    selected_inverse_entries_with_limit_in(factor, requested, closure_limit, &mut Workspace::new())
+}
+
+/// [`selected_inverse_entries_with_limit`] with memory that is used again.
+pub fn selected_inverse_entries_with_limit_in(
+    factor: &CholeskyFactor,
+    requested: &SparseSymmetricPattern,
+    closure_limit: usize,
+    workspace: &mut Workspace,
+) -> Result<SelectedInverseEntries, Error> {
+    let n = factor.dimension();
+    let (rows, columns) = requested.request_lists();
+    let (result, scratch) = workspace.lend(n, closure_limit);
+    let diagnostics = lent::selected_inverse_entries_with_limit(
+        factor.lists(),
+        requested.dimension,
+        &rows,
+        &columns,
+        closure_limit,
+        result,
+        scratch,
+    )?;
+    Ok(answer(n, diagnostics, workspace))
+}
+
+fn answer(n: usize, diagnostics: SelectedInverseDiagnostics, workspace: &Workspace) -> SelectedInverseEntries {
+    let inverse = diagnostics.is_complete().then(|| {
+        let (starts, rows, values) = workspace.filled(n, diagnostics.closure_pairs);
+        SparseSelectedInverse {
+            dimension: n,
+            starts,
+            rows,
+            values,
+        }
+    });
+    SelectedInverseEntries { inverse, diagnostics }
+}

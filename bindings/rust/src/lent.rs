@@ -1,0 +1,453 @@
+//! The calls on slices that the caller lends. Nothing is allocated or kept.
+//!
+//! A list may be longer than needed; places past those filled keep their contents. A refused call leaves every list as
+//! it was, unless its documentation says otherwise. Lengths that suffice: [`result_places`], [`scratch_words`] and
+//! [`pair_total`].
+//!
+//! ```
+//! use redstartgilt::lent::{self, EntryLists, FactorLists, ResultLists};
+//!
+//! let factor = FactorLists { n: 2, starts: &[0, 2, 3], rows: &[0, 1, 1], values: &[1.0, 2.0, 1.0] };
+//! let (mut starts, mut rows, mut values) = ([0; 3], [0; 3], [0.0; 3]);
+//! let mut scratch = [0; 14];
+//! assert_eq!(lent::scratch_words(2), 14);
+//! let result = ResultLists { starts: &mut starts, rows: &mut rows, values: &mut values };
+//! let diagnostics =
+//!     lent::selected_inverse_entries_with_limit(factor, 2, &[0], &[0], 3, result, &mut scratch)?;
+//! assert!(diagnostics.is_complete());
+//! assert_eq!(values, [5.0, -2.0, 1.0]);
+//!
+//! let entries = EntryLists { starts: &starts, rows: &rows, values: &values };
+//! assert_eq!(lent::get(entries, 0, 1)?, -2.0);
+//! # Ok::<(), redstartgilt::Error>(())
+//! ```
+
+use crate::sys;
+use crate::{CountAndLeast, Error, SelectedInverseDiagnostics, VarianceFloor};
+
+/// A factor of dimension n in compressed columns: n + 1 starts, then each column's row indices, ascending, and values.
+#[derive(Debug, Clone, Copy)]
+pub struct FactorLists<'a> {
+    /// The dimension.
+    pub n: usize,
+    /// Where each column starts in `rows`, and last their number.
+    pub starts: &'a [u32],
+    /// Row indices, column by column, ascending.
+    pub rows: &'a [u32],
+    /// The value of each row.
+    pub values: &'a [f64],
+}
+
+/// An operator in compressed rows, its columns in factor order.
+#[derive(Debug, Clone, Copy)]
+pub struct OperatorLists<'a> {
+    /// The number of its columns.
+    pub ncols: usize,
+    /// Where each row starts in `columns`, and last their number.
+    pub row_starts: &'a [u32],
+    /// Column indices, row by row.
+    pub columns: &'a [u32],
+    /// The weight of each column.
+    pub weights: &'a [f64],
+}
+
+/// The lists that entries are written to, in the layout of a factor.
+#[derive(Debug)]
+pub struct ResultLists<'a> {
+    /// At least n + 1 places.
+    pub starts: &'a mut [u32],
+    /// At least [`result_places`] places.
+    pub rows: &'a mut [u32],
+    /// At least [`result_places`] places.
+    pub values: &'a mut [f64],
+}
+
+/// Entries to be read. The dimension is the number of starts less one, so lend only the filled starts.
+#[derive(Debug, Clone, Copy)]
+pub struct EntryLists<'a> {
+    /// Where each column starts in `rows`, and last their number.
+    pub starts: &'a [u32],
+    /// Row indices, column by column, ascending.
+    pub rows: &'a [u32],
+    /// The value of each row.
+    pub values: &'a [f64],
+}
+
+/// The floor that was applied, and how many values were not above it.
+#[derive(Debug, Clone, Copy, PartialEq)]
+pub struct Floored {
+    /// The floor.
+    pub floor: f64,
+    /// Values that were not above it.
+    pub floor_hits: usize,
+}
+
+/// The number of pairs (row, column) with row ≥ column in dimension n, n(n+1)/2; `usize::MAX` where it is more.
+pub const fn pair_total(n: usize) -> usize {
+    let total = n as u128 * (n as u128 + 1) / 2;
+    if total > usize::MAX as u128 {
+        usize::MAX
+    } else {
+        total as usize
+    }
+}
+
+/// The result places that suffice for a dimension and a limit: the lesser of the limit and [`pair_total`].
+pub const fn result_places(n: usize, limit: usize) -> usize {
+    let total = pair_total(n);
+    if limit < total {
+        limit
+    } else {
+        total
+    }
+}
+
+/// The scratch words that a call that fills result lists needs: 2·[`pair_total`] + 4n.
+pub const fn scratch_words(n: usize) -> usize {
+    pair_total(n).saturating_mul(2).saturating_add(n.saturating_mul(4))
+}
+
+/// The limit that a call without one applies: 10 times the stored entries.
+pub const fn default_limit(stored_entries: usize) -> usize {
+    stored_entries.saturating_mul(10)
+}
+
+/// Selected entries: fills `result` with the closed set of the requests, column by column, rows ascending.
+///
+/// Refuses with 1, 2, 3, 4, 5, 6, 7. Without a refusal `scratch` ends with its first [`scratch_words`] words 0;
+/// `ClosureTooLarge` leaves `result` as it was.
+pub fn selected_inverse_entries_with_limit(
+    factor: FactorLists<'_>,
+    dimension: usize,
+    request_rows: &[u32],
+    request_columns: &[u32],
+    limit: usize,
+    result: ResultLists<'_>,
+    scratch: &mut [u32],
+) -> Result<SelectedInverseDiagnostics, Error> {
+    // SAFETY, here and below: pointers and lengths are those of slices, so they are never null, aligned and valid, and
+    // those of `&mut` slices overlap no other. The library stays inside the lists that it is lent.
+    let reply = unsafe {
+        sys::redstartgilt_selected_inverse_entries_with_limit(
+            factor.n,
+            factor.starts.as_ptr(),
+            factor.starts.len(),
+            factor.rows.as_ptr(),
+            factor.rows.len(),
+            factor.values.as_ptr(),
+            factor.values.len(),
+            dimension,
+            request_rows.as_ptr(),
+            request_rows.len(),
+            request_columns.as_ptr(),
+            request_columns.len(),
+            limit,
+            result.starts.as_mut_ptr(),
+            result.starts.len(),
+            result.rows.as_mut_ptr(),
+            result.rows.len(),
+            result.values.as_mut_ptr(),
+            result.values.len(),
+            scratch.as_mut_ptr(),
+            scratch.len(),
+        )
+    };
+    SelectedInverseDiagnostics::of_reply(reply)
+}
+
+/// [`selected_inverse_entries_with_limit`] with the [`default_limit`].
+pub fn selected_inverse_entries(
+    factor: FactorLists<'_>,
+    dimension: usize,
+    request_rows: &[u32],
+    request_columns: &[u32],
+    result: ResultLists<'_>,
+    scratch: &mut [u32],
+) -> Result<SelectedInverseDiagnostics, Error> {
+    let reply = unsafe {
+        sys::redstartgilt_selected_inverse_entries(
+            factor.n,
+            factor.starts.as_ptr(),
+            factor.starts.len(),
+            factor.rows.as_ptr(),
+            factor.rows.len(),
+            factor.values.as_ptr(),
+            factor.values.len(),
+            dimension,
+            request_rows.as_ptr(),
+            request_rows.len(),
+            request_columns.as_ptr(),
+            request_columns.len(),
+            result.starts.as_mut_ptr(),
+            result.starts.len(),
+            result.rows.as_mut_ptr(),
+            result.rows.len(),
+            result.values.as_mut_ptr(),
+            result.values.len(),
+            scratch.as_mut_ptr(),
+            scratch.len(),
+        )
+    };
+    SelectedInverseDiagnostics::of_reply(reply)
+}
+
+/// The entry at (row, column), which may be exchanged.
+///
+/// Refuses with 2 and 3 for a broken column, and with 8 for a pair that is absent or outside.
+pub fn get(entries: EntryLists<'_>, row: usize, column: usize) -> Result<f64, Error> {
+    let reply = unsafe {
+        sys::redstartgilt_get(
+            entries.starts.as_ptr(),
+            entries.starts.len(),
+            entries.rows.as_ptr(),
+            entries.rows.len(),
+            entries.values.as_ptr(),
+            entries.values.len(),
+            row,
+            column,
+        )
+    };
+    Error::check(reply.refusal)?;
+    Ok(reply.value)
+}
+
+/// Writes the diagonal to `output`; a diagonal that is not among the entries is written as 0.0.
+///
+/// Refuses with 2 and 3, column by column, then with 7.
+pub fn diag(entries: EntryLists<'_>, output: &mut [f64]) -> Result<(), Error> {
+    let refusal = unsafe {
+        sys::redstartgilt_diag(
+            entries.starts.as_ptr(),
+            entries.starts.len(),
+            entries.rows.as_ptr(),
+            entries.rows.len(),
+            entries.values.as_ptr(),
+            entries.values.len(),
+            output.as_mut_ptr(),
+            output.len(),
+        )
+    };
+    Error::check(refusal)
+}
+
+/// The diagonal in original order: fills `result` with the closed set of all diagonals, and `output` with the diagonal
+/// at `orig_to_perm[i]` in place i.
+///
+/// Refuses with 1, 2, 3, 4, 10, 11, 6, 7, and with 8 where the closed set passes the [`default_limit`]; `scratch` then
+/// ends 0 as after an answer.
+pub fn selected_inverse_diag_with_diagnostics(
+    factor: FactorLists<'_>,
+    orig_to_perm: &[u32],
+    result: ResultLists<'_>,
+    scratch: &mut [u32],
+    output: &mut [f64],
+) -> Result<SelectedInverseDiagnostics, Error> {
+    let reply = unsafe {
+        sys::redstartgilt_selected_inverse_diag_with_diagnostics(
+            factor.n,
+            factor.starts.as_ptr(),
+            factor.starts.len(),
+            factor.rows.as_ptr(),
+            factor.rows.len(),
+            factor.values.as_ptr(),
+            factor.values.len(),
+            orig_to_perm.as_ptr(),
+            orig_to_perm.len(),
+            result.starts.as_mut_ptr(),
+            result.starts.len(),
+            result.rows.as_mut_ptr(),
+            result.rows.len(),
+            result.values.as_mut_ptr(),
+            result.values.len(),
+            scratch.as_mut_ptr(),
+            scratch.len(),
+            output.as_mut_ptr(),
+            output.len(),
+        )
+    };
+    SelectedInverseDiagnostics::of_reply(reply)
+}
+
+/// Operator variances: fills `result` with the closed set of all column pairs of each operator row, and `output` with
+/// the variance of each row.
+///
+/// Refuses with 1, 2, 3, 4, 9, 6, 7. `ClosureTooLarge` leaves `result` and `output` as they were.
+pub fn selected_inverse_transformed_diag(
+    factor: FactorLists<'_>,
+    operator: OperatorLists<'_>,
+    result: ResultLists<'_>,
+    scratch: &mut [u32],
+    output: &mut [f64],
+) -> Result<SelectedInverseDiagnostics, Error> {
+    let reply = unsafe {
+        sys::redstartgilt_selected_inverse_transformed_diag(
+            factor.n,
+            factor.starts.as_ptr(),
+            factor.starts.len(),
+            factor.rows.as_ptr(),
+            factor.rows.len(),
+            factor.values.as_ptr(),
+            factor.values.len(),
+            operator.ncols,
+            operator.row_starts.as_ptr(),
+            operator.row_starts.len(),
+            operator.columns.as_ptr(),
+            operator.columns.len(),
+            operator.weights.as_ptr(),
+            operator.weights.len(),
+            result.starts.as_mut_ptr(),
+            result.starts.len(),
+            result.rows.as_mut_ptr(),
+            result.rows.len(),
+            result.values.as_mut_ptr(),
+            result.values.len(),
+            scratch.as_mut_ptr(),
+            scratch.len(),
+            output.as_mut_ptr(),
+            output.len(),
+        )
+    };
+    SelectedInverseDiagnostics::of_reply(reply)
+}
+
+/// Writes the pairs of the factor's kept entries, ascending by row then column, and gives their number.
+///
+/// Refuses with 1, 2, 3, then with 7 for scratch below [`pair_total`] words or a short output. Past the others and with
+/// scratch long enough, its first [`pair_total`] words end 0, also when an output is short.
+pub fn from_cholesky_factor(
+    factor: FactorLists<'_>,
+    scratch: &mut [u32],
+    pair_rows: &mut [u32],
+    pair_columns: &mut [u32],
+) -> Result<usize, Error> {
+    let reply = unsafe {
+        sys::redstartgilt_from_cholesky_factor(
+            factor.n,
+            factor.starts.as_ptr(),
+            factor.starts.len(),
+            factor.rows.as_ptr(),
+            factor.rows.len(),
+            factor.values.as_ptr(),
+            factor.values.len(),
+            scratch.as_mut_ptr(),
+            scratch.len(),
+            pair_rows.as_mut_ptr(),
+            pair_rows.len(),
+            pair_columns.as_mut_ptr(),
+            pair_columns.len(),
+        )
+    };
+    Error::check(reply.refusal)?;
+    Ok(reply.pairs)
+}
+
+/// Writes all column pairs of each operator row, ascending by row then column, and gives their number.
+///
+/// Refuses with 1, 9, then with 7 as [`from_cholesky_factor`] does.
+pub fn from_transformed_operator(
+    operator: OperatorLists<'_>,
+    scratch: &mut [u32],
+    pair_rows: &mut [u32],
+    pair_columns: &mut [u32],
+) -> Result<usize, Error> {
+    let reply = unsafe {
+        sys::redstartgilt_from_transformed_operator(
+            operator.ncols,
+            operator.row_starts.as_ptr(),
+            operator.row_starts.len(),
+            operator.columns.as_ptr(),
+            operator.columns.len(),
+            operator.weights.as_ptr(),
+            operator.weights.len(),
+            scratch.as_mut_ptr(),
+            scratch.len(),
+            pair_rows.as_mut_ptr(),
+            pair_rows.len(),
+            pair_columns.as_mut_ptr(),
+            pair_columns.len(),
+        )
+    };
+    Error::check(reply.refusal)?;
+    Ok(reply.pairs)
+}
+
+/// Accepts a permutation with its inverse.
+///
+/// Refuses with 1, with 12 for unequal lengths, then element by element with 10, 11, 12.
+pub fn validate(orig_to_perm: &[u32], perm_to_orig: &[u32]) -> Result<(), Error> {
+    let refusal = unsafe {
+        sys::redstartgilt_validate(
+            orig_to_perm.as_ptr(),
+            orig_to_perm.len(),
+            perm_to_orig.as_ptr(),
+            perm_to_orig.len(),
+        )
+    };
+    Error::check(refusal)
+}
+
+/// Writes the inverse of a permutation.
+///
+/// Refuses with 1, then element by element with 10, 11, then with 7.
+pub fn from_orig_to_perm(orig_to_perm: &[u32], perm_to_orig: &mut [u32]) -> Result<(), Error> {
+    let refusal = unsafe {
+        sys::redstartgilt_from_orig_to_perm(
+            orig_to_perm.as_ptr(),
+            orig_to_perm.len(),
+            perm_to_orig.as_mut_ptr(),
+            perm_to_orig.len(),
+        )
+    };
+    Error::check(refusal)
+}
+
+/// Writes `input[orig_to_perm[i]]` to place i of `output`.
+///
+/// Refuses with 1, 4, then element by element with 10, 11, then with 7.
+pub fn permute_factor_to_original(orig_to_perm: &[u32], input: &[f64], output: &mut [f64]) -> Result<(), Error> {
+    let refusal = unsafe {
+        sys::redstartgilt_permute_factor_to_original(
+            orig_to_perm.as_ptr(),
+            orig_to_perm.len(),
+            input.as_ptr(),
+            input.len(),
+            output.as_mut_ptr(),
+            output.len(),
+        )
+    };
+    Error::check(refusal)
+}
+
+/// Writes each value, or the floor where the value is not above it.
+///
+/// Refuses with 1, 13, 14, 7.
+pub fn stabilize_variances(values: &[f64], floor: VarianceFloor, output: &mut [f64]) -> Result<Floored, Error> {
+    let reply = match floor {
+        VarianceFloor::Zero => unsafe {
+            sys::redstartgilt_stabilize_variances_zero(values.as_ptr(), values.len(), output.as_mut_ptr(), output.len())
+        },
+        VarianceFloor::PositiveMean { scale } => unsafe {
+            sys::redstartgilt_stabilize_variances_positive_mean(
+                values.as_ptr(),
+                values.len(),
+                scale,
+                output.as_mut_ptr(),
+                output.len(),
+            )
+        },
+    };
+    Error::check(reply.refusal)?;
+    Ok(Floored {
+        floor: reply.floor,
+        floor_hits: reply.floor_hits,
+    })
+}
+
+/// How many values are negative, and the least of them all. Never refuses.
+pub fn count_and_least(values: &[f64]) -> CountAndLeast {
+    let reply = unsafe { sys::redstartgilt_count_and_least(values.as_ptr(), values.len()) };
+    CountAndLeast {
+        num_negative: reply.num_negative,
+        min_value: reply.min_value,
+    }
+}

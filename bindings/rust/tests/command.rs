@@ -1,0 +1,510 @@
+//! The command: what it prints, draws and refuses.
+
+use std::path::{Path, PathBuf};
+use std::process::{Command, Output};
+
+const F2: &str = "%%MatrixMarket matrix coordinate real general\n2 2 3\n1 1 1\n2 1 2\n2 2 1\n";
+const F3: &str = "\
+%%MatrixMarket matrix coordinate integer symmetric
+% the factor of three columns
+3 3 5
+
+3 3 1
+1 1 1
+3 1 3
+2 1 2
+2 2 1
+";
+
+/// A folder of one test's files.
+struct Folder(PathBuf);
+
+impl Folder {
+    fn new(name: &str) -> Self {
+        let folder = Path::new(env!("CARGO_TARGET_TMPDIR")).join(name);
+        let _ = std::fs::remove_dir_all(&folder);
+        std::fs::create_dir_all(&folder).unwrap();
+        Self(folder)
+    }
+
+    fn write(&self, name: &str, text: impl AsRef<[u8]>) {
+        std::fs::write(self.0.join(name), text).unwrap();
+    }
+
+    fn read(&self, name: &str) -> String {
+        std::fs::read_to_string(self.0.join(name)).unwrap()
+    }
+
+    /// Runs the command in the folder.
+    fn run(&self, words: &[&str]) -> Output {
+        Command::new(env!("CARGO_BIN_EXE_redstartgilt"))
+            .args(words)
+            .current_dir(&self.0)
+            .output()
+            .unwrap()
+    }
+
+    fn prints(&self, words: &[&str]) -> String {
+        let output = self.run(words);
+        let errors = String::from_utf8(output.stderr).unwrap();
+        assert_eq!(output.status.code(), Some(0), "{words:?}: {errors}");
+        assert_eq!(errors, "", "{words:?}");
+        String::from_utf8(output.stdout).unwrap()
+    }
+
+    /// The message of a run that fails with this status and prints nothing.
+    fn fails(&self, words: &[&str], status: i32) -> String {
+        let output = self.run(words);
+        let message = String::from_utf8(output.stderr).unwrap();
+        assert_eq!(output.status.code(), Some(status), "{words:?}: {message}");
+        assert_eq!(String::from_utf8(output.stdout).unwrap(), "", "{words:?}");
+        message
+            .strip_prefix("redstartgilt: ")
+            .and_then(|message| message.strip_suffix('\n'))
+            .expect("one line that begins with the command's name")
+            .to_string()
+    }
+}
+
+#[test]
+fn variances_of_all_cells() {
+    let folder = Folder::new("variances");
+    folder.write("f2.mtx", F2);
+    assert_eq!(
+        folder.prints(&["f2.mtx"]),
+        "Complete: 2 pairs requested, 3 computed, 3 in the factor, limit 30\n\
+         2 of 2 cells, 0 of them negative, the least 1.0\n\
+         cell variance\n1 5.0\n2 1.0\n"
+    );
+    assert_eq!(folder.prints(&["--csv", "f2.mtx"]), "cell,variance\n1,5.0\n2,1.0\n");
+    folder.write("f3.mtx", F3.replace('\n', "\r\n"));
+    assert_eq!(
+        folder.prints(&["f3.mtx", "--csv"]),
+        "cell,variance\n1,14.0\n2,1.0\n3,1.0\n"
+    );
+    folder.write("none.mtx", "%%MatrixMarket matrix coordinate real general\n0 0 0");
+    assert_eq!(folder.prints(&["none.mtx", "--csv"]), "cell,variance\n");
+}
+
+#[test]
+fn entries() {
+    let folder = Folder::new("entries");
+    folder.write("f3.mtx", F3);
+    folder.write("pairs.txt", "# one cell\n\n 1\t1 \n");
+    assert_eq!(
+        folder.prints(&["--entries", "--requests", "pairs.txt", "f3.mtx", "--limit=6"]),
+        "Complete: 1 pairs requested, 6 computed, 5 in the factor, limit 6\n\
+         row column value\n1 1 14.0\n2 1 -2.0\n3 1 -3.0\n2 2 1.0\n3 2 -0.0\n3 3 1.0\n"
+    );
+    folder.write("pairs.txt", "3 2");
+    assert_eq!(
+        folder.prints(&["--entries", "--requests", "pairs.txt", "f3.mtx", "--csv"]),
+        "row,column,value\n3,2,-0.0\n"
+    );
+    // No variance is computed, so none is printed.
+    assert_eq!(
+        folder.prints(&["--requests", "pairs.txt", "f3.mtx", "--csv"]),
+        "cell,variance\n"
+    );
+    folder.write("pairs.txt", "2 2\n2 1\n");
+    assert_eq!(
+        folder.prints(&["--requests", "pairs.txt", "f3.mtx"]),
+        "Complete: 2 pairs requested, 3 computed, 5 in the factor, limit 50\n\
+         1 of 3 cells, 0 of them negative, the least 1.0\ncell variance\n2 1.0\n"
+    );
+}
+
+/// Values are read back bit for bit, and the order of the cells is used for requests and output.
+#[test]
+fn a_permutation() {
+    let folder = Folder::new("permutation");
+    let factor =
+        "%%MatrixMarket matrix coordinate real general\n3 3 6\n1 1 1.1\n2 1 -0.3\n3 1 0.7\n2 2 0.9\n3 2 .2\n3 3 1e-1\n";
+    folder.write("f.mtx", factor);
+    folder.write("order.txt", "3\n1\n2\n");
+    let values = |text: String| {
+        text.lines()
+            .skip(1)
+            .map(|line| line.rsplit(',').next().unwrap().parse::<f64>().unwrap().to_bits())
+            .collect::<Vec<_>>()
+    };
+    let by_column = values(folder.prints(&["--csv", "f.mtx"]));
+    let by_cell = values(folder.prints(&["--csv", "f.mtx", "--permutation", "order.txt"]));
+    assert_eq!(by_cell, [by_column[2], by_column[0], by_column[1]]);
+    let library = redstartgilt::CholeskyFactor::from_triplets(
+        3,
+        &[
+            (0, 0, 1.1),
+            (1, 0, -0.3),
+            (2, 0, 0.7),
+            (1, 1, 0.9),
+            (2, 1, 0.2),
+            (2, 2, 0.1),
+        ],
+    )
+    .unwrap();
+    let variances = redstartgilt::selected_inverse_diag(&library).unwrap().values;
+    assert_eq!(
+        by_column,
+        variances.iter().map(|value| value.to_bits()).collect::<Vec<_>>()
+    );
+    // With a limit the entries are selected by another call.
+    let limited = ["--csv", "f.mtx", "--permutation", "order.txt", "--limit", "6"];
+    assert_eq!(values(folder.prints(&limited)), by_cell);
+    // The factor's last column is cell 1.
+    folder.write("pairs.txt", "1 1\n");
+    assert_eq!(
+        folder.prints(&[
+            "--requests=pairs.txt",
+            "--entries",
+            "--csv",
+            "f.mtx",
+            "--permutation=order.txt"
+        ]),
+        format!("row,column,value\n1,1,{:?}\n", f64::from_bits(by_cell[0]))
+    );
+    folder.write("pairs.txt", "2 3\n");
+    let entries = folder.prints(&[
+        "--requests=pairs.txt",
+        "--entries",
+        "--csv",
+        "f.mtx",
+        "--permutation=order.txt",
+    ]);
+    let places = entries
+        .lines()
+        .skip(1)
+        .map(|line| line.rsplit_once(',').unwrap().0.to_string())
+        .collect::<Vec<_>>();
+    assert_eq!(places, ["1,1", "3,1", "3,2", "3,3"]);
+}
+
+#[test]
+fn malformed_factors() {
+    let folder = Folder::new("malformed");
+    let head = "%%MatrixMarket matrix coordinate real general\n";
+    let after = |text: &str| format!("{head}{text}");
+    let cases = [
+        (String::new(), "f.mtx: the file is empty"),
+        (
+            "1 1 1\n".into(),
+            "f.mtx:1: the first line must be a header such as %%MatrixMarket matrix coordinate real general",
+        ),
+        (
+            "%%MatrixMarket matrix array real general\n".into(),
+            "f.mtx:1: a header with \"matrix coordinate\" is needed, not \"matrix array\"",
+        ),
+        (
+            "%%MatrixMarket matrix coordinate complex general\n".into(),
+            "f.mtx:1: values must be real or integer, not complex",
+        ),
+        (
+            "%%MatrixMarket matrix coordinate pattern general\n".into(),
+            "f.mtx:1: values must be real or integer, not pattern",
+        ),
+        (
+            "%%MatrixMarket matrix coordinate real hermitian\n".into(),
+            "f.mtx:1: the matrix must be general or symmetric, not hermitian",
+        ),
+        (after(""), "f.mtx: the line with rows, columns and entries is missing"),
+        (
+            after("% no sizes\n"),
+            "f.mtx: the line with rows, columns and entries is missing",
+        ),
+        (
+            after("2 2\n"),
+            "f.mtx:2: rows, columns and entries must be three whole numbers",
+        ),
+        (
+            after("2 2 -1\n"),
+            "f.mtx:2: rows, columns and entries must be three whole numbers",
+        ),
+        (
+            after("2 3 1\n"),
+            "f.mtx:2: a factor is square, but this has 2 rows and 3 columns",
+        ),
+        (after("2 2 1\n"), "f.mtx: the file says it has 1 entries, but has 0"),
+        (
+            after("2 2 1\n1 1 1\n\n2 2 1\n"),
+            "f.mtx:5: more entries than the 1 that the file says it has",
+        ),
+        (
+            after("2 2 1\n1 1\n"),
+            "f.mtx:3: an entry is row, column and value, but this line has 2 words",
+        ),
+        (after("2 2 1\n0 1 1\n"), "f.mtx:3: row 0 is not from 1 to 2"),
+        (after("2 2 1\n1 3 1\n"), "f.mtx:3: column 3 is not from 1 to 2"),
+        (after("2 2 1\n-1 1 1\n"), "f.mtx:3: row -1 is not a whole number from 1"),
+        (
+            after("2 2 1\n1 1.0 1\n"),
+            "f.mtx:3: column 1.0 is not a whole number from 1",
+        ),
+        (after("2 2 1\n1 1 one\n"), "f.mtx:3: value one is not a number"),
+        (after("2 2 1\n1 1 NaN\n"), "f.mtx:3: value NaN is not finite"),
+        (after("2 2 1\n1 1 1e999\n"), "f.mtx:3: value 1e999 is not finite"),
+        (
+            after("2 2 3\n1 1 1\n2 2 1\n1 1 2\n"),
+            "f.mtx:5: entry (1, 1) is there twice, first in line 3",
+        ),
+        (
+            "%%MatrixMarket matrix coordinate integer general\n1 1 1\n1 1 1.5\n".into(),
+            "f.mtx:3: value 1.5 is not a whole number of 64 bits",
+        ),
+        (
+            "%%MatrixMarket matrix coordinate integer general\n1 1 1\n1 1 9007199254740993\n".into(),
+            "f.mtx:3: value 9007199254740993 has too many digits for a 64-bit float",
+        ),
+        (
+            "%%MatrixMarket matrix coordinate integer general\n1 1 1\n1 1 9223372036854775807\n".into(),
+            "f.mtx:3: value 9223372036854775807 has too many digits for a 64-bit float",
+        ),
+        (
+            "%%MatrixMarket matrix coordinate real symmetric\n2 2 1\n1 2 1\n".into(),
+            "f.mtx:3: entry (1, 2) is above the diagonal of a symmetric file",
+        ),
+    ];
+    for (text, message) in cases {
+        folder.write("f.mtx", &text);
+        assert_eq!(folder.fails(&["f.mtx"], 1), message, "{text:?}");
+    }
+    folder.write("f.mtx", b"%%MatrixMarket matrix coordinate real general\n\xff\n");
+    assert_eq!(folder.fails(&["f.mtx"], 1), "f.mtx:2: the line is not text");
+    assert!(folder.fails(&["absent.mtx"], 1).starts_with("absent.mtx: "));
+}
+
+#[test]
+fn malformed_lists() {
+    let folder = Folder::new("lists");
+    folder.write("f2.mtx", F2);
+    for (text, message) in [
+        ("1\n", "list.txt:1: a line has two indices, but this one has 1 words"),
+        ("% pairs\n1 1\n0 1\n", "list.txt:3: 0 is not a whole number from 1"),
+        ("1 x\n", "list.txt:1: x is not a whole number from 1"),
+    ] {
+        folder.write("list.txt", text);
+        assert_eq!(folder.fails(&["f2.mtx", "--requests", "list.txt"], 1), message);
+    }
+    for (text, message) in [
+        ("1 2\n", "list.txt:1: a line has one index, but this one has 2 words"),
+        ("1\n0\n", "list.txt:2: 0 is not a whole number from 1"),
+    ] {
+        folder.write("list.txt", text);
+        assert_eq!(folder.fails(&["f2.mtx", "--permutation", "list.txt"], 1), message);
+    }
+}
+
+#[test]
+fn refusals_of_the_library() {
+    let folder = Folder::new("refused");
+    folder.write("f2.mtx", F2);
+    let refused = |words: &[&str], number: i32, place: &str| {
+        let message = folder.fails(words, 10 + number);
+        let error = redstartgilt::Error::from_number(number as u32).unwrap();
+        assert_eq!(message, format!("{place}: {error}"));
+    };
+    let head = "%%MatrixMarket matrix coordinate real general\n";
+    for size in ["2049 2049 0", "18446744073709551615 18446744073709551615 0"] {
+        folder.write("f.mtx", format!("{head}{size}\n"));
+        refused(&["f.mtx"], 1, "f.mtx");
+    }
+    folder.write("list.txt", "1\n2\n3\n");
+    refused(&["f2.mtx", "--permutation", "list.txt"], 4, "list.txt");
+    folder.write("list.txt", "1 1\n3 1\n");
+    refused(&["f2.mtx", "--requests", "list.txt"], 5, "list.txt:2");
+    for entry in ["1 1 0", "1 1 -1", "1 1 -0.0"] {
+        folder.write("f.mtx", format!("{head}1 1 1\n{entry}\n"));
+        refused(&["f.mtx"], 6, "f.mtx");
+        refused(&["f.mtx", "--entries"], 6, "f.mtx");
+    }
+    let full_column = (1..=60).map(|row| format!("{row} 1 1\n")).collect::<String>();
+    let diagonal = (2..=60).map(|row| format!("{row} {row} 1\n")).collect::<String>();
+    folder.write("f.mtx", format!("{head}60 60 119\n{full_column}{diagonal}"));
+    refused(&["f.mtx"], 8, "f.mtx");
+    folder.write("list.txt", "1\n9\n");
+    refused(&["f2.mtx", "--permutation", "list.txt"], 10, "list.txt");
+    folder.write("list.txt", "2\n2\n");
+    refused(&["f2.mtx", "--permutation", "list.txt"], 11, "list.txt");
+    // Past the limit is a status of the library, not a refusal.
+    let past = "ClosureTooLarge: the requests need more than 2 entries, so none is given; raise --limit";
+    assert_eq!(folder.fails(&["f2.mtx", "--limit", "2"], 3), past);
+    assert_eq!(
+        folder.prints(&["f.mtx", "--limit", "1830", "--csv"]).lines().count(),
+        61
+    );
+}
+
+#[test]
+fn bad_usage() {
+    let folder = Folder::new("usage");
+    folder.write("f2.mtx", F2);
+    for (words, message) in [
+        (&[][..], "no factor is given"),
+        (&["--csv"], "no factor is given"),
+        (&["f2.mtx", "f2.mtx"], "more than one factor is given"),
+        (&["f2.mtx", "--colour"], "there is no option --colour"),
+        (&["f2.mtx", "-"], "there is no option -"),
+        (&["f2.mtx", "--limit"], "--limit needs a value"),
+        (&["f2.mtx", "--limit", "-1"], "--limit needs a whole number, not -1"),
+        (&["f2.mtx", "--csv=yes"], "--csv takes no value"),
+        (&["f2.mtx", "--csv", "--csv"], "--csv is given twice"),
+        (
+            &["f2.mtx", "--grid", "2"],
+            "--grid needs two numbers above 0 as in 24x16, not 2",
+        ),
+        (&["f2.mtx", "--grid", "2x1"], "--svg and --grid go together"),
+        (&["f2.mtx", "--svg", "map.svg"], "--svg and --grid go together"),
+        (
+            &["f2.mtx", "--svg", "map.svg", "--grid", "2x2"],
+            "--grid 2x2 does not have the factor's 2 cells",
+        ),
+        (&["--demo", "f2.mtx"], "--demo does not go with a factor"),
+        (&["--demo", "--limit", "3"], "--demo does not go with --limit"),
+        (&["--demo", "--entries"], "--demo does not go with --entries"),
+    ] {
+        assert_eq!(folder.fails(words, 2), format!("{message}; try --help"), "{words:?}");
+    }
+    assert!(!folder.0.join("map.svg").exists());
+}
+
+#[test]
+fn help_and_version() {
+    let folder = Folder::new("help");
+    let help = folder.prints(&["--help"]);
+    for word in [
+        "--requests",
+        "--permutation",
+        "--limit",
+        "--entries",
+        "--csv",
+        "--svg",
+        "--grid",
+        "--demo",
+        "--version",
+    ] {
+        assert!(help.contains(word), "{word}");
+    }
+    for error in redstartgilt::Error::ALL {
+        assert!(help.contains(&format!("  {}  {error}\n", 10 + error.number())));
+    }
+    assert_eq!(
+        folder.prints(&["--version"]),
+        format!("redstartgilt {}\n", env!("CARGO_PKG_VERSION"))
+    );
+    // A name that begins with a dash.
+    folder.write("--f.mtx", F2);
+    assert_eq!(
+        folder.prints(&["--csv", "--", "--f.mtx"]),
+        "cell,variance\n1,5.0\n2,1.0\n"
+    );
+}
+
+/// Checks that tags nest and attributes are quoted, and gives the names of the elements in order.
+fn elements(document: &str) -> Vec<String> {
+    let mut rest = document
+        .strip_prefix("<?xml version=\"1.0\" encoding=\"UTF-8\"?>")
+        .expect("an XML declaration");
+    let (mut open, mut names): (Vec<String>, Vec<String>) = (Vec::new(), Vec::new());
+    while let Some(start) = rest.find('<') {
+        let text = &rest[..start];
+        assert!(!text.contains('>'), "{text}");
+        assert!(open.last().is_some() || text.trim().is_empty(), "{text}");
+        for entity in text.split('&').skip(1) {
+            let name = entity.split_once(';').expect("an entity ends").0;
+            assert!(["amp", "lt", "gt", "quot"].contains(&name), "{name}");
+        }
+        let end = start + rest[start..].find('>').expect("a tag ends");
+        let tag = &rest[start + 1..end];
+        rest = &rest[end + 1..];
+        if let Some(name) = tag.strip_prefix('/') {
+            assert_eq!(open.pop().as_deref(), Some(name));
+            continue;
+        }
+        let (tag, closed) = match tag.strip_suffix('/') {
+            Some(tag) => (tag, true),
+            None => (tag, false),
+        };
+        let (name, mut attributes) = tag.split_once(' ').unwrap_or((tag, ""));
+        assert!(!name.is_empty() && name.chars().all(char::is_alphanumeric), "{name}");
+        let mut seen = Vec::new();
+        while !attributes.is_empty() {
+            let (name, value) = attributes.split_once("=\"").expect("an attribute is name=\"value\"");
+            assert!(!name.is_empty() && !name.contains([' ', '"', '<']), "{name}");
+            assert!(!seen.contains(&name), "{name} twice");
+            seen.push(name);
+            let (_, left) = value.split_once('"').expect("a value ends");
+            assert!(left.is_empty() || left.starts_with(' '), "{left}");
+            attributes = left.trim_start();
+        }
+        names.push(name.to_string());
+        if !closed {
+            open.push(name.to_string());
+        }
+        assert!(names.len() == 1 || closed || open.len() > 1, "one root");
+    }
+    assert!(open.is_empty() && rest.trim().is_empty());
+    assert_eq!(names[0], "svg");
+    names
+}
+
+fn cells(document: &str) -> Vec<&str> {
+    document
+        .lines()
+        .filter(|line| line.contains("class=\"cell\""))
+        .collect()
+}
+
+#[test]
+fn a_picture_of_a_factor() {
+    let folder = Folder::new("picture");
+    folder.write("a<b>&\"c\".mtx", F3);
+    folder.prints(&["a<b>&\"c\".mtx", "--grid", "3x1", "--svg", "map.svg"]);
+    let document = folder.read("map.svg");
+    elements(&document);
+    assert!(document
+        .contains("<text x=\"24\" y=\"30\" font-size=\"18\">Variances of a&lt;b&gt;&amp;&quot;c&quot;.mtx</text>"));
+    assert_eq!(cells(&document).len(), 3);
+    assert!(cells(&document)[0].contains("fill=\"#fde725\"><title>column 1, row 1: 14.0</title>"));
+    assert!(cells(&document)[1].contains("fill=\"#440154\"><title>column 2, row 1: 1.0</title>"));
+    assert!(document.contains("linearGradient"));
+    assert!(!document.contains("no value"));
+    // A cell that is not computed has another colour and a key.
+    folder.write("f3.mtx", F3);
+    folder.write("pairs.txt", "2 2\n");
+    folder.prints(&["f3.mtx", "--grid", "1x3", "--svg", "map.svg", "--requests", "pairs.txt"]);
+    let document = folder.read("map.svg");
+    elements(&document);
+    assert!(cells(&document)[0].contains("<title>column 1, row 1: not computed</title>"));
+    assert!(document.contains("no value"));
+    // No variance at all, so no scale.
+    folder.write("pairs.txt", "");
+    folder.prints(&["f3.mtx", "--grid", "1x3", "--svg", "map.svg", "--requests", "pairs.txt"]);
+    let document = folder.read("map.svg");
+    elements(&document);
+    assert!(!document.contains("linearGradient"));
+    assert!(folder
+        .fails(&["f3.mtx", "--grid", "1x3", "--svg", "no/map.svg"], 1)
+        .starts_with("no/map.svg: "));
+}
+
+#[test]
+fn the_demo() {
+    let folder = Folder::new("demo");
+    let table = folder.prints(&["--demo"]);
+    assert!(table.starts_with("A harbour of 24 x 16 cells"));
+    assert!(table.contains("Complete: "));
+    assert!(table.contains("mean depth of the turning basin"));
+    let csv = folder.prints(&["--demo", "--csv", "--svg", "map.svg"]);
+    let variances = csv
+        .lines()
+        .skip(1)
+        .map(|line| line.rsplit(',').next().unwrap().parse::<f64>().unwrap())
+        .collect::<Vec<_>>();
+    assert!(variances.iter().all(|variance| *variance > 0.0 && *variance < 64.0));
+    let document = folder.read("map.svg");
+    let names = elements(&document);
+    assert_eq!(cells(&document).len(), 24 * 16);
+    assert_eq!(document.matches(": land</title>").count(), 24 * 16 - variances.len());
+    assert_eq!(names.iter().filter(|name| *name == "stop").count(), 5);
+    assert_eq!(folder.prints(&["--demo", "--svg", "again.svg"]), table);
+    assert_eq!(folder.read("again.svg"), document);
+}

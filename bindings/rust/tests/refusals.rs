@@ -1,0 +1,368 @@
+//! Every refusal, as an error of the safe functions or of the calls on lent lists.
+
+use redstartgilt::lent::{self, EntryLists, FactorLists, OperatorLists, ResultLists};
+use redstartgilt::{
+    selected_inverse_diag, selected_inverse_entries, selected_inverse_entries_with_limit,
+    selected_inverse_transformed_diag, stabilize_variances, CholeskyFactor, Error, Permutation, SparseRowOperator,
+    SparseSymmetricPattern, VarianceFloor, MAX_ENTRIES,
+};
+
+fn f2() -> CholeskyFactor {
+    CholeskyFactor::new(2, vec![0, 2, 3], vec![0, 1, 1], vec![1.0, 2.0, 1.0]).unwrap()
+}
+
+#[test]
+fn numbers_and_words() {
+    for (place, error) in Error::ALL.into_iter().enumerate() {
+        let number = place as u32 + 1;
+        assert_eq!(error.number(), number);
+        assert_eq!(Error::from_number(number), Some(error));
+        assert_eq!(error.to_string(), format!("refusal {number}: {}", error.reason()));
+    }
+    assert_eq!(Error::from_number(0), None);
+    assert_eq!(Error::from_number(15), None);
+}
+
+#[test]
+fn too_large() {
+    assert_eq!(CholeskyFactor::from_triplets(2_049, &[]), Err(Error::TooLarge));
+    assert_eq!(
+        CholeskyFactor::new(1, vec![0, 1], vec![0; MAX_ENTRIES + 1], vec![]),
+        Err(Error::TooLarge)
+    );
+    let identity = (0..2_049).collect::<Vec<_>>();
+    assert_eq!(Permutation::from_orig_to_perm(identity.clone()), Err(Error::TooLarge));
+    assert_eq!(Permutation::identity(2_049).validate(), Err(Error::TooLarge));
+    assert_eq!(SparseRowOperator::new(1, vec![vec![]; 2_049]), Err(Error::TooLarge));
+    assert_eq!(SparseRowOperator::new(2_049, vec![]), Err(Error::TooLarge));
+    assert_eq!(
+        stabilize_variances(&vec![1.0; MAX_ENTRIES + 1], VarianceFloor::Zero),
+        Err(Error::TooLarge)
+    );
+}
+
+#[test]
+fn broken_starts() {
+    let broken = |starts: &[u32], rows: usize, values: usize| {
+        CholeskyFactor::new(2, starts.to_vec(), (0..rows as u32).collect(), vec![1.0; values])
+    };
+    for (starts, rows, values) in [
+        (&[0, 1][..], 1, 1),
+        (&[0, 1, 2, 2], 2, 2),
+        (&[1, 1, 2], 2, 2),
+        (&[0, 2, 1], 1, 1),
+        (&[0, 1, 1], 2, 2),
+        (&[0, 1, 2], 2, 1),
+        (&[], 0, 0),
+    ] {
+        assert_eq!(broken(starts, rows, values), Err(Error::BrokenStarts), "{starts:?}");
+    }
+}
+
+#[test]
+fn broken_rows() {
+    for rows in [[1, 0, 1], [0, 0, 1], [0, 2, 1], [0, u32::MAX, 1]] {
+        let factor = CholeskyFactor::new(2, vec![0, 2, 3], rows.to_vec(), vec![1.0; 3]);
+        assert_eq!(factor, Err(Error::BrokenRows), "{rows:?}");
+    }
+    for triplets in [
+        [(0, 0, 1.0), (0, 0, 1.0)],
+        [(0, 0, 1.0), (2, 0, 1.0)],
+        [(0, 0, 1.0), (0, 2, 1.0)],
+        [(0, 0, 1.0), (usize::MAX, usize::MAX, 1.0)],
+    ] {
+        let factor = CholeskyFactor::from_triplets(2, &triplets);
+        assert_eq!(factor, Err(Error::BrokenRows), "{triplets:?}");
+    }
+}
+
+#[test]
+fn dimension_mismatch() {
+    for dimension in [0, 1, 3, usize::MAX] {
+        let requested = SparseSymmetricPattern::new(dimension);
+        assert_eq!(
+            selected_inverse_entries(&f2(), &requested),
+            Err(Error::DimensionMismatch)
+        );
+    }
+    let permutation = Permutation::identity(3);
+    assert_eq!(
+        f2().with_permutation(permutation.clone()),
+        Err(Error::DimensionMismatch)
+    );
+    assert_eq!(
+        permutation.permute_factor_to_original(&[1.0]),
+        Err(Error::DimensionMismatch)
+    );
+    assert_eq!(f2().permute_factor_to_original(&[1.0]), Err(Error::DimensionMismatch));
+    let operator = SparseRowOperator::identity(3);
+    assert_eq!(
+        selected_inverse_transformed_diag(&f2(), &operator),
+        Err(Error::DimensionMismatch)
+    );
+    let permuted = f2().with_permutation(Permutation::identity(2)).unwrap();
+    assert_eq!(
+        selected_inverse_transformed_diag(&permuted, &operator),
+        Err(Error::DimensionMismatch)
+    );
+    assert_eq!(
+        operator.permute_columns_to_factor(&Permutation::identity(2)),
+        Err(Error::DimensionMismatch)
+    );
+}
+
+#[test]
+fn request_out_of_range() {
+    let mut requested = SparseSymmetricPattern::new(2);
+    assert_eq!(requested.insert(2, 0), Err(Error::RequestOutOfRange));
+    assert_eq!(requested.insert(0, usize::MAX), Err(Error::RequestOutOfRange));
+    assert!(requested.pairs.is_empty());
+    for pair in [(2, 0), (usize::MAX, 0), (1 << 32, 0)] {
+        requested.pairs.clear();
+        requested.pairs.insert(pair);
+        assert_eq!(
+            selected_inverse_entries(&f2(), &requested),
+            Err(Error::RequestOutOfRange)
+        );
+    }
+}
+
+#[test]
+fn non_positive_definite() {
+    for diagonal in [0.0, -0.0, -1.0, f64::NEG_INFINITY] {
+        let factor = CholeskyFactor::from_triplets(2, &[(0, 0, 1.0), (1, 1, diagonal)]).unwrap();
+        assert_eq!(selected_inverse_diag(&factor), Err(Error::NonPositiveDefinite));
+        assert_eq!(
+            selected_inverse_entries_with_limit(&factor, &SparseSymmetricPattern::new(2), 0),
+            Err(Error::NonPositiveDefinite)
+        );
+        assert_eq!(
+            selected_inverse_transformed_diag(&factor, &SparseRowOperator::identity(2)),
+            Err(Error::NonPositiveDefinite)
+        );
+    }
+}
+
+#[test]
+fn not_covered() {
+    // A full first column needs every pair: 1,830 of them, where 119 entries are stored.
+    let n = 60;
+    let triplets = (0..n)
+        .map(|row| (row, 0, 1.0))
+        .chain((1..n).map(|row| (row, row, 1.0)))
+        .collect::<Vec<_>>();
+    let factor = CholeskyFactor::from_triplets(n, &triplets).unwrap();
+    assert!(lent::pair_total(n) > lent::default_limit(factor.nnz()));
+    assert_eq!(selected_inverse_diag(&factor), Err(Error::NotCovered));
+    let result = selected_inverse_transformed_diag(&factor, &SparseRowOperator::identity(n)).unwrap();
+    assert!(result.estimate.is_none());
+    assert_eq!(result.diagnostics.closure_pairs, result.diagnostics.closure_limit + 1);
+}
+
+#[test]
+fn broken_operator() {
+    for cell in [2, usize::MAX] {
+        let rows = vec![vec![(0, 1.0), (cell, 1.0)]];
+        assert_eq!(SparseRowOperator::new(2, rows.clone()), Err(Error::BrokenOperator));
+        let operator = SparseRowOperator { ncols: 2, rows };
+        assert_eq!(
+            selected_inverse_transformed_diag(&f2(), &operator),
+            Err(Error::BrokenOperator)
+        );
+        assert_eq!(
+            SparseSymmetricPattern::from_transformed_operator(&operator),
+            Err(Error::BrokenOperator)
+        );
+        let permuted = f2().with_permutation(Permutation::identity(2)).unwrap();
+        assert_eq!(
+            selected_inverse_transformed_diag(&permuted, &operator),
+            Err(Error::BrokenOperator)
+        );
+    }
+}
+
+#[test]
+fn broken_permutations() {
+    let from = Permutation::from_orig_to_perm;
+    assert_eq!(from(vec![9, 0, 0]), Err(Error::IndexTooLarge));
+    assert_eq!(from(vec![0, usize::MAX, 0]), Err(Error::IndexTooLarge));
+    assert_eq!(from(vec![0, 0, 9]), Err(Error::DuplicateEntry));
+    let new = Permutation::new;
+    assert_eq!(new(vec![0, 1], vec![0]), Err(Error::NotInverse));
+    assert_eq!(new(vec![2, 0, 1], vec![2, 0, 1]), Err(Error::NotInverse));
+    assert_eq!(new(vec![0, 1], vec![0, usize::MAX]), Err(Error::NotInverse));
+    let tampered = Permutation {
+        orig_to_perm: vec![0, 0],
+        perm_to_orig: vec![0, 1],
+    };
+    assert_eq!(f2().with_permutation(tampered), Err(Error::DuplicateEntry));
+}
+
+#[test]
+fn floors() {
+    let scaled = |scale: f64| stabilize_variances(&[1.0], VarianceFloor::PositiveMean { scale });
+    for value in [f64::NAN, f64::INFINITY, f64::NEG_INFINITY] {
+        assert_eq!(
+            stabilize_variances(&[1.0, value], VarianceFloor::Zero),
+            Err(Error::NotFinite)
+        );
+        assert_eq!(scaled(value), Err(Error::BadScale));
+    }
+    assert_eq!(scaled(-1.0), Err(Error::BadScale));
+    assert_eq!(scaled(-0.0).unwrap().floor, 0.0);
+}
+
+#[test]
+fn too_short() {
+    let selected = selected_inverse_entries(&f2(), &SparseSymmetricPattern::diagonal(2)).unwrap();
+    let inverse = selected.inverse.unwrap();
+    let mut output = [7.0; 3];
+    assert_eq!(inverse.diag_into(&mut output[..1]), Err(Error::TooShort));
+    assert_eq!(output, [7.0; 3]);
+    assert_eq!(inverse.diag_into(&mut output), Ok(()));
+    assert_eq!(output, [5.0, 1.0, 7.0]);
+}
+
+const F2: FactorLists<'static> = FactorLists {
+    n: 2,
+    starts: &[0, 2, 3],
+    rows: &[0, 1, 1],
+    values: &[1.0, 2.0, 1.0],
+};
+const SUM: OperatorLists<'static> = OperatorLists {
+    ncols: 2,
+    row_starts: &[0, 2],
+    columns: &[0, 1],
+    weights: &[1.0, 1.0],
+};
+
+/// Lists of these lengths filled with 7, to see what a call changes.
+struct Lent {
+    starts: Vec<u32>,
+    rows: Vec<u32>,
+    values: Vec<f64>,
+    scratch: Vec<u32>,
+    output: Vec<f64>,
+}
+
+impl Lent {
+    fn new([starts, rows, values, scratch, output]: [usize; 5]) -> Self {
+        Self {
+            starts: vec![7; starts],
+            rows: vec![7; rows],
+            values: vec![7.0; values],
+            scratch: vec![7; scratch],
+            output: vec![7.0; output],
+        }
+    }
+
+    fn untouched(&self) -> bool {
+        let words = [&self.starts, &self.rows, &self.scratch];
+        let values = [&self.values, &self.output];
+        words.iter().all(|list| list.iter().all(|word| *word == 7))
+            && values.iter().all(|list| list.iter().all(|value| *value == 7.0))
+    }
+
+    fn result(&mut self) -> (ResultLists<'_>, &mut [u32], &mut [f64]) {
+        (
+            ResultLists {
+                starts: &mut self.starts,
+                rows: &mut self.rows,
+                values: &mut self.values,
+            },
+            &mut self.scratch,
+            &mut self.output,
+        )
+    }
+}
+
+#[test]
+fn short_lists_are_left_as_they_were() {
+    let enough = [3, 3, 3, 14, 2];
+    for place in 0..enough.len() {
+        let mut lengths = enough;
+        lengths[place] -= 1;
+        let mut lists = Lent::new(lengths);
+        let (result, scratch, output) = lists.result();
+        let reply = lent::selected_inverse_diag_with_diagnostics(F2, &[0, 1], result, scratch, output);
+        assert_eq!(reply, Err(Error::TooShort), "{place}");
+        assert!(lists.untouched());
+    }
+    let mut lists = Lent::new(enough);
+    let (result, scratch, output) = lists.result();
+    lent::selected_inverse_diag_with_diagnostics(F2, &[1, 0], result, scratch, output).unwrap();
+    assert_eq!(lists.output, [1.0, 5.0]);
+    assert_eq!(lists.scratch, [0; 14]);
+}
+
+#[test]
+fn results_need_no_more_than_the_limit() {
+    let mut lists = Lent::new([3, 1, 1, 14, 0]);
+    let (result, scratch, _) = lists.result();
+    let diagnostics = lent::selected_inverse_entries_with_limit(F2, 2, &[1], &[1], 1, result, scratch).unwrap();
+    assert!(diagnostics.is_complete());
+    assert_eq!(
+        (lists.starts, lists.rows, lists.values),
+        (vec![0, 0, 1], vec![1], vec![1.0])
+    );
+}
+
+#[test]
+fn lent_lists_of_unequal_length() {
+    let mut lists = Lent::new([3, 3, 3, 14, 2]);
+    let (result, scratch, _) = lists.result();
+    let reply = lent::selected_inverse_entries(F2, 2, &[1], &[], result, scratch);
+    assert_eq!(reply, Err(Error::DimensionMismatch));
+    let (result, scratch, output) = lists.result();
+    let reply = lent::selected_inverse_diag_with_diagnostics(F2, &[0], result, scratch, output);
+    assert_eq!(reply, Err(Error::DimensionMismatch));
+    let (result, scratch, output) = lists.result();
+    let broken = OperatorLists { row_starts: &[], ..SUM };
+    let reply = lent::selected_inverse_transformed_diag(F2, broken, result, scratch, output);
+    assert_eq!(reply, Err(Error::BrokenOperator));
+    assert!(lists.untouched());
+    let (result, scratch, output) = lists.result();
+    lent::selected_inverse_transformed_diag(F2, SUM, result, scratch, output).unwrap();
+    assert_eq!(lists.output, [2.0, 7.0]);
+}
+
+#[test]
+fn lookups_in_broken_lists() {
+    let entries = EntryLists {
+        starts: &[0, 2, 1],
+        rows: &[1, 0],
+        values: &[1.0, 1.0],
+    };
+    assert_eq!(lent::get(entries, 1, 0), Err(Error::BrokenRows));
+    assert_eq!(lent::get(entries, 1, 1), Err(Error::BrokenStarts));
+    assert_eq!(lent::get(entries, 2, 2), Err(Error::NotCovered));
+    let nothing = EntryLists {
+        starts: &[],
+        rows: &[],
+        values: &[],
+    };
+    assert_eq!(lent::get(nothing, 0, 0), Err(Error::BrokenStarts));
+    assert_eq!(lent::diag(nothing, &mut []), Err(Error::BrokenStarts));
+}
+
+#[test]
+fn pattern_lists() {
+    let (mut scratch, mut rows, mut columns) = ([7; 3], [7; 2], [7; 3]);
+    assert_eq!(
+        lent::from_cholesky_factor(F2, &mut scratch[..2], &mut rows, &mut columns),
+        Err(Error::TooShort)
+    );
+    assert_eq!(scratch, [7; 3]);
+    assert_eq!(
+        lent::from_cholesky_factor(F2, &mut scratch, &mut rows, &mut columns),
+        Err(Error::TooShort)
+    );
+    assert_eq!((scratch, rows, columns), ([0; 3], [7; 2], [7; 3]));
+    let mut rows = [7; 4];
+    let mut columns = [7; 4];
+    assert_eq!(
+        lent::from_transformed_operator(SUM, &mut scratch, &mut rows, &mut columns),
+        Ok(3)
+    );
+    assert_eq!((rows, columns), ([0, 1, 1, 7], [0, 0, 1, 7]));
+}

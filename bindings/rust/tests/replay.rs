@@ -1,0 +1,506 @@
+//! The linked library on the cases of program `replay`: every answer, and every place of every lent list, is that of
+//! crates/replay/stdout. The text form is in replay/README.md.
+
+use redstartgilt::sys;
+use std::collections::HashMap;
+use std::fmt::Write;
+use std::path::PathBuf;
+
+/// The fields of a case, each its words after the name.
+struct Case<'a> {
+    head: &'a str,
+    kind: &'a str,
+    fields: HashMap<&'a str, Vec<&'a str>>,
+}
+
+impl<'a> Case<'a> {
+    fn has(&self, name: &str) -> bool {
+        self.fields.contains_key(name)
+    }
+
+    fn word(&self, name: &str) -> &'a str {
+        self.fields[name][0]
+    }
+
+    fn number(&self, name: &str) -> usize {
+        self.word(name).parse().unwrap()
+    }
+
+    fn items(&self, name: &str) -> &[&'a str] {
+        let words = &self.fields[name];
+        assert_eq!(words[0].parse::<usize>().unwrap(), words.len() - 1, "{name}");
+        &words[1..]
+    }
+
+    fn words(&self, name: &str) -> Vec<u32> {
+        self.items(name).iter().map(|word| word.parse().unwrap()).collect()
+    }
+
+    fn values(&self, name: &str) -> Vec<f64> {
+        self.items(name).iter().map(|word| value(word)).collect()
+    }
+
+    /// A list lent for writing, or one of 7777s.
+    fn lent_words(&self, name: &str, length: usize) -> Vec<u32> {
+        if self.has(name) {
+            self.words(name)
+        } else {
+            vec![7777; length]
+        }
+    }
+
+    fn lent_values(&self, name: &str, length: usize) -> Vec<f64> {
+        if self.has(name) {
+            self.values(name)
+        } else {
+            vec![7777.0; length]
+        }
+    }
+}
+
+fn value(digits: &str) -> f64 {
+    f64::from_bits(u64::from_str_radix(digits, 16).unwrap())
+}
+
+fn shown(value: f64) -> String {
+    if value.is_nan() {
+        "nan".to_string()
+    } else {
+        format!("{:016x}", value.to_bits())
+    }
+}
+
+/// Items that `same` joins are written once, as item*k.
+fn put_items<T>(
+    answer: &mut String,
+    name: &str,
+    items: &[T],
+    same: impl Fn(&T, &T) -> bool,
+    show: impl Fn(&T) -> String,
+) {
+    let _ = write!(answer, "{name} {}", items.len());
+    let mut place = 0;
+    while place < items.len() {
+        let rest = items[place..].iter();
+        let times = rest.skip(1).take_while(|item| same(&items[place], item)).count() + 1;
+        let _ = match times {
+            1 => write!(answer, " {}", show(&items[place])),
+            _ => write!(answer, " {}*{times}", show(&items[place])),
+        };
+        place += times;
+    }
+    answer.push('\n');
+}
+
+fn put_words(answer: &mut String, name: &str, list: &[u32]) {
+    put_items(answer, name, list, u32::eq, u32::to_string);
+}
+
+/// Zeros and NaNs are written one by one.
+fn put_values(answer: &mut String, name: &str, list: &[f64]) {
+    put_items(answer, name, list, |a, b| a == b && *a != 0.0, |value| shown(*value));
+}
+
+fn put_reply(answer: &mut String, refusal: u32) -> bool {
+    let _ = match refusal {
+        0 => writeln!(answer, "reply ok"),
+        number => writeln!(answer, "reply {number}"),
+    };
+    refusal == 0
+}
+
+fn put_selected(answer: &mut String, reply: &sys::redstartgilt_selected) {
+    if put_reply(answer, reply.refusal) {
+        let status = match reply.status {
+            sys::REDSTARTGILT_COMPLETE => "Complete",
+            sys::REDSTARTGILT_CLOSURE_TOO_LARGE => "ClosureTooLarge",
+            other => panic!("status {other}"),
+        };
+        let _ = write!(
+            answer,
+            "status {status}\nrequested {}\nclosure {}\nfactor {}\nlimit {}\nratio {}\n",
+            reply.requested_pairs,
+            reply.closure_pairs,
+            reply.factor_pairs,
+            reply.closure_limit,
+            shown(reply.closure_over_factor)
+        );
+    } else {
+        assert_eq!(
+            *reply,
+            sys::redstartgilt_selected {
+                refusal: reply.refusal,
+                status: 0,
+                requested_pairs: 0,
+                closure_pairs: 0,
+                factor_pairs: 0,
+                closure_limit: 0,
+                closure_over_factor: 0.0,
+            }
+        );
+    }
+}
+
+fn put_gets(answer: &mut String, starts: &[u32], rows: &[u32], values: &[f64], case: &Case<'_>) {
+    let items = case
+        .words("prows")
+        .into_iter()
+        .zip(case.words("pcols"))
+        .map(|(row, column)| {
+            let reply = unsafe {
+                sys::redstartgilt_get(
+                    starts.as_ptr(),
+                    starts.len(),
+                    rows.as_ptr(),
+                    rows.len(),
+                    values.as_ptr(),
+                    values.len(),
+                    row as usize,
+                    column as usize,
+                )
+            };
+            match reply.refusal {
+                0 => shown(reply.value),
+                8 => "none".to_string(),
+                number => format!("refused-{number}"),
+            }
+        })
+        .collect::<Vec<_>>();
+    put_items(answer, "gets", &items, |_, _| false, String::clone);
+}
+
+/// Entries, the diagonal in original order, and operator variances: all take a factor and fill result lists.
+fn selected(answer: &mut String, case: &Case<'_>) {
+    let n = case.number("n");
+    let (starts, rows, values) = (case.words("starts"), case.words("rows"), case.values("values"));
+    let mut result_starts = case.lent_words("lstarts", 4_608);
+    let mut result_rows = case.lent_words("lrows", 33_024);
+    let mut result_values = case.lent_values("lvalues", 33_024);
+    let mut scratch = case.lent_words("lscratch", 67_072);
+    let mut output = case.lent_values("lout", 4_608);
+    let reply = match case.kind {
+        "entries" => {
+            let (request_rows, request_columns) = (case.words("rrows"), case.words("rcols"));
+            let dimension = case.number("rdim");
+            match case.word("limit") {
+                "default" => unsafe {
+                    sys::redstartgilt_selected_inverse_entries(
+                        n,
+                        starts.as_ptr(),
+                        starts.len(),
+                        rows.as_ptr(),
+                        rows.len(),
+                        values.as_ptr(),
+                        values.len(),
+                        dimension,
+                        request_rows.as_ptr(),
+                        request_rows.len(),
+                        request_columns.as_ptr(),
+                        request_columns.len(),
+                        result_starts.as_mut_ptr(),
+                        result_starts.len(),
+                        result_rows.as_mut_ptr(),
+                        result_rows.len(),
+                        result_values.as_mut_ptr(),
+                        result_values.len(),
+                        scratch.as_mut_ptr(),
+                        scratch.len(),
+                    )
+                },
+                limit => unsafe {
+                    sys::redstartgilt_selected_inverse_entries_with_limit(
+                        n,
+                        starts.as_ptr(),
+                        starts.len(),
+                        rows.as_ptr(),
+                        rows.len(),
+                        values.as_ptr(),
+                        values.len(),
+                        dimension,
+                        request_rows.as_ptr(),
+                        request_rows.len(),
+                        request_columns.as_ptr(),
+                        request_columns.len(),
+                        limit.parse().unwrap(),
+                        result_starts.as_mut_ptr(),
+                        result_starts.len(),
+                        result_rows.as_mut_ptr(),
+                        result_rows.len(),
+                        result_values.as_mut_ptr(),
+                        result_values.len(),
+                        scratch.as_mut_ptr(),
+                        scratch.len(),
+                    )
+                },
+            }
+        }
+        "diagorig" => {
+            let permutation = case.words("perm");
+            unsafe {
+                sys::redstartgilt_selected_inverse_diag_with_diagnostics(
+                    n,
+                    starts.as_ptr(),
+                    starts.len(),
+                    rows.as_ptr(),
+                    rows.len(),
+                    values.as_ptr(),
+                    values.len(),
+                    permutation.as_ptr(),
+                    permutation.len(),
+                    result_starts.as_mut_ptr(),
+                    result_starts.len(),
+                    result_rows.as_mut_ptr(),
+                    result_rows.len(),
+                    result_values.as_mut_ptr(),
+                    result_values.len(),
+                    scratch.as_mut_ptr(),
+                    scratch.len(),
+                    output.as_mut_ptr(),
+                    output.len(),
+                )
+            }
+        }
+        _ => {
+            let (row_starts, columns) = (case.words("ostarts"), case.words("ocols"));
+            let weights = case.values("oweights");
+            unsafe {
+                sys::redstartgilt_selected_inverse_transformed_diag(
+                    n,
+                    starts.as_ptr(),
+                    starts.len(),
+                    rows.as_ptr(),
+                    rows.len(),
+                    values.as_ptr(),
+                    values.len(),
+                    case.number("ncols"),
+                    row_starts.as_ptr(),
+                    row_starts.len(),
+                    columns.as_ptr(),
+                    columns.len(),
+                    weights.as_ptr(),
+                    weights.len(),
+                    result_starts.as_mut_ptr(),
+                    result_starts.len(),
+                    result_rows.as_mut_ptr(),
+                    result_rows.len(),
+                    result_values.as_mut_ptr(),
+                    result_values.len(),
+                    scratch.as_mut_ptr(),
+                    scratch.len(),
+                    output.as_mut_ptr(),
+                    output.len(),
+                )
+            }
+        }
+    };
+    put_selected(answer, &reply);
+    put_words(answer, "starts", &result_starts);
+    put_words(answer, "rows", &result_rows);
+    put_values(answer, "values", &result_values);
+    put_words(answer, "scratch", &scratch);
+    if case.kind != "entries" {
+        put_values(answer, "out", &output);
+    } else if (reply.refusal, reply.status) == (0, sys::REDSTARTGILT_COMPLETE) && case.has("prows") {
+        put_gets(answer, &result_starts[..n + 1], &result_rows, &result_values, case);
+    }
+}
+
+fn diagonals(answer: &mut String, case: &Case<'_>) {
+    let (starts, rows, values) = (case.words("starts"), case.words("rows"), case.values("values"));
+    let mut output = case.lent_values("lout", 4_608);
+    let refusal = unsafe {
+        sys::redstartgilt_diag(
+            starts.as_ptr(),
+            starts.len(),
+            rows.as_ptr(),
+            rows.len(),
+            values.as_ptr(),
+            values.len(),
+            output.as_mut_ptr(),
+            output.len(),
+        )
+    };
+    put_reply(answer, refusal);
+    put_values(answer, "out", &output);
+}
+
+fn patterns(answer: &mut String, case: &Case<'_>) {
+    let mut scratch = case.lent_words("lscratch", 33_024);
+    let mut pair_rows = case.lent_words("lprows", 33_024);
+    let mut pair_columns = case.lent_words("lpcols", 33_024);
+    let names = match case.kind {
+        "patfactor" => ["starts", "rows", "values", "n"],
+        _ => ["ostarts", "ocols", "oweights", "ncols"],
+    };
+    let (starts, indices, values) = (case.words(names[0]), case.words(names[1]), case.values(names[2]));
+    let call = match case.kind {
+        "patfactor" => sys::redstartgilt_from_cholesky_factor,
+        _ => sys::redstartgilt_from_transformed_operator,
+    };
+    let reply = unsafe {
+        call(
+            case.number(names[3]),
+            starts.as_ptr(),
+            starts.len(),
+            indices.as_ptr(),
+            indices.len(),
+            values.as_ptr(),
+            values.len(),
+            scratch.as_mut_ptr(),
+            scratch.len(),
+            pair_rows.as_mut_ptr(),
+            pair_rows.len(),
+            pair_columns.as_mut_ptr(),
+            pair_columns.len(),
+        )
+    };
+    if put_reply(answer, reply.refusal) {
+        let _ = writeln!(answer, "pairs {}", reply.pairs);
+    } else {
+        assert_eq!(reply.pairs, 0);
+    }
+    put_words(answer, "scratch", &scratch);
+    put_words(answer, "prows", &pair_rows);
+    put_words(answer, "pcols", &pair_columns);
+}
+
+fn permutations(answer: &mut String, case: &Case<'_>) {
+    let permutation = case.words("perm");
+    match case.kind {
+        "permvalidate" => {
+            let inverse = case.words("inv");
+            let refusal = unsafe {
+                sys::redstartgilt_validate(permutation.as_ptr(), permutation.len(), inverse.as_ptr(), inverse.len())
+            };
+            put_reply(answer, refusal);
+        }
+        "permfrom" => {
+            let mut inverse = case.lent_words("linv", 4_608);
+            let refusal = unsafe {
+                sys::redstartgilt_from_orig_to_perm(
+                    permutation.as_ptr(),
+                    permutation.len(),
+                    inverse.as_mut_ptr(),
+                    inverse.len(),
+                )
+            };
+            put_reply(answer, refusal);
+            put_words(answer, "inv", &inverse);
+        }
+        _ => {
+            let input = case.values("input");
+            let mut output = case.lent_values("lout", 4_608);
+            let refusal = unsafe {
+                sys::redstartgilt_permute_factor_to_original(
+                    permutation.as_ptr(),
+                    permutation.len(),
+                    input.as_ptr(),
+                    input.len(),
+                    output.as_mut_ptr(),
+                    output.len(),
+                )
+            };
+            put_reply(answer, refusal);
+            put_values(answer, "out", &output);
+        }
+    }
+}
+
+fn floors(answer: &mut String, case: &Case<'_>) {
+    let input = case.values("input");
+    let mut output = case.lent_values("lout", 4_608);
+    let reply = match case.word("floor") {
+        "zero" => unsafe {
+            sys::redstartgilt_stabilize_variances_zero(input.as_ptr(), input.len(), output.as_mut_ptr(), output.len())
+        },
+        _ => unsafe {
+            sys::redstartgilt_stabilize_variances_positive_mean(
+                input.as_ptr(),
+                input.len(),
+                value(case.word("scale")),
+                output.as_mut_ptr(),
+                output.len(),
+            )
+        },
+    };
+    if put_reply(answer, reply.refusal) {
+        let _ = write!(answer, "floor {}\nhits {}\n", shown(reply.floor), reply.floor_hits);
+    }
+    put_values(answer, "out", &output);
+}
+
+fn least(answer: &mut String, case: &Case<'_>) {
+    let input = case.values("input");
+    let reply = unsafe { sys::redstartgilt_count_and_least(input.as_ptr(), input.len()) };
+    let _ = write!(
+        answer,
+        "reply ok\nnegative {}\nleast {}\n",
+        reply.num_negative,
+        shown(reply.min_value)
+    );
+}
+
+fn answer(case: &Case<'_>) -> String {
+    let mut answer = format!("{}\n", case.head);
+    match case.kind {
+        "entries" | "diagorig" | "opvar" => selected(&mut answer, case),
+        "get" => {
+            answer.push_str("reply ok\n");
+            let (starts, rows, values) = (case.words("starts"), case.words("rows"), case.values("values"));
+            put_gets(&mut answer, &starts, &rows, &values, case);
+        }
+        "diag" => diagonals(&mut answer, case),
+        "patfactor" | "patoperator" => patterns(&mut answer, case),
+        "permvalidate" | "permfrom" | "permapply" => permutations(&mut answer, case),
+        "floor" => floors(&mut answer, case),
+        "least" => least(&mut answer, case),
+        kind => panic!("kind {kind}"),
+    }
+    answer.push_str("end\n");
+    answer
+}
+
+/// The lines of each case, from `case` to `end`.
+fn cases(text: &str) -> Vec<Vec<&str>> {
+    let mut cases = Vec::new();
+    for line in text.lines() {
+        if line.starts_with("case ") {
+            cases.push(Vec::new());
+        }
+        cases.last_mut().unwrap().push(line);
+    }
+    assert!(cases.iter().all(|case| case.last() == Some(&"end")));
+    cases
+}
+
+fn text(name: &str) -> String {
+    let file = PathBuf::from(env!("CARGO_MANIFEST_DIR"))
+        .join("../../crates/replay")
+        .join(name);
+    std::fs::read_to_string(&file).unwrap_or_else(|error| panic!("{}: {error}", file.display()))
+}
+
+#[test]
+fn every_answer_is_that_of_the_proved_program() {
+    let (stdin, stdout) = (text("stdin"), text("stdout"));
+    let (cases, expected) = (cases(&stdin), cases(&stdout));
+    assert_eq!(cases.len(), expected.len());
+    assert!(cases.len() >= 1_913);
+    for (lines, expected) in cases.iter().zip(expected) {
+        let fields = lines[1..lines.len() - 1].iter().map(|line| {
+            let mut words = line.split_whitespace();
+            (words.next().unwrap(), words.collect())
+        });
+        let case = Case {
+            head: lines[0],
+            kind: lines[0].split_whitespace().nth(2).unwrap(),
+            fields: fields.collect(),
+        };
+        let found = answer(&case);
+        let found = found.lines().collect::<Vec<_>>();
+        for (found, expected) in found.iter().zip(&expected) {
+            assert_eq!(found, expected, "{}", case.head);
+        }
+        assert_eq!(found.len(), expected.len(), "{}", case.head);
+    }
+}

@@ -1,0 +1,201 @@
+/* Redstartgilt: a proved selected inverse of a sparse Cholesky factor.
+ *
+ * A factor L of dimension n is in compressed columns: n + 1 starts, then for each column its row indices, ascending,
+ * and its values. Lists are a pointer and a length, in that order; a list of length 0 may have any pointer but NULL
+ * that is aligned for its elements. Lists lent for writing must not overlap any other list of the call. The library
+ * allocates nothing and keeps nothing: a call reads and writes the lists that it is lent, and no others, and ends.
+ *
+ * A call that cannot be answered is refused by a number (REDSTARTGILT_*), the lowest of its steps that fails, and
+ * leaves every list as it was unless its paragraph says otherwise. A list may be longer than needed; places past those
+ * filled keep their contents. T is n(n+1)/2.
+ */
+#ifndef REDSTARTGILT_H
+#define REDSTARTGILT_H
+
+#include <stddef.h>
+#include <stdint.h>
+
+#ifdef __cplusplus
+extern "C" {
+#endif
+
+/* Refusals; 0 is none. */
+enum {
+    REDSTARTGILT_ACCEPTED = 0,
+    REDSTARTGILT_TOO_LARGE = 1,
+    REDSTARTGILT_BROKEN_STARTS = 2,
+    REDSTARTGILT_BROKEN_ROWS = 3,
+    REDSTARTGILT_DIMENSION_MISMATCH = 4,
+    REDSTARTGILT_REQUEST_OUT_OF_RANGE = 5,
+    REDSTARTGILT_NON_POSITIVE_DEFINITE = 6,
+    REDSTARTGILT_TOO_SHORT = 7,
+    REDSTARTGILT_NOT_COVERED = 8,
+    REDSTARTGILT_BROKEN_OPERATOR = 9,
+    REDSTARTGILT_INDEX_TOO_LARGE = 10,
+    REDSTARTGILT_DUPLICATE_ENTRY = 11,
+    REDSTARTGILT_NOT_INVERSE = 12,
+    REDSTARTGILT_NOT_FINITE = 13,
+    REDSTARTGILT_BAD_SCALE = 14
+};
+
+/* Statuses of a call that is not refused. */
+enum { REDSTARTGILT_COMPLETE = 0, REDSTARTGILT_CLOSURE_TOO_LARGE = 1 };
+
+/* The reply of a call that selects entries: a refusal, or the status and the counts. On a refusal all other fields are 0. */
+typedef struct {
+    uint32_t refusal;
+    uint32_t status;
+    size_t requested_pairs;
+    size_t closure_pairs;
+    size_t factor_pairs;
+    size_t closure_limit;
+    double closure_over_factor;
+} redstartgilt_selected;
+
+/* The reply of a lookup: a refusal, or the value. */
+typedef struct { uint32_t refusal; double value; } redstartgilt_entry;
+
+/* The reply of a pattern list: a refusal, or the number of pairs written. */
+typedef struct { uint32_t refusal; size_t pairs; } redstartgilt_pairs;
+
+/* The reply of the floor: a refusal, or the floor and how many values were raised to it. */
+typedef struct { uint32_t refusal; double floor; size_t floor_hits; } redstartgilt_floored;
+
+/* How many values are negative, and the least of all. */
+typedef struct { size_t num_negative; double min_value; } redstartgilt_least;
+
+/* Selected entries. Fills the result lists with the entries of the inverse of L times its transpose on the closed set
+ * of the requests: the requested pairs, put in order row >= column, and all pairs that Takahashi's recurrence needs for
+ * them. Entries of L above the diagonal and those of 0.0 of either sign are dropped, here and in every call that takes
+ * a factor. The result is in the factor's layout: n + 1 starts, then the rows, ascending, and values of each column;
+ * redstartgilt_get reads it. Requests are two lists of equal length, of indices below the dimension, in any order, and
+ * may repeat.
+ *
+ * Lengths needed: result_starts n + 1, result_rows and result_values the lesser of limit and T, scratch 2T + 4n, of any
+ * contents. Refuses, in this order:
+ *   1   n above 2,048, or more than 1,048,576 rows or request rows
+ *   2   starts not n + 1, the first not 0, a falling one, the last not rows_len, or values_len not rows_len
+ *   3   a row index of n or more, or not above the one before it in its column
+ *   4   dimension not n, or request lists of unequal length
+ *   5   a request index of n or more
+ *   6   a column without a diagonal entry that is kept, or with one at most 0.0; NaN passes
+ *   7   a list too short
+ * Otherwise the status is COMPLETE, or CLOSURE_TOO_LARGE where the closed set has more than limit pairs; closure_pairs
+ * is then limit + 1, and the result lists are left as they were. Either status leaves the first 2T + 4n words of the
+ * scratch 0, and later words as they were. requested_pairs counts distinct requests, factor_pairs the kept entries of
+ * L, and closure_over_factor is closure_pairs / max(factor_pairs, 1). */
+redstartgilt_selected redstartgilt_selected_inverse_entries_with_limit(
+    size_t n, const uint32_t *starts, size_t starts_len, const uint32_t *rows, size_t rows_len, const double *values, size_t values_len,
+    size_t dimension, const uint32_t *request_rows, size_t request_rows_len, const uint32_t *request_columns, size_t request_columns_len,
+    size_t limit,
+    uint32_t *result_starts, size_t result_starts_len, uint32_t *result_rows, size_t result_rows_len, double *result_values, size_t result_values_len,
+    uint32_t *scratch, size_t scratch_len);
+
+/* Selected entries with the default limit, 10 times rows_len; dropped entries count. Otherwise as the call above:
+ * result_rows and result_values need the lesser of that limit and T. */
+redstartgilt_selected redstartgilt_selected_inverse_entries(
+    size_t n, const uint32_t *starts, size_t starts_len, const uint32_t *rows, size_t rows_len, const double *values, size_t values_len,
+    size_t dimension, const uint32_t *request_rows, size_t request_rows_len, const uint32_t *request_columns, size_t request_columns_len,
+    uint32_t *result_starts, size_t result_starts_len, uint32_t *result_rows, size_t result_rows_len, double *result_values, size_t result_values_len,
+    uint32_t *scratch, size_t scratch_len);
+
+/* The entry at (row, column) of a filled result; the two may be exchanged. The dimension is starts_len - 1, so lend only
+ * the n + 1 filled starts; rows and values may be longer than filled. Refuses with 2 where there are no starts, then
+ * with 8 where the lesser index is outside; then, of the column looked in, with 2 for starts that fall or pass rows or
+ * values and with 3 for a row not above the one before it; then with 8 where the pair is absent or outside. The value
+ * is 0.0 on a refusal. Writes nothing. */
+redstartgilt_entry redstartgilt_get(
+    const uint32_t *starts, size_t starts_len, const uint32_t *rows, size_t rows_len, const double *values, size_t values_len,
+    size_t row, size_t column);
+
+/* The diagonal of a filled result: output[c] is the entry at (c, c), or 0.0 where it is absent. The dimension n is
+ * starts_len - 1, as above. Output needs n places. Refuses with 2 and 3 as the lookup does, column by column, then with
+ * 7. */
+uint32_t redstartgilt_diag(
+    const uint32_t *starts, size_t starts_len, const uint32_t *rows, size_t rows_len, const double *values, size_t values_len,
+    double *output, size_t output_len);
+
+/* The diagonal in original order: the selected entries of all n diagonals with the default limit, 10 times rows_len,
+ * then output[i] is the entry at (orig_to_perm[i], orig_to_perm[i]). The result lists are filled as by selected entries,
+ * and need as much; output needs n places. Refuses, in this order:
+ *   1, 2, 3   as selected entries does
+ *   4   orig_to_perm_len not n, also one above 2,048
+ *   10, 11   an index of n or more, or one that came before; the first fault in the list decides
+ *   6   as above
+ *   7   a list too short
+ *   8   the closed set passes the limit; the scratch is then 0 as after an answer, the other lists as they were
+ * The status of an answer is COMPLETE. */
+redstartgilt_selected redstartgilt_selected_inverse_diag_with_diagnostics(
+    size_t n, const uint32_t *starts, size_t starts_len, const uint32_t *rows, size_t rows_len, const double *values, size_t values_len,
+    const uint32_t *orig_to_perm, size_t orig_to_perm_len,
+    uint32_t *result_starts, size_t result_starts_len, uint32_t *result_rows, size_t result_rows_len, double *result_values, size_t result_values_len,
+    uint32_t *scratch, size_t scratch_len, double *output, size_t output_len);
+
+/* Operator variances: the operator's row r is the weighted sum of the cells columns[row_starts[r]] to
+ * columns[row_starts[r + 1] - 1], in factor order, and output[r] its variance: from 0.0, for each term a, for each term
+ * b, (weight a * weight b) * entry is added. The requests are all pairs of columns of each row, the limit is the default
+ * one, 10 times rows_len, and the result lists are filled as by selected entries, and need as much; output needs a place
+ * for each operator row. A column may repeat in a row. Weights are not checked. Refuses, in this order:
+ *   1   as selected entries does, or more than 2,048 operator rows or 1,048,576 columns
+ *   2, 3   as selected entries does
+ *   4   ncols not n
+ *   9   no row starts, the first not 0, a falling one, the last not columns_len, weights_len not columns_len, or a column
+ *       of n or more
+ *   6   as above
+ *   7   a list too short
+ * CLOSURE_TOO_LARGE leaves the result lists and the output as they were; either status carries the counts. */
+redstartgilt_selected redstartgilt_selected_inverse_transformed_diag(
+    size_t n, const uint32_t *starts, size_t starts_len, const uint32_t *rows, size_t rows_len, const double *values, size_t values_len,
+    size_t ncols, const uint32_t *row_starts, size_t row_starts_len, const uint32_t *columns, size_t columns_len, const double *weights, size_t weights_len,
+    uint32_t *result_starts, size_t result_starts_len, uint32_t *result_rows, size_t result_rows_len, double *result_values, size_t result_values_len,
+    uint32_t *scratch, size_t scratch_len, double *output, size_t output_len);
+
+/* The pairs of the factor's kept entries, ascending by row then column: pair k is (pair_rows[k], pair_columns[k]).
+ * Scratch needs T words, the outputs a place for each pair, at most the lesser of rows_len and T. Refuses with 1, 2, 3
+ * as selected entries does, then with 7 for the scratch, then with 7 for an output. Past the other refusals and with
+ * scratch long enough, its first T words end 0, also when an output is too short; the outputs are then as they were. */
+redstartgilt_pairs redstartgilt_from_cholesky_factor(
+    size_t n, const uint32_t *starts, size_t starts_len, const uint32_t *rows, size_t rows_len, const double *values, size_t values_len,
+    uint32_t *scratch, size_t scratch_len, uint32_t *pair_rows, size_t pair_rows_len, uint32_t *pair_columns, size_t pair_columns_len);
+
+/* The pairs (a, b), a >= b, of columns of one operator row, equal ones too, each once, ascending by row then column. T is
+ * that of ncols. Refuses with 1 for ncols above 2,048, more than 2,048 operator rows or 1,048,576 columns, with 9 as
+ * operator variances does, and with 7 as the call above, whose lengths and scratch it shares. */
+redstartgilt_pairs redstartgilt_from_transformed_operator(
+    size_t ncols, const uint32_t *row_starts, size_t row_starts_len, const uint32_t *columns, size_t columns_len, const double *weights, size_t weights_len,
+    uint32_t *scratch, size_t scratch_len, uint32_t *pair_rows, size_t pair_rows_len, uint32_t *pair_columns, size_t pair_columns_len);
+
+/* Whether two lists are permutations of 0 to n - 1 and each other's inverses. Refuses with 1 for a list above 2,048,
+ * with 12 for unequal lengths, then element by element of orig_to_perm, the first fault deciding: 10 for an index of n
+ * or more, 11 for one that came before, 12 where perm_to_orig does not lead back. Writes nothing. */
+uint32_t redstartgilt_validate(const uint32_t *orig_to_perm, size_t orig_to_perm_len, const uint32_t *perm_to_orig, size_t perm_to_orig_len);
+
+/* The inverse of a permutation: perm_to_orig[orig_to_perm[i]] is i. Needs n places, n being orig_to_perm_len. Refuses
+ * with 1 for n above 2,048, then element by element with 10 and 11 as above, then with 7. */
+uint32_t redstartgilt_from_orig_to_perm(const uint32_t *orig_to_perm, size_t orig_to_perm_len, uint32_t *perm_to_orig, size_t perm_to_orig_len);
+
+/* Values in factor order put in original order: output[i] is input[orig_to_perm[i]]. Output needs n places, n being
+ * orig_to_perm_len. Refuses with 1 for a list read that is above 2,048, with 4 for input_len not n, then element by
+ * element with 10 and 11 as above, then with 7. */
+uint32_t redstartgilt_permute_factor_to_original(
+    const uint32_t *orig_to_perm, size_t orig_to_perm_len, const double *input, size_t input_len, double *output, size_t output_len);
+
+/* A floor of 0.0 under values: output[i] is values[i] where that is above the floor, else the floor, and floor_hits
+ * counts the latter. Output needs a place for each value. Refuses with 1 for more than 1,048,576 values, with 13 for a
+ * value that is not finite, then with 7. On a refusal floor is 0.0 and floor_hits 0. */
+redstartgilt_floored redstartgilt_stabilize_variances_zero(const double *values, size_t values_len, double *output, size_t output_len);
+
+/* The same with the floor max(|mean of the positive values|, 1) * scale; the mean is 1 if none is positive, and the sum
+ * is in list order. Refuses with 14, between 13 and 7, for a scale that is not finite or below 0. */
+redstartgilt_floored redstartgilt_stabilize_variances_positive_mean(
+    const double *values, size_t values_len, double scale, double *output, size_t output_len);
+
+/* How many values are below 0, and the least: from infinity, NaN passed over, the earlier of two zeros kept; 0.0 for no
+ * values. Refuses nothing, at any length, and writes nothing. */
+redstartgilt_least redstartgilt_count_and_least(const double *values, size_t values_len);
+
+#ifdef __cplusplus
+}
+#endif
+
+#endif
