@@ -1,0 +1,252 @@
+//! `benchmark`: the library's time beside that of the Rust's functions, on the same cases.
+//!
+//! Both are timed in the same way, each in a process of its own, in rounds one after the other, case by case: processor
+//! time of the bare call, one run before the clock starts, the median and the least of the runs; then the median of the
+//! rounds and of their ratios, and the least of all. The library's lists are allocated before and reused, and its
+//! scratch is 0 from the run before; the Rust allocates in each run. Tables are in Markdown.
+
+use crate::call::{Call, Function};
+use crate::compare::{call_of, differences};
+use crate::grid::grid;
+use crate::lend::lend;
+use crate::list::List;
+use crate::random::Random;
+use crate::text::{Block, Blocks};
+use std::fs::File;
+use std::io::{self, BufRead, BufReader, Write};
+use std::path::Path;
+use std::process::{Command, Stdio};
+
+/// What the library may take of the Rust's time where the Rust goes by the factor's pattern, and by hash maps.
+const FACTOR_TARGET: f64 = 0.5;
+const CLOSURE_TARGET: f64 = 0.1;
+
+/// How often the two are timed in turn.
+const ROUNDS: usize = 5;
+
+extern "C" {
+    fn clock_gettime(clock: i32, time: *mut [i64; 2]) -> i32;
+}
+
+/// The processor time of this process in milliseconds.
+fn processor_ms() -> f64 {
+    const CLOCK_PROCESS_CPUTIME_ID: i32 = 2;
+    let mut time = [0; 2];
+    assert_eq!(unsafe { clock_gettime(CLOCK_PROCESS_CPUTIME_ID, &mut time) }, 0);
+    time[0] as f64 * 1e3 + time[1] as f64 * 1e-6
+}
+
+fn median(mut times: Vec<f64>) -> f64 {
+    times.sort_by(f64::total_cmp);
+    times[times.len() / 2]
+}
+
+fn least(times: &[f64]) -> f64 {
+    times.iter().copied().fold(f64::INFINITY, f64::min)
+}
+
+/// The median and the least time of a call that has been lent its lists.
+fn times_ms(call: &mut Call, runs: usize) -> (f64, f64) {
+    call.make();
+    let time = |_| {
+        let start = processor_ms();
+        std::hint::black_box(call.make());
+        processor_ms() - start
+    };
+    let times: Vec<f64> = (0..runs).map(time).collect();
+    let least = least(&times);
+    (median(times), least)
+}
+
+fn lent(mut call: Call) -> Call {
+    lend(&mut call, &mut Random::new(0), |_, need| need);
+    call
+}
+
+/// What the oracle writes on a text.
+fn oracle(folder: &Path, args: &[&str], text: &str) -> io::Result<Vec<u8>> {
+    let mut child =
+        Command::new(folder.join("oracle")).args(args).stdin(Stdio::piped()).stdout(Stdio::piped()).spawn()?;
+    child.stdin.take().expect("piped").write_all(text.as_bytes())?;
+    Ok(child.wait_with_output()?.stdout)
+}
+
+struct Row {
+    route: String,
+    closure: usize,
+    ours: f64,
+    rust: f64,
+    /// Of the medians, and of the least times.
+    ratio: f64,
+    least_ratio: f64,
+}
+
+/// Compares a case's answers, then times it both ways.
+fn row(folder: &Path, case: &Block, runs: usize) -> io::Result<Row> {
+    let text = case.text();
+    let answer = Blocks::new(BufReader::new(&oracle(folder, &[], &text)?[..])).next()?;
+    let answer = answer.ok_or_else(|| io::Error::other("the oracle has no answer"))?;
+    if differences(case, &answer) > 0 {
+        return Err(io::Error::other(format!("{}: the answers differ", case.name)));
+    }
+    let (mut ours, mut rust) = (Vec::new(), Vec::new());
+    for _ in 0..ROUNDS {
+        // id kind status closure route median least
+        let timed = String::from_utf8_lossy(&oracle(folder, &["timecases", &runs.to_string()], &text)?).into_owned();
+        let line = timed.lines().find(|l| l.starts_with(&case.name)).unwrap_or("");
+        let times: Vec<f64> = line.split(' ').skip(5).filter_map(|x| x.parse().ok()).collect();
+        let [median, least] = times[..] else {
+            return Err(io::Error::other(format!("{}: no times in {timed}", case.name)));
+        };
+        rust.push((median, least));
+        ours.push(times_ms(&mut lent(call_of(case)), runs));
+    }
+    let ratios = ours.iter().zip(&rust).map(|(ours, rust)| ours.0 / rust.0).collect();
+    let medians = |times: &[(f64, f64)]| median(times.iter().map(|t| t.0).collect());
+    let least = |times: &[(f64, f64)]| least(&times.iter().map(|t| t.1).collect::<Vec<_>>());
+    Ok(Row {
+        route: answer.field("route").to_string(),
+        closure: answer.number("closure"),
+        ours: medians(&ours),
+        rust: medians(&rust),
+        ratio: median(ratios),
+        least_ratio: least(&ours) / least(&rust),
+    })
+}
+
+pub fn benchmark(folder: &Path, runs: usize) -> io::Result<()> {
+    println!("{}; medians of {runs} runs in {ROUNDS} rounds, processor time in ms\n", machine());
+    rows_of_the_timing_set(folder, runs)?;
+    growth(folder, runs)?;
+    split(runs);
+    Ok(())
+}
+
+/// Makes the call of one case of the timing set alone, for a profiler.
+pub fn profile(folder: &Path, name: &str, runs: usize) -> io::Result<()> {
+    let mut generate = Command::new(folder.join("generate")).arg("timing").stdout(Stdio::piped()).spawn()?;
+    let mut cases = Blocks::new(BufReader::new(generate.stdout.take().expect("piped")));
+    let mut found = None;
+    while let Some(case) = cases.next()? {
+        if case.name.ends_with(name) {
+            found = Some(case);
+        }
+    }
+    generate.wait()?;
+    let case = found.ok_or_else(|| io::Error::other(format!("no case {name}")))?;
+    let mut call = lent(call_of(&case));
+    for _ in 0..runs {
+        std::hint::black_box(call.make());
+    }
+    Ok(())
+}
+
+fn machine() -> String {
+    let file = File::open("/proc/cpuinfo").map(BufReader::new);
+    let lines = file.into_iter().flat_map(|f| f.lines().map_while(Result::ok));
+    lines
+        .filter_map(|l| l.strip_prefix("model name").map(|m| m.trim_start_matches([' ', '\t', ':']).to_string()))
+        .next()
+        .unwrap_or_default()
+}
+
+fn rows_of_the_timing_set(folder: &Path, runs: usize) -> io::Result<()> {
+    println!("| case | Rust's route | pairs | ours | Rust | ours / Rust | least / least | target | |");
+    println!("|---|---|---|---|---|---|---|---|---|");
+    let mut generate = Command::new(folder.join("generate")).arg("timing").stdout(Stdio::piped()).spawn()?;
+    let mut cases = Blocks::new(BufReader::new(generate.stdout.take().expect("piped")));
+    while let Some(case) = cases.next()? {
+        let name = case.name.trim_start_matches("timing:");
+        if name.starts_with("16x16") {
+            continue;
+        }
+        let row = row(folder, &case, runs)?;
+        let target = if row.route.starts_with("factor") { FACTOR_TARGET } else { CLOSURE_TARGET };
+        let met = if row.ratio <= target { "met" } else { "missed" };
+        println!(
+            "| {name} | {} | {} | {:.3} | {:.3} | {:.3} | {:.3} | {target} | {met} |",
+            row.route, row.closure, row.ours, row.rust, row.ratio, row.least_ratio
+        );
+    }
+    generate.wait()?;
+    Ok(())
+}
+
+/// The call for the diagonal in original order of a grid.
+fn diagonal_of(side: usize, nested: bool) -> Call {
+    let grid = grid(side, nested);
+    Call {
+        function: Function::OriginalDiag,
+        n: side * side,
+        dimension: side * side,
+        starts: List::new(&grid.starts),
+        rows: List::new(&grid.rows),
+        values: List::new(&grid.values),
+        orig_to_perm: List::new(&grid.orig_to_perm),
+        ..Call::default()
+    }
+}
+
+fn growth(folder: &Path, runs: usize) -> io::Result<()> {
+    println!("\n| grid | n | stored | requests | pairs | ours | ours, ns a pair | Rust | ours / Rust |");
+    println!("|---|---|---|---|---|---|---|---|---|");
+    for nested in [false, true] {
+        for first in [false, true] {
+            for side in [16, 23, 32, 45] {
+                let call = diagonal_of(side, nested);
+                let mut case = Block::new(&format!("{side}"), if first { "entries" } else { "diagorig" });
+                case.put_factor(&call);
+                if first {
+                    case.put("rdim", call.n);
+                    case.put_numbers("rrows", &[0]);
+                    case.put_numbers("rcols", &[0]);
+                    case.put("limit", "default");
+                } else {
+                    case.put_numbers("perm", &call.orig_to_perm);
+                }
+                let row = row(folder, &case, runs)?;
+                println!(
+                    "| {side}x{side} {} | {} | {} | {} | {} | {:.3} | {:.0} | {:.3} | {:.3} |",
+                    if nested { "nested" } else { "natural" },
+                    call.n,
+                    call.rows.len(),
+                    if first { "(0,0)" } else { "all diagonals" },
+                    row.closure,
+                    row.ours,
+                    row.ours * 1e6 / row.closure as f64,
+                    row.rust,
+                    row.ratio
+                );
+            }
+        }
+    }
+    Ok(())
+}
+
+/// Where the time goes, seen from outside, of the request (0,0): its set is closed with the last pair inserted. A limit
+/// of 0 stops after the checks, the clearing of the scratch before and after, and the marking of the request; one short
+/// of the set stops when it is closed; the rest is layout and route.
+fn split(runs: usize) {
+    println!("\n| grid | pairs | checks, clearing, marking | closing | layout, route | whole |");
+    println!("|---|---|---|---|---|---|");
+    for nested in [false, true] {
+        for side in [16, 23, 32, 45] {
+            let call = Call {
+                function: Function::EntriesWithLimit,
+                request_rows: List::new(&[0]),
+                request_columns: List::new(&[0]),
+                limit: usize::MAX,
+                ..diagonal_of(side, nested)
+            };
+            let pairs = lent(call.clone()).make().closure;
+            let time = |limit| times_ms(&mut lent(Call { limit, ..call.clone() }), runs).0;
+            let (marked, closed, whole) = (time(0), time(pairs - 1), time(pairs));
+            println!(
+                "| {side}x{side} {} | {pairs} | {marked:.3} | {:.3} | {:.3} | {whole:.3} |",
+                if nested { "nested" } else { "natural" },
+                closed - marked,
+                whole - closed
+            );
+        }
+    }
+}

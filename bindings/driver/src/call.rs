@@ -1,0 +1,279 @@
+//! A call of the C interface: which function, all that it is given, and its reply.
+
+use crate::list::{Item, List};
+use redstartgilt::sys;
+
+#[derive(Clone, Copy, Debug, PartialEq, Eq, PartialOrd, Ord, Default)]
+pub enum Function {
+    EntriesWithLimit,
+    Entries,
+    #[default]
+    Get,
+    Diag,
+    OriginalDiag,
+    OperatorVariances,
+    FactorPattern,
+    OperatorPattern,
+    Validate,
+    Inverse,
+    Reorder,
+    FloorZero,
+    FloorMean,
+    Least,
+}
+
+pub const FUNCTIONS: [Function; 14] = [
+    Function::EntriesWithLimit,
+    Function::Entries,
+    Function::Get,
+    Function::Diag,
+    Function::OriginalDiag,
+    Function::OperatorVariances,
+    Function::FactorPattern,
+    Function::OperatorPattern,
+    Function::Validate,
+    Function::Inverse,
+    Function::Reorder,
+    Function::FloorZero,
+    Function::FloorMean,
+    Function::Least,
+];
+
+impl Function {
+    /// The name in the C interface, without `redstartgilt_`.
+    pub fn name(self) -> &'static str {
+        match self {
+            Function::EntriesWithLimit => "selected_inverse_entries_with_limit",
+            Function::Entries => "selected_inverse_entries",
+            Function::Get => "get",
+            Function::Diag => "diag",
+            Function::OriginalDiag => "selected_inverse_diag_with_diagnostics",
+            Function::OperatorVariances => "selected_inverse_transformed_diag",
+            Function::FactorPattern => "from_cholesky_factor",
+            Function::OperatorPattern => "from_transformed_operator",
+            Function::Validate => "validate",
+            Function::Inverse => "from_orig_to_perm",
+            Function::Reorder => "permute_factor_to_original",
+            Function::FloorZero => "stabilize_variances_zero",
+            Function::FloorMean => "stabilize_variances_positive_mean",
+            Function::Least => "count_and_least",
+        }
+    }
+
+    /// Whether it selects entries: its reply has a status, and it is lent result lists and scratch.
+    pub fn selects(self) -> bool {
+        matches!(
+            self,
+            Function::EntriesWithLimit | Function::Entries | Function::OriginalDiag | Function::OperatorVariances
+        )
+    }
+}
+
+/// A function reads and writes some of these; the others are empty.
+#[derive(Clone, Default)]
+pub struct Call {
+    pub function: Function,
+    /// The factor's dimension; of an operator's pattern its columns.
+    pub n: usize,
+    /// A factor, or a result that is looked up in.
+    pub starts: List<u32>,
+    pub rows: List<u32>,
+    pub values: List<f64>,
+    /// The requests' dimension, or the operator's columns beside a factor.
+    pub dimension: usize,
+    pub request_rows: List<u32>,
+    pub request_columns: List<u32>,
+    pub limit: usize,
+    pub row: usize,
+    pub column: usize,
+    pub row_starts: List<u32>,
+    pub columns: List<u32>,
+    pub weights: List<f64>,
+    pub orig_to_perm: List<u32>,
+    /// Read by `validate`, written by `from_orig_to_perm`.
+    pub perm_to_orig: List<u32>,
+    /// Values to reorder, to floor or to count.
+    pub input: List<f64>,
+    pub scale: f64,
+    pub result_starts: List<u32>,
+    pub result_rows: List<u32>,
+    pub result_values: List<f64>,
+    pub scratch: List<u32>,
+    pub pair_rows: List<u32>,
+    pub pair_columns: List<u32>,
+    pub output: List<f64>,
+}
+
+/// The fields of a function's reply; those that it has not, and all but the refusal where there is one, are 0.
+#[derive(Clone, Copy, Debug, Default)]
+pub struct Reply {
+    pub refusal: u32,
+    pub status: u32,
+    pub requested: usize,
+    pub closure: usize,
+    pub factor: usize,
+    pub limit: usize,
+    pub ratio: f64,
+    pub value: f64,
+    pub pairs: usize,
+    pub floor: f64,
+    pub hits: usize,
+    pub negative: usize,
+    pub least: f64,
+}
+
+impl Reply {
+    pub fn refused(refusal: u32) -> Self {
+        Reply { refusal, ..Reply::default() }
+    }
+
+    pub fn complete(&self) -> bool {
+        self.refusal == 0 && self.status == sys::REDSTARTGILT_COMPLETE
+    }
+
+    /// Equal, all NaNs taken as one.
+    pub fn same(&self, other: &Self) -> bool {
+        let numbers =
+            |r: &Self| (r.refusal, r.status, [r.requested, r.closure, r.factor, r.limit, r.pairs, r.hits, r.negative]);
+        let values = |r: &Self| {
+            [r.ratio, r.value, r.floor, r.least].map(|x| if x.is_nan() { f64::NAN.to_bits() } else { x.to_bits() })
+        };
+        numbers(self) == numbers(other) && values(self) == values(other)
+    }
+}
+
+fn selected(r: sys::redstartgilt_selected) -> Reply {
+    Reply {
+        refusal: r.refusal,
+        status: r.status,
+        requested: r.requested_pairs,
+        closure: r.closure_pairs,
+        factor: r.factor_pairs,
+        limit: r.closure_limit,
+        ratio: r.closure_over_factor,
+        ..Reply::default()
+    }
+}
+
+fn listed(r: sys::redstartgilt_pairs) -> Reply {
+    Reply { refusal: r.refusal, pairs: r.pairs, ..Reply::default() }
+}
+
+fn floored(r: sys::redstartgilt_floored) -> Reply {
+    Reply { refusal: r.refusal, floor: r.floor, hits: r.floor_hits, ..Reply::default() }
+}
+
+/// The entry at a pair of a result, by the library.
+pub fn look_up(starts: &[u32], rows: &[u32], values: &[f64], row: usize, column: usize) -> Reply {
+    let (s, r, v) = ((starts.as_ptr(), starts.len()), (rows.as_ptr(), rows.len()), (values.as_ptr(), values.len()));
+    let entry = unsafe { sys::redstartgilt_get(s.0, s.1, r.0, r.1, v.0, v.1, row, column) };
+    Reply { refusal: entry.refusal, value: entry.value, ..Reply::default() }
+}
+
+/// Calls a function of the C interface with arguments in a row: `(n)` as it is, `[rows]` a list's pointer and length,
+/// `{scratch}` the same of a list lent for writing.
+macro_rules! c_call {
+    ($call:ident $function:ident ($($done:expr),*)) => {
+        unsafe { sys::$function($($done),*) }
+    };
+    ($call:ident $function:ident ($($done:expr),*) ($value:expr) $($rest:tt)*) => {
+        c_call!($call $function ($($done,)* $value) $($rest)*)
+    };
+    ($call:ident $function:ident ($($done:expr),*) [$list:ident] $($rest:tt)*) => {
+        c_call!($call $function ($($done,)* $call.$list.pointer(), $call.$list.len()) $($rest)*)
+    };
+    ($call:ident $function:ident ($($done:expr),*) {$list:ident} $($rest:tt)*) => {
+        c_call!($call $function ($($done,)* $call.$list.pointer_mut(), $call.$list.len()) $($rest)*)
+    };
+}
+
+impl Call {
+    /// Makes the call.
+    #[rustfmt::skip]
+    pub fn make(&mut self) -> Reply {
+        match self.function {
+            Function::EntriesWithLimit => selected(c_call!(self redstartgilt_selected_inverse_entries_with_limit ()
+                (self.n) [starts] [rows] [values] (self.dimension) [request_rows] [request_columns] (self.limit)
+                {result_starts} {result_rows} {result_values} {scratch})),
+            Function::Entries => selected(c_call!(self redstartgilt_selected_inverse_entries ()
+                (self.n) [starts] [rows] [values] (self.dimension) [request_rows] [request_columns]
+                {result_starts} {result_rows} {result_values} {scratch})),
+            Function::Get => look_up(&self.starts, &self.rows, &self.values, self.row, self.column),
+            Function::Diag => Reply::refused(c_call!(self redstartgilt_diag () [starts] [rows] [values] {output})),
+            Function::OriginalDiag => selected(c_call!(self redstartgilt_selected_inverse_diag_with_diagnostics ()
+                (self.n) [starts] [rows] [values] [orig_to_perm]
+                {result_starts} {result_rows} {result_values} {scratch} {output})),
+            Function::OperatorVariances => selected(c_call!(self redstartgilt_selected_inverse_transformed_diag ()
+                (self.n) [starts] [rows] [values] (self.dimension) [row_starts] [columns] [weights]
+                {result_starts} {result_rows} {result_values} {scratch} {output})),
+            Function::FactorPattern => listed(c_call!(self redstartgilt_from_cholesky_factor ()
+                (self.n) [starts] [rows] [values] {scratch} {pair_rows} {pair_columns})),
+            Function::OperatorPattern => listed(c_call!(self redstartgilt_from_transformed_operator ()
+                (self.n) [row_starts] [columns] [weights] {scratch} {pair_rows} {pair_columns})),
+            Function::Validate => Reply::refused(c_call!(self redstartgilt_validate () [orig_to_perm] [perm_to_orig])),
+            Function::Inverse => Reply::refused(c_call!(self redstartgilt_from_orig_to_perm ()
+                [orig_to_perm] {perm_to_orig})),
+            Function::Reorder => Reply::refused(c_call!(self redstartgilt_permute_factor_to_original ()
+                [orig_to_perm] [input] {output})),
+            Function::FloorZero => floored(c_call!(self redstartgilt_stabilize_variances_zero () [input] {output})),
+            Function::FloorMean => floored(c_call!(self redstartgilt_stabilize_variances_positive_mean ()
+                [input] (self.scale) {output})),
+            Function::Least => {
+                let r = c_call!(self redstartgilt_count_and_least () [input]);
+                Reply { negative: r.num_negative, least: r.min_value, ..Reply::default() }
+            }
+        }
+    }
+
+    pub fn words(&self) -> [(&'static str, &List<u32>); 13] {
+        [
+            ("starts", &self.starts),
+            ("rows", &self.rows),
+            ("request_rows", &self.request_rows),
+            ("request_columns", &self.request_columns),
+            ("row_starts", &self.row_starts),
+            ("columns", &self.columns),
+            ("orig_to_perm", &self.orig_to_perm),
+            ("perm_to_orig", &self.perm_to_orig),
+            ("result_starts", &self.result_starts),
+            ("result_rows", &self.result_rows),
+            ("scratch", &self.scratch),
+            ("pair_rows", &self.pair_rows),
+            ("pair_columns", &self.pair_columns),
+        ]
+    }
+
+    pub fn floats(&self) -> [(&'static str, &List<f64>); 5] {
+        [
+            ("values", &self.values),
+            ("weights", &self.weights),
+            ("input", &self.input),
+            ("result_values", &self.result_values),
+            ("output", &self.output),
+        ]
+    }
+
+    /// The call in words, each list with its first items.
+    pub fn told(&self) -> String {
+        let scalars = format!(
+            "{}: n {} dimension {} limit {} row {} column {} scale {:016x}",
+            self.function.name(),
+            self.n,
+            self.dimension,
+            self.limit,
+            self.row,
+            self.column,
+            self.scale.to_bits()
+        );
+        let words = self.words().map(|(name, list)| told_list(name, list, |x| x.to_string()));
+        let floats = self.floats().map(|(name, list)| told_list(name, list, |x| format!("{:016x}", x.to_bits())));
+        let lists: Vec<String> = words.into_iter().chain(floats).flatten().collect();
+        format!("{scalars}\n{}", lists.join("\n"))
+    }
+}
+
+fn told_list<T: Item>(name: &str, list: &[T], item: impl Fn(T) -> String) -> Option<String> {
+    let shown: Vec<String> = list.iter().take(200).map(|&x| item(x)).collect();
+    (!list.is_empty())
+        .then(|| format!("  {name} {}: {}{}", list.len(), shown.join(" "), if list.len() > 200 { " .." } else { "" }))
+}

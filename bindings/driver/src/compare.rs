@@ -1,0 +1,390 @@
+//! `compare`: generated cases, answered by the Rust's functions and by the library.
+//!
+//! Program `generate` of the oracle's folder writes the cases twice, once into program `oracle`, once to here, so that
+//! nothing is held but one case and its answer. What the library must reply and leave is the Rust's answer; where
+//! document 01 refuses, it is that refusal, and how the Rust differs is counted.
+
+use crate::call::{look_up, Call, Function, Reply};
+use crate::expected::Expected;
+use crate::lend::lend;
+use crate::list::List;
+use crate::random::Random;
+use crate::refusals::refusal;
+use crate::rules;
+use crate::text::{value, Block, Blocks};
+use redstartgilt::sys;
+use std::collections::BTreeMap;
+use std::io::{self, BufReader};
+use std::path::Path;
+use std::process::{Command, Stdio};
+
+const SETS: [&str; 18] = [
+    "worked", "tiny", "random", "special", "exact", "dyadic", "grid", "large", "default", "diagorig", "opvar",
+    "pattern", "perm", "floor", "least", "lookup", "refuse", "timing",
+];
+/// The first is the generator's own.
+const SEEDS: [u64; 3] = [1, 7, 11];
+/// To this dimension the driver's rules are held against the Rust's answer too.
+const RULES_DIMENSION: usize = 64;
+/// So many unexpected differences are written out.
+const SHOWN: usize = 20;
+
+/// Whether the folder has the oracle's programs; says so where it has not.
+pub fn oracle_is_there(folder: &Path) -> bool {
+    let there = folder.join("oracle").is_file() && folder.join("generate").is_file();
+    if !there {
+        println!("no programs `oracle` and `generate` in {}: the replayed lists stand alone", folder.display());
+    }
+    there
+}
+
+/// The number of differences that are not document 01's.
+pub fn compare(folder: &Path, seeds: &[u64], huge: bool) -> io::Result<usize> {
+    let mut tally = Tally::default();
+    if huge {
+        compare_set(folder, "huge", SEEDS[0], &mut tally)?;
+    } else {
+        for &seed in if seeds.is_empty() { &SEEDS } else { seeds } {
+            for set in SETS {
+                compare_set(folder, set, seed, &mut tally)?;
+            }
+        }
+    }
+    tally.report();
+    Ok(tally.unexpected)
+}
+
+#[derive(Default)]
+struct Tally {
+    /// cases and calls by set and kind
+    counts: BTreeMap<(String, String), (usize, usize)>,
+    /// replies by kind
+    replies: BTreeMap<(String, String), usize>,
+    /// how the Rust differs where document 01 says otherwise: how often, and a case
+    intended: BTreeMap<String, (usize, String)>,
+    unexpected: usize,
+}
+
+impl Tally {
+    fn differs(&mut self, what: &[String], case: &Block, call: &Call) {
+        if what.is_empty() {
+            return;
+        }
+        self.unexpected += 1;
+        if self.unexpected <= SHOWN {
+            println!("DIFFERENT {}\n{}\n{}\n{}", case.name, what.join("\n"), case.shown(), call.told());
+        }
+    }
+
+    fn intended(&mut self, what: String, case: &Block, seed: u64) {
+        let entry = self.intended.entry(what).or_insert_with(|| (0, format!("{} of seed {seed}", case.name)));
+        entry.0 += 1;
+    }
+
+    fn replied(&mut self, call: &Call, reply: &Reply) {
+        let what = match reply.refusal {
+            0 if call.function.selects() && reply.status != sys::REDSTARTGILT_COMPLETE => "ClosureTooLarge".to_string(),
+            0 if call.function.selects() => "Complete".to_string(),
+            0 => "accepted".to_string(),
+            number => format!("refusal {number:2}"),
+        };
+        *self.replies.entry((call.function.name().to_string(), what)).or_insert(0) += 1;
+    }
+
+    fn report(&self) {
+        println!("\nset kind: cases, calls");
+        for ((set, kind), (cases, calls)) in &self.counts {
+            println!("  {set} {kind}: {cases}, {calls}");
+        }
+        println!("\nfunction: replies");
+        for ((function, reply), count) in &self.replies {
+            println!("  {function}: {reply}: {count}");
+        }
+        println!("\nwhere document 01 says otherwise than the Rust");
+        for (what, (count, example)) in &self.intended {
+            println!("  {what}: {count}, as {example}");
+        }
+        let sum = self.counts.values().fold((0, 0), |s, c| (s.0 + c.0, s.1 + c.1));
+        println!("\n{} cases, {} calls, {} unexpected differences", sum.0, sum.1, self.unexpected);
+    }
+}
+
+fn compare_set(folder: &Path, set: &str, seed: u64, tally: &mut Tally) -> io::Result<()> {
+    let generate =
+        || Command::new(folder.join("generate")).arg(set).arg(seed.to_string()).stdout(Stdio::piped()).spawn();
+    let mut asked = generate()?;
+    let mut given = generate()?;
+    let mut oracle = Command::new(folder.join("oracle"))
+        .stdin(asked.stdout.take().expect("piped"))
+        .stdout(Stdio::piped())
+        .spawn()?;
+    let mut cases = Blocks::new(BufReader::with_capacity(1 << 20, given.stdout.take().expect("piped")));
+    let mut answers = Blocks::new(BufReader::with_capacity(1 << 20, oracle.stdout.take().expect("piped")));
+    let mut random = Random::new(seed);
+    let (mut count, before) = (0, tally.unexpected);
+    while let Some(case) = cases.next()? {
+        let answer = answers.next()?.filter(|a| a.name == case.name && a.kind == case.kind);
+        let answer = answer.ok_or_else(|| io::Error::other(format!("the oracle has no answer to {}", case.name)))?;
+        let calls = compare_case(&case, &answer, seed, &mut random, tally);
+        let entry = tally.counts.entry((set.to_string(), case.kind.clone())).or_default();
+        *entry = (entry.0 + 1, entry.1 + calls);
+        count += 1;
+    }
+    for child in [&mut asked, &mut given, &mut oracle] {
+        if !child.wait()?.success() {
+            return Err(io::Error::other(format!("a program of the oracle failed on {set}")));
+        }
+    }
+    println!("{set} of seed {seed}: {count} cases, {} unexpected differences", tally.unexpected - before);
+    Ok(())
+}
+
+/// How many unexpected differences a case has.
+pub fn differences(case: &Block, answer: &Block) -> usize {
+    let mut tally = Tally::default();
+    compare_case(case, answer, SEEDS[0], &mut Random::new(0), &mut tally);
+    tally.unexpected
+}
+
+/// The call of a case, without the lists lent for writing; `get` takes its pairs one by one.
+pub fn call_of(case: &Block) -> Call {
+    let (words, values) = (|name| List::new(&case.numbers(name)), |name| List::new(&case.values(name)));
+    let result = || Call { starts: words("starts"), rows: words("rows"), values: values("values"), ..Call::default() };
+    let factor = |function| Call { function, n: case.number("n"), ..result() };
+    let operator =
+        |call| Call { row_starts: words("ostarts"), columns: words("ocols"), weights: values("oweights"), ..call };
+    let simple = |function| Call { function, ..Call::default() };
+    match case.kind.as_str() {
+        "entries" => {
+            let default = case.field("limit") == "default";
+            let call = factor(if default { Function::Entries } else { Function::EntriesWithLimit });
+            Call {
+                dimension: case.number("rdim"),
+                request_rows: words("rrows"),
+                request_columns: words("rcols"),
+                limit: if default { 0 } else { case.number("limit") },
+                ..call
+            }
+        }
+        "defaultlimit" => Call { dimension: case.number("n"), ..factor(Function::Entries) },
+        "get" => Call { function: Function::Get, ..result() },
+        "diag" => Call { function: Function::Diag, ..result() },
+        "diagorig" => Call { orig_to_perm: words("perm"), ..factor(Function::OriginalDiag) },
+        "opvar" => Call { dimension: case.number("ncols"), ..operator(factor(Function::OperatorVariances)) },
+        "patfactor" => factor(Function::FactorPattern),
+        "patoperator" => Call { n: case.number("ncols"), ..operator(simple(Function::OperatorPattern)) },
+        "permvalidate" => {
+            Call { orig_to_perm: words("perm"), perm_to_orig: words("inv"), ..simple(Function::Validate) }
+        }
+        "permfrom" => Call { orig_to_perm: words("perm"), ..simple(Function::Inverse) },
+        "permapply" => Call { orig_to_perm: words("perm"), input: values("input"), ..simple(Function::Reorder) },
+        "floor" if case.field("floor") == "zero" => Call { input: values("input"), ..simple(Function::FloorZero) },
+        "floor" => Call { input: values("input"), scale: value(case.field("scale")), ..simple(Function::FloorMean) },
+        "least" => Call { input: values("input"), ..simple(Function::Least) },
+        kind => panic!("{}: kind {kind}", case.name),
+    }
+}
+
+/// What is needed, in four cases of ten a few places more.
+fn some_more(random: &mut Random, need: usize) -> usize {
+    if random.chance(40) {
+        need + 1 + random.below(8)
+    } else {
+        need
+    }
+}
+
+/// Makes the calls of a case and compares them; how many there were.
+fn compare_case(case: &Block, answer: &Block, seed: u64, random: &mut Random, tally: &mut Tally) -> usize {
+    let mut call = call_of(case);
+    if case.kind == "get" {
+        return compare_lookups(call, case, answer, seed, tally);
+    }
+    lend(&mut call, random, some_more);
+    let mut made = call.clone();
+    let reply = made.make();
+    tally.replied(&call, &reply);
+    let number = refusal(&call);
+    let said = said(case, answer);
+    if said != Some(number) {
+        let document = if number > 0 { format!("refuses with {number}") } else { "accepts".to_string() };
+        let what = format!("{}: document 01 {document}, the Rust: {}", case.kind, answer.field("reply"));
+        if number == 0 {
+            tally.differs(&[what], case, &call);
+            return 1;
+        }
+        tally.intended(what, case, seed);
+    }
+    let small = call.n <= RULES_DIMENSION;
+    let by_rules = (small || case.kind == "defaultlimit").then(|| rules::expected(call.clone()));
+    let expected = if number > 0 {
+        rules::refused(number, call.clone())
+    } else {
+        answered(case, answer, call.clone(), by_rules.as_ref())
+    };
+    if case.kind == "least"
+        && expected.reply.least.to_bits() != value(answer.field("least")).to_bits()
+        && expected.reply.least == 0.0
+    {
+        tally.intended("least: the Rust keeps the later of two zeros".to_string(), case, seed);
+    }
+    tally.differs(&expected.differences(&reply, &made), case, &call);
+    if let Some(by_rules) = by_rules {
+        let mut found = by_rules.differences(&expected.reply, &expected.after);
+        if !found.is_empty() {
+            found.insert(0, "the driver's rules and the Rust differ".to_string());
+        }
+        tally.differs(&found, case, &call);
+    }
+    if answer.field("route").contains("DIFFERS") || answer.field("finish").contains("DIFFERS") {
+        tally.differs(&["the Rust's own routes or finishing step differ".to_string()], case, &call);
+    }
+    1 + if reply.complete() && answer.has("gets") { compare_read_back(&made, case, answer, tally) } else { 0 }
+}
+
+/// The refusal that the Rust's answer stands for, 0 where it accepts.
+fn said(case: &Block, answer: &Block) -> Option<u32> {
+    let reply = answer.field("reply");
+    if reply == "ok" {
+        return Some(0);
+    }
+    match reply.rsplit(' ').next()? {
+        "symmetric-pattern-index-exceeds-dimension" => Some(if case.kind == "entries" { 5 } else { 9 }),
+        "NonPositiveDefinite" => Some(6),
+        "SelectedInversePatternNotCovered" => Some(8),
+        "selected-inverse-pattern-dimension-must-match-factor-dimension" => Some(4),
+        "operator-columns-must-match-factor-dimension" => Some(4),
+        "vector-length-must-match-factor-dimension" => Some(4),
+        "permutation-index-exceeds-dimension" => Some(10),
+        "permutation-contains-duplicate-entries" => Some(11),
+        "permutation-arrays-must-have-the-same-length" => Some(12),
+        "permutation-arrays-are-not-inverses" => Some(12),
+        "variance-vector-contains-non-finite-entries" => Some(13),
+        "variance-floor-scale-must-be-finite-and-nonnegative" => Some(14),
+        _ => None,
+    }
+}
+
+/// What the Rust's answer makes of an accepted call.
+fn answered(case: &Block, answer: &Block, mut call: Call, by_rules: Option<&Expected>) -> Expected {
+    fn fill<T: Copy>(list: &mut [T], front: Vec<T>) -> usize {
+        // a list that is too short for the Rust's items shows as a difference
+        let count = front.len().min(list.len());
+        list[..count].copy_from_slice(&front[..count]);
+        front.len()
+    }
+    let mut reply = Reply::default();
+    let (mut values_filled, mut output_filled) = (0, 0);
+    match case.kind.as_str() {
+        "entries" | "diagorig" | "opvar" => {
+            let complete = answer.field("status") == "Complete";
+            reply.status = if complete { sys::REDSTARTGILT_COMPLETE } else { sys::REDSTARTGILT_CLOSURE_TOO_LARGE };
+            reply.requested = answer.number("requested");
+            reply.closure = answer.number("closure");
+            reply.factor = answer.number("factor");
+            reply.limit = answer.number("limit");
+            reply.ratio = value(answer.field("ratio"));
+            call.scratch[..rules::scratch_words(call.n)].fill(0);
+            if complete {
+                fill(&mut call.result_starts, answer.numbers("starts"));
+                fill(&mut call.result_rows, answer.numbers("rows"));
+                values_filled = fill(&mut call.result_values, answer.values("values"));
+                output_filled = fill(&mut call.output, answer.values("out"));
+            }
+        }
+        "defaultlimit" => {
+            // the Rust is asked for the limit alone
+            let rules = by_rules.expect("made for this kind");
+            reply = Reply { limit: answer.number("limit"), ..rules.reply };
+            call = rules.after.clone();
+        }
+        "diag" => output_filled = fill(&mut call.output, answer.values("diag")),
+        "patfactor" | "patoperator" => {
+            call.scratch[..rules::triangle(call.n)].fill(0);
+            reply.pairs = fill(&mut call.pair_rows, answer.numbers("prows"));
+            fill(&mut call.pair_columns, answer.numbers("pcols"));
+        }
+        "permfrom" => {
+            fill(&mut call.perm_to_orig, answer.numbers("inv"));
+        }
+        "permapply" => output_filled = fill(&mut call.output, answer.values("out")),
+        "floor" => {
+            reply.floor = value(answer.field("floor"));
+            reply.hits = answer.number("hits");
+            output_filled = fill(&mut call.output, answer.values("out"));
+        }
+        "least" => {
+            reply.negative = answer.number("negative");
+            reply.least = value(answer.field("least"));
+            if reply.least == 0.0 {
+                // document 01's is the earlier zero
+                reply.least = call.input.iter().copied().find(|&x| x == 0.0).unwrap_or(0.0);
+            }
+        }
+        _ => {}
+    }
+    Expected { reply, after: call, values_filled, output_filled }
+}
+
+fn pairs(case: &Block) -> Vec<(usize, usize)> {
+    let columns = case.numbers("pcols");
+    case.numbers("prows").into_iter().zip(columns).map(|(r, c)| (r as usize, c as usize)).collect()
+}
+
+/// A lookup's reply by the Rust's word for it.
+fn got(word: &str) -> Reply {
+    if word == "none" {
+        Reply::refused(8)
+    } else {
+        Reply { value: value(word), ..Reply::default() }
+    }
+}
+
+/// Lookups in what a call left: the filled starts, and the rows and values as they are.
+fn compare_read_back(made: &Call, case: &Block, answer: &Block, tally: &mut Tally) -> usize {
+    let pairs = pairs(case);
+    let gets: Vec<Reply> = answer.items("gets").map(got).collect();
+    assert_eq!(gets.len(), pairs.len(), "{}", case.name);
+    for (&(row, column), expected) in pairs.iter().zip(&gets) {
+        let reply = look_up(&made.result_starts[..made.n + 1], &made.result_rows, &made.result_values, row, column);
+        let lookup = Call { function: Function::Get, row, column, ..Call::default() };
+        tally.replied(&lookup, &reply);
+        if !expected.same(&reply) {
+            tally.differs(&[format!("lookup ({row},{column}): {reply:?} in place of {expected:?}")], case, made);
+        }
+    }
+    pairs.len()
+}
+
+/// The lookups of a `get` case. Document 01 decides where the Rust's columns cannot hold the lists, or are searched as
+/// they are.
+fn compare_lookups(mut call: Call, case: &Block, answer: &Block, seed: u64, tally: &mut Tally) -> usize {
+    let pairs = pairs(case);
+    let fed = answer.field("reply") == "ok";
+    let gets: Vec<Reply> = answer.items("gets").map(got).collect();
+    for (at, &(row, column)) in pairs.iter().enumerate() {
+        (call.row, call.column) = (row, column);
+        let mut made = call.clone();
+        let reply = made.make();
+        tally.replied(&call, &reply);
+        let expected = rules::expected(call.clone());
+        tally.differs(&expected.differences(&reply, &made), case, &call);
+        if !fed {
+            tally.intended(
+                format!("get: document 01 gives {}, the Rust: {}", expected.reply.refusal, answer.field("reply")),
+                case,
+                seed,
+            );
+        } else if !expected.reply.same(&gets[at]) {
+            let rust = if gets[at].refusal == 8 { "none" } else { "a value" };
+            let what = format!("get: document 01 gives {}, the Rust {rust}", expected.reply.refusal);
+            // only where document 01 refuses may the Rust say another thing
+            if expected.reply.refusal > 0 {
+                tally.intended(what, case, seed);
+            } else {
+                tally.differs(&[what], case, &call);
+            }
+        }
+    }
+    pairs.len()
+}

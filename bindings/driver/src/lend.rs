@@ -1,0 +1,79 @@
+//! The lists that a call is lent for writing: how long they must be, and what they hold before.
+
+use crate::call::{Call, Function};
+use crate::list::List;
+use crate::random::Random;
+use crate::refusals::{refusal, MOST_COLUMNS};
+use crate::rules::{self, scratch_words, triangle};
+
+/// The lengths that a call needs; small ones where it is refused whatever it is lent.
+pub struct Needs {
+    starts: usize,
+    entries: usize,
+    scratch: usize,
+    output: usize,
+    pairs: usize,
+    inverse: usize,
+}
+
+pub fn needs(call: &Call) -> Needs {
+    let n = if call.n <= MOST_COLUMNS { call.n } else { 3 };
+    let pattern = matches!(call.function, Function::FactorPattern | Function::OperatorPattern);
+    // with no list to write into, a pattern that could be listed is refused with 7 or has no pairs
+    let bare =
+        Call { scratch: List::default(), pair_rows: List::default(), pair_columns: List::default(), ..call.clone() };
+    let listed = pattern && matches!(refusal(&bare), 0 | 7);
+    Needs {
+        starts: n + 1,
+        entries: rules::limit(call).min(triangle(n)),
+        scratch: if pattern { triangle(n) } else { scratch_words(n) },
+        output: match call.function {
+            Function::Diag => call.starts.len().saturating_sub(1),
+            Function::OriginalDiag => n,
+            Function::OperatorVariances => call.row_starts.len().saturating_sub(1),
+            Function::Reorder => call.orig_to_perm.len(),
+            _ => call.input.len(),
+        },
+        pairs: if listed { rules::requested(call).count() } else { 3 },
+        inverse: call.orig_to_perm.len(),
+    }
+}
+
+/// Lends lists of the lengths that `length` makes of those needed, with any contents.
+pub fn lend(call: &mut Call, random: &mut Random, mut length: impl FnMut(&mut Random, usize) -> usize) {
+    let needs = needs(call);
+    let mut words = |random: &mut Random, need| {
+        let length = length(random, need);
+        List::made(length, |_| random.bits() as u32)
+    };
+    if call.function.selects() {
+        call.result_starts = words(random, needs.starts);
+        call.result_rows = words(random, needs.entries);
+        call.scratch = words(random, needs.scratch);
+    }
+    match call.function {
+        Function::FactorPattern | Function::OperatorPattern => {
+            call.scratch = words(random, needs.scratch);
+            call.pair_rows = words(random, needs.pairs);
+            call.pair_columns = words(random, needs.pairs);
+        }
+        Function::Inverse => call.perm_to_orig = words(random, needs.inverse),
+        _ => {}
+    }
+    let mut values = |random: &mut Random, need| {
+        let length = length(random, need);
+        List::made(length, |_| random.any_value())
+    };
+    if call.function.selects() {
+        call.result_values = values(random, needs.entries);
+    }
+    match call.function {
+        Function::Diag
+        | Function::OriginalDiag
+        | Function::OperatorVariances
+        | Function::Reorder
+        | Function::FloorZero
+        | Function::FloorMean => call.output = values(random, needs.output),
+        _ => {}
+    }
+}

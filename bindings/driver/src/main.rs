@@ -1,0 +1,79 @@
+//! The library's driver: comparison with the Rust's functions, malformed calls, benchmark.
+
+mod benchmark;
+mod bounds;
+mod call;
+mod compare;
+mod expected;
+mod grid;
+mod lend;
+mod list;
+mod malformed;
+mod random;
+mod refusals;
+mod rules;
+mod sound;
+mod spoil;
+mod text;
+
+use std::path::Path;
+use std::process::ExitCode;
+
+const USAGE: &str = "usage:
+  driver compare ORACLE_FOLDER [SEED..]            every set but huge with each seed, 1 7 11 where none is given
+  driver compare ORACLE_FOLDER --huge              the set huge
+  driver malformed [COUNT [SEED [FIRST]]] [--bare] random calls, 1,000,000 where no number is given, from call FIRST on;
+                                                   with --bare no guard words stand around the lists
+  driver benchmark ORACLE_FOLDER [RUNS]            medians of RUNS runs, 15 where none is given
+  driver profile ORACLE_FOLDER CASE RUNS           one case of the benchmark alone, for a profiler
+ORACLE_FOLDER has the programs `oracle` and `generate`.";
+
+fn main() -> ExitCode {
+    let args: Vec<String> = std::env::args().skip(1).collect();
+    let words: Vec<&str> = args.iter().map(String::as_str).collect();
+    match run(&words) {
+        Some(Ok(0)) => ExitCode::SUCCESS,
+        Some(Ok(_)) => ExitCode::FAILURE,
+        Some(Err(error)) => {
+            eprintln!("driver: {error}");
+            ExitCode::FAILURE
+        }
+        None => {
+            eprintln!("{USAGE}");
+            ExitCode::from(2)
+        }
+    }
+}
+
+/// The number of differences; None where the arguments are not understood.
+fn run(words: &[&str]) -> Option<std::io::Result<usize>> {
+    match words {
+        ["compare" | "benchmark" | "profile", folder, ..] if !compare::oracle_is_there(Path::new(folder)) => {
+            Some(Ok(0))
+        }
+        ["compare", folder, "--huge"] => Some(compare::compare(Path::new(folder), &[], true)),
+        ["compare", folder, seeds @ ..] => {
+            let seeds: Vec<u64> = seeds.iter().map(|s| s.parse().ok()).collect::<Option<_>>()?;
+            Some(compare::compare(Path::new(folder), &seeds, false))
+        }
+        ["malformed", rest @ .., "--bare"] => {
+            list::leave_out_guards();
+            malformed(rest)
+        }
+        ["malformed", rest @ ..] => malformed(rest),
+        ["benchmark", folder, runs @ ..] if runs.len() < 2 => {
+            let runs = runs.first().map_or(Some(15), |r| r.parse().ok())?;
+            Some(benchmark::benchmark(Path::new(folder), runs).map(|()| 0))
+        }
+        ["profile", folder, case, runs] => {
+            Some(benchmark::profile(Path::new(folder), case, runs.parse().ok()?).map(|()| 0))
+        }
+        _ => None,
+    }
+}
+
+fn malformed(words: &[&str]) -> Option<std::io::Result<usize>> {
+    let numbers: Vec<usize> = words.iter().map(|s| s.parse().ok()).collect::<Option<_>>()?;
+    let number = |at: usize, otherwise| numbers.get(at).copied().unwrap_or(otherwise);
+    (numbers.len() <= 3).then(|| Ok(malformed::malformed(number(0, 1_000_000), number(1, 1) as u64, number(2, 0))))
+}
