@@ -1,9 +1,9 @@
 //! `benchmark`: the library's time beside that of the Rust's functions, on the same cases.
 //!
 //! Both are timed in the same way, each in a process of its own, in rounds one after the other, case by case: processor
-//! time of the bare call, one run before the clock starts, the median and the least of the runs; then the median of the
-//! rounds and of their ratios, and the least of all. The library's lists are allocated before and reused, and its
-//! scratch is 0 from the run before; the Rust allocates in each run. Tables are in Markdown.
+//! time of the bare call, one run before the clock starts, the median of the runs; then the median of the rounds, and
+//! that of their ratios. The library's lists are allocated before and reused, and its scratch is 0 from the run before;
+//! the Rust allocates in each run. Tables are in Markdown.
 
 use crate::call::{Call, Function};
 use crate::compare::{call_of, differences};
@@ -41,21 +41,15 @@ fn median(mut times: Vec<f64>) -> f64 {
     times[times.len() / 2]
 }
 
-fn least(times: &[f64]) -> f64 {
-    times.iter().copied().fold(f64::INFINITY, f64::min)
-}
-
-/// The median and the least time of a call that has been lent its lists.
-fn times_ms(call: &mut Call, runs: usize) -> (f64, f64) {
+/// The median time of a call that has been lent its lists.
+fn median_ms(call: &mut Call, runs: usize) -> f64 {
     call.make();
     let time = |_| {
         let start = processor_ms();
         std::hint::black_box(call.make());
         processor_ms() - start
     };
-    let times: Vec<f64> = (0..runs).map(time).collect();
-    let least = least(&times);
-    (median(times), least)
+    median((0..runs).map(time).collect())
 }
 
 fn lent(mut call: Call) -> Call {
@@ -76,9 +70,7 @@ struct Row {
     closure: usize,
     ours: f64,
     rust: f64,
-    /// Of the medians, and of the least times.
     ratio: f64,
-    least_ratio: f64,
 }
 
 /// Compares a case's answers, then times it both ways.
@@ -94,24 +86,13 @@ fn row(folder: &Path, case: &Block, runs: usize) -> io::Result<Row> {
         // id kind status closure route median least
         let timed = String::from_utf8_lossy(&oracle(folder, &["timecases", &runs.to_string()], &text)?).into_owned();
         let line = timed.lines().find(|l| l.starts_with(&case.name)).unwrap_or("");
-        let times: Vec<f64> = line.split(' ').skip(5).filter_map(|x| x.parse().ok()).collect();
-        let [median, least] = times[..] else {
-            return Err(io::Error::other(format!("{}: no times in {timed}", case.name)));
-        };
-        rust.push((median, least));
-        ours.push(times_ms(&mut lent(call_of(case)), runs));
+        let time = line.split(' ').nth(5).and_then(|x| x.parse().ok());
+        rust.push(time.ok_or_else(|| io::Error::other(format!("{}: no time in {timed}", case.name)))?);
+        ours.push(median_ms(&mut lent(call_of(case)), runs));
     }
-    let ratios = ours.iter().zip(&rust).map(|(ours, rust)| ours.0 / rust.0).collect();
-    let medians = |times: &[(f64, f64)]| median(times.iter().map(|t| t.0).collect());
-    let least = |times: &[(f64, f64)]| least(&times.iter().map(|t| t.1).collect::<Vec<_>>());
-    Ok(Row {
-        route: answer.field("route").to_string(),
-        closure: answer.number("closure"),
-        ours: medians(&ours),
-        rust: medians(&rust),
-        ratio: median(ratios),
-        least_ratio: least(&ours) / least(&rust),
-    })
+    let ratio = median(ours.iter().zip(&rust).map(|(ours, rust)| ours / rust).collect());
+    let (route, closure) = (answer.field("route").to_string(), answer.number("closure"));
+    Ok(Row { route, closure, ours: median(ours), rust: median(rust), ratio })
 }
 
 pub fn benchmark(folder: &Path, runs: usize) -> io::Result<()> {
@@ -151,8 +132,8 @@ fn machine() -> String {
 }
 
 fn rows_of_the_timing_set(folder: &Path, runs: usize) -> io::Result<()> {
-    println!("| case | Rust's route | pairs | ours | Rust | ours / Rust | least / least | target | |");
-    println!("|---|---|---|---|---|---|---|---|---|");
+    println!("| case | Rust's route | pairs | ours | Rust | ours / Rust | target | |");
+    println!("|---|---|---|---|---|---|---|---|");
     let mut generate = Command::new(folder.join("generate")).arg("timing").stdout(Stdio::piped()).spawn()?;
     let mut cases = Blocks::new(BufReader::new(generate.stdout.take().expect("piped")));
     while let Some(case) = cases.next()? {
@@ -164,8 +145,8 @@ fn rows_of_the_timing_set(folder: &Path, runs: usize) -> io::Result<()> {
         let target = if row.route.starts_with("factor") { FACTOR_TARGET } else { CLOSURE_TARGET };
         let met = if row.ratio <= target { "met" } else { "missed" };
         println!(
-            "| {name} | {} | {} | {:.3} | {:.3} | {:.3} | {:.3} | {target} | {met} |",
-            row.route, row.closure, row.ours, row.rust, row.ratio, row.least_ratio
+            "| {name} | {} | {} | {:.3} | {:.3} | {:.3} | {target} | {met} |",
+            row.route, row.closure, row.ours, row.rust, row.ratio
         );
     }
     generate.wait()?;
@@ -239,7 +220,7 @@ fn split(runs: usize) {
                 ..diagonal_of(side, nested)
             };
             let pairs = lent(call.clone()).make().closure;
-            let time = |limit| times_ms(&mut lent(Call { limit, ..call.clone() }), runs).0;
+            let time = |limit| median_ms(&mut lent(Call { limit, ..call.clone() }), runs);
             let (marked, closed, whole) = (time(0), time(pairs - 1), time(pairs));
             println!(
                 "| {side}x{side} {} | {pairs} | {marked:.3} | {:.3} | {:.3} | {whole:.3} |",
