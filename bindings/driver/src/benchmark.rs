@@ -59,7 +59,8 @@ fn lent(mut call: Call) -> Call {
 
 /// What the oracle writes on a text.
 fn oracle(folder: &Path, args: &[&str], text: &str) -> io::Result<Vec<u8>> {
-    let mut child = Command::new(folder.join("oracle")).args(args).stdin(Stdio::piped()).stdout(Stdio::piped()).spawn()?;
+    let mut child =
+        Command::new(folder.join("oracle")).args(args).stdin(Stdio::piped()).stdout(Stdio::piped()).spawn()?;
     child.stdin.take().expect("piped").write_all(text.as_bytes())?;
     Ok(child.wait_with_output()?.stdout)
 }
@@ -82,7 +83,7 @@ fn row(folder: &Path, case: &Block, runs: usize) -> io::Result<Row> {
     }
     let (mut ours, mut rust) = (Vec::new(), Vec::new());
     for _ in 0..ROUNDS {
-        // # id kind status closure route median least
+        // id kind status closure route median least
         let timed = String::from_utf8_lossy(&oracle(folder, &["timecases", &runs.to_string()], &text)?).into_owned();
         let line = timed.lines().find(|l| l.starts_with(&case.name)).unwrap_or("");
         let time = line.split(' ').nth(5).and_then(|x| x.parse().ok());
@@ -124,11 +125,15 @@ pub fn profile(folder: &Path, name: &str, runs: usize) -> io::Result<()> {
 fn machine() -> String {
     let file = File::open("/proc/cpuinfo").map(BufReader::new);
     let lines = file.into_iter().flat_map(|f| f.lines().map_while(Result::ok));
-    lines.filter_map(|l| l.strip_prefix("model name").map(|m| m.trim_start_matches([' ', '\t', ':']).to_string())).next().unwrap_or_default()
+    lines
+        .filter_map(|l| l.strip_prefix("model name").map(|m| m.trim_start_matches([' ', '\t', ':']).to_string()))
+        .next()
+        .unwrap_or_default()
 }
 
 fn rows_of_the_timing_set(folder: &Path, runs: usize) -> io::Result<()> {
-    println!("| case | Rust's route | pairs | ours | Rust | ours / Rust | target | |\n|---|---|---|---|---|---|---|---|");
+    println!("| case | Rust's route | pairs | ours | Rust | ours / Rust | target | |");
+    println!("|---|---|---|---|---|---|---|---|");
     let mut generate = Command::new(folder.join("generate")).arg("timing").stdout(Stdio::piped()).spawn()?;
     let mut cases = Blocks::new(BufReader::new(generate.stdout.take().expect("piped")));
     while let Some(case) = cases.next()? {
@@ -139,7 +144,10 @@ fn rows_of_the_timing_set(folder: &Path, runs: usize) -> io::Result<()> {
         let row = row(folder, &case, runs)?;
         let target = if row.route.starts_with("factor") { FACTOR_TARGET } else { CLOSURE_TARGET };
         let met = if row.ratio <= target { "met" } else { "missed" };
-        println!("| {name} | {} | {} | {:.3} | {:.3} | {:.3} | {target} | {met} |", row.route, row.closure, row.ours, row.rust, row.ratio);
+        println!(
+            "| {name} | {} | {} | {:.3} | {:.3} | {:.3} | {target} | {met} |",
+            row.route, row.closure, row.ours, row.rust, row.ratio
+        );
     }
     generate.wait()?;
     Ok(())
@@ -161,7 +169,8 @@ fn diagonal_of(side: usize, nested: bool) -> Call {
 }
 
 fn growth(folder: &Path, runs: usize) -> io::Result<()> {
-    println!("\n| grid | n | stored | requests | pairs | ours | ours, ns a pair | Rust | ours / Rust |\n|---|---|---|---|---|---|---|---|---|");
+    println!("\n| grid | n | stored | requests | pairs | ours | ours, ns a pair | Rust | ours / Rust |");
+    println!("|---|---|---|---|---|---|---|---|---|");
     for nested in [false, true] {
         for first in [false, true] {
             for side in [16, 23, 32, 45] {
@@ -199,7 +208,8 @@ fn growth(folder: &Path, runs: usize) -> io::Result<()> {
 /// of 0 stops after the checks, the clearing of the scratch before and after, and the marking of the request; one short
 /// of the set stops when it is closed; the rest is layout and route.
 fn split(runs: usize) {
-    println!("\n| grid | pairs | checks, clearing, marking | closing | layout, route | whole |\n|---|---|---|---|---|---|");
+    println!("\n| grid | pairs | checks, clearing, marking | closing | layout, route | whole |");
+    println!("|---|---|---|---|---|---|");
     for nested in [false, true] {
         for side in [16, 23, 32, 45] {
             let call = Call {

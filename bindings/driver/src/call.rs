@@ -62,7 +62,10 @@ impl Function {
 
     /// Whether it selects entries: its reply has a status, and it is lent result lists and scratch.
     pub fn selects(self) -> bool {
-        matches!(self, Function::EntriesWithLimit | Function::Entries | Function::OriginalDiag | Function::OperatorVariances)
+        matches!(
+            self,
+            Function::EntriesWithLimit | Function::Entries | Function::OriginalDiag | Function::OperatorVariances
+        )
     }
 }
 
@@ -101,7 +104,7 @@ pub struct Call {
     pub output: List<f64>,
 }
 
-/// A refusal, or the fields of the function's reply; all others are 0.
+/// The fields of a function's reply; those that it has not, and all but the refusal where there is one, are 0.
 #[derive(Clone, Copy, Debug, Default)]
 pub struct Reply {
     pub refusal: u32,
@@ -130,8 +133,11 @@ impl Reply {
 
     /// Equal, all NaNs taken as one.
     pub fn same(&self, other: &Self) -> bool {
-        let numbers = |r: &Self| (r.refusal, r.status, [r.requested, r.closure, r.factor, r.limit, r.pairs, r.hits, r.negative]);
-        let values = |r: &Self| [r.ratio, r.value, r.floor, r.least].map(|x| if x.is_nan() { f64::NAN.to_bits() } else { x.to_bits() });
+        let numbers =
+            |r: &Self| (r.refusal, r.status, [r.requested, r.closure, r.factor, r.limit, r.pairs, r.hits, r.negative]);
+        let values = |r: &Self| {
+            [r.ratio, r.value, r.floor, r.least].map(|x| if x.is_nan() { f64::NAN.to_bits() } else { x.to_bits() })
+        };
         numbers(self) == numbers(other) && values(self) == values(other)
     }
 }
@@ -150,97 +156,71 @@ fn selected(r: sys::redstartgilt_selected) -> Reply {
 }
 
 fn listed(r: sys::redstartgilt_pairs) -> Reply {
-    if r.refusal == 0 { Reply { pairs: r.pairs, ..Reply::default() } } else { Reply::refused(r.refusal) }
+    Reply { refusal: r.refusal, pairs: r.pairs, ..Reply::default() }
 }
 
 fn floored(r: sys::redstartgilt_floored) -> Reply {
-    if r.refusal == 0 { Reply { floor: r.floor, hits: r.floor_hits, ..Reply::default() } } else { Reply::refused(r.refusal) }
+    Reply { refusal: r.refusal, floor: r.floor, hits: r.floor_hits, ..Reply::default() }
 }
 
 /// The entry at a pair of a result, by the library.
 pub fn look_up(starts: &[u32], rows: &[u32], values: &[f64], row: usize, column: usize) -> Reply {
-    let r = unsafe {
-        sys::redstartgilt_get(starts.as_ptr(), starts.len(), rows.as_ptr(), rows.len(), values.as_ptr(), values.len(), row, column)
+    let (s, r, v) = ((starts.as_ptr(), starts.len()), (rows.as_ptr(), rows.len()), (values.as_ptr(), values.len()));
+    let entry = unsafe { sys::redstartgilt_get(s.0, s.1, r.0, r.1, v.0, v.1, row, column) };
+    Reply { refusal: entry.refusal, value: entry.value, ..Reply::default() }
+}
+
+/// Calls a function of the C interface with arguments in a row: `(n)` as it is, `[rows]` a list's pointer and length,
+/// `{scratch}` the same of a list lent for writing.
+macro_rules! c_call {
+    ($call:ident $function:ident ($($done:expr),*)) => {
+        unsafe { sys::$function($($done),*) }
     };
-    if r.refusal == 0 { Reply { value: r.value, ..Reply::default() } } else { Reply::refused(r.refusal) }
+    ($call:ident $function:ident ($($done:expr),*) ($value:expr) $($rest:tt)*) => {
+        c_call!($call $function ($($done,)* $value) $($rest)*)
+    };
+    ($call:ident $function:ident ($($done:expr),*) [$list:ident] $($rest:tt)*) => {
+        c_call!($call $function ($($done,)* $call.$list.pointer(), $call.$list.len()) $($rest)*)
+    };
+    ($call:ident $function:ident ($($done:expr),*) {$list:ident} $($rest:tt)*) => {
+        c_call!($call $function ($($done,)* $call.$list.pointer_mut(), $call.$list.len()) $($rest)*)
+    };
 }
 
 impl Call {
-    /// Makes the call. No reference to a list is held meanwhile, only the pointers below.
+    /// Makes the call.
+    #[rustfmt::skip]
     pub fn make(&mut self) -> Reply {
-        macro_rules! read {
-            ($list:ident) => {
-                (self.$list.pointer(), self.$list.len())
-            };
-        }
-        macro_rules! lent {
-            ($list:ident) => {{
-                let length = self.$list.len();
-                (self.$list.pointer_mut(), length)
-            }};
-        }
-        let n = self.n;
-        let (starts, rows, values) = (read!(starts), read!(rows), read!(values));
-        let (request_rows, request_columns) = (read!(request_rows), read!(request_columns));
-        let (row_starts, columns, weights) = (read!(row_starts), read!(columns), read!(weights));
-        let (orig_to_perm, input) = (read!(orig_to_perm), read!(input));
-        let (result_starts, result_rows, result_values) = (lent!(result_starts), lent!(result_rows), lent!(result_values));
-        let (scratch, output, perm_to_orig) = (lent!(scratch), lent!(output), lent!(perm_to_orig));
-        let (pair_rows, pair_columns) = (lent!(pair_rows), lent!(pair_columns));
-        unsafe {
-            match self.function {
-                Function::EntriesWithLimit => selected(sys::redstartgilt_selected_inverse_entries_with_limit(
-                    n, starts.0, starts.1, rows.0, rows.1, values.0, values.1,
-                    self.dimension, request_rows.0, request_rows.1, request_columns.0, request_columns.1, self.limit,
-                    result_starts.0, result_starts.1, result_rows.0, result_rows.1, result_values.0, result_values.1,
-                    scratch.0, scratch.1,
-                )),
-                Function::Entries => selected(sys::redstartgilt_selected_inverse_entries(
-                    n, starts.0, starts.1, rows.0, rows.1, values.0, values.1,
-                    self.dimension, request_rows.0, request_rows.1, request_columns.0, request_columns.1,
-                    result_starts.0, result_starts.1, result_rows.0, result_rows.1, result_values.0, result_values.1,
-                    scratch.0, scratch.1,
-                )),
-                Function::Get => look_up(&self.starts, &self.rows, &self.values, self.row, self.column),
-                Function::Diag => Reply::refused(sys::redstartgilt_diag(
-                    starts.0, starts.1, rows.0, rows.1, values.0, values.1, output.0, output.1,
-                )),
-                Function::OriginalDiag => selected(sys::redstartgilt_selected_inverse_diag_with_diagnostics(
-                    n, starts.0, starts.1, rows.0, rows.1, values.0, values.1, orig_to_perm.0, orig_to_perm.1,
-                    result_starts.0, result_starts.1, result_rows.0, result_rows.1, result_values.0, result_values.1,
-                    scratch.0, scratch.1, output.0, output.1,
-                )),
-                Function::OperatorVariances => selected(sys::redstartgilt_selected_inverse_transformed_diag(
-                    n, starts.0, starts.1, rows.0, rows.1, values.0, values.1,
-                    self.dimension, row_starts.0, row_starts.1, columns.0, columns.1, weights.0, weights.1,
-                    result_starts.0, result_starts.1, result_rows.0, result_rows.1, result_values.0, result_values.1,
-                    scratch.0, scratch.1, output.0, output.1,
-                )),
-                Function::FactorPattern => listed(sys::redstartgilt_from_cholesky_factor(
-                    n, starts.0, starts.1, rows.0, rows.1, values.0, values.1,
-                    scratch.0, scratch.1, pair_rows.0, pair_rows.1, pair_columns.0, pair_columns.1,
-                )),
-                Function::OperatorPattern => listed(sys::redstartgilt_from_transformed_operator(
-                    n, row_starts.0, row_starts.1, columns.0, columns.1, weights.0, weights.1,
-                    scratch.0, scratch.1, pair_rows.0, pair_rows.1, pair_columns.0, pair_columns.1,
-                )),
-                Function::Validate => Reply::refused(sys::redstartgilt_validate(
-                    orig_to_perm.0, orig_to_perm.1, perm_to_orig.0, perm_to_orig.1,
-                )),
-                Function::Inverse => Reply::refused(sys::redstartgilt_from_orig_to_perm(
-                    orig_to_perm.0, orig_to_perm.1, perm_to_orig.0, perm_to_orig.1,
-                )),
-                Function::Reorder => Reply::refused(sys::redstartgilt_permute_factor_to_original(
-                    orig_to_perm.0, orig_to_perm.1, input.0, input.1, output.0, output.1,
-                )),
-                Function::FloorZero => floored(sys::redstartgilt_stabilize_variances_zero(input.0, input.1, output.0, output.1)),
-                Function::FloorMean => floored(sys::redstartgilt_stabilize_variances_positive_mean(
-                    input.0, input.1, self.scale, output.0, output.1,
-                )),
-                Function::Least => {
-                    let r = sys::redstartgilt_count_and_least(input.0, input.1);
-                    Reply { negative: r.num_negative, least: r.min_value, ..Reply::default() }
-                }
+        match self.function {
+            Function::EntriesWithLimit => selected(c_call!(self redstartgilt_selected_inverse_entries_with_limit ()
+                (self.n) [starts] [rows] [values] (self.dimension) [request_rows] [request_columns] (self.limit)
+                {result_starts} {result_rows} {result_values} {scratch})),
+            Function::Entries => selected(c_call!(self redstartgilt_selected_inverse_entries ()
+                (self.n) [starts] [rows] [values] (self.dimension) [request_rows] [request_columns]
+                {result_starts} {result_rows} {result_values} {scratch})),
+            Function::Get => look_up(&self.starts, &self.rows, &self.values, self.row, self.column),
+            Function::Diag => Reply::refused(c_call!(self redstartgilt_diag () [starts] [rows] [values] {output})),
+            Function::OriginalDiag => selected(c_call!(self redstartgilt_selected_inverse_diag_with_diagnostics ()
+                (self.n) [starts] [rows] [values] [orig_to_perm]
+                {result_starts} {result_rows} {result_values} {scratch} {output})),
+            Function::OperatorVariances => selected(c_call!(self redstartgilt_selected_inverse_transformed_diag ()
+                (self.n) [starts] [rows] [values] (self.dimension) [row_starts] [columns] [weights]
+                {result_starts} {result_rows} {result_values} {scratch} {output})),
+            Function::FactorPattern => listed(c_call!(self redstartgilt_from_cholesky_factor ()
+                (self.n) [starts] [rows] [values] {scratch} {pair_rows} {pair_columns})),
+            Function::OperatorPattern => listed(c_call!(self redstartgilt_from_transformed_operator ()
+                (self.n) [row_starts] [columns] [weights] {scratch} {pair_rows} {pair_columns})),
+            Function::Validate => Reply::refused(c_call!(self redstartgilt_validate () [orig_to_perm] [perm_to_orig])),
+            Function::Inverse => Reply::refused(c_call!(self redstartgilt_from_orig_to_perm ()
+                [orig_to_perm] {perm_to_orig})),
+            Function::Reorder => Reply::refused(c_call!(self redstartgilt_permute_factor_to_original ()
+                [orig_to_perm] [input] {output})),
+            Function::FloorZero => floored(c_call!(self redstartgilt_stabilize_variances_zero () [input] {output})),
+            Function::FloorMean => floored(c_call!(self redstartgilt_stabilize_variances_positive_mean ()
+                [input] (self.scale) {output})),
+            Function::Least => {
+                let r = c_call!(self redstartgilt_count_and_least () [input]);
+                Reply { negative: r.num_negative, least: r.min_value, ..Reply::default() }
             }
         }
     }
@@ -277,7 +257,13 @@ impl Call {
     pub fn told(&self) -> String {
         let scalars = format!(
             "{}: n {} dimension {} limit {} row {} column {} scale {:016x}",
-            self.function.name(), self.n, self.dimension, self.limit, self.row, self.column, self.scale.to_bits()
+            self.function.name(),
+            self.n,
+            self.dimension,
+            self.limit,
+            self.row,
+            self.column,
+            self.scale.to_bits()
         );
         let words = self.words().map(|(name, list)| told_list(name, list, |x| x.to_string()));
         let floats = self.floats().map(|(name, list)| told_list(name, list, |x| format!("{:016x}", x.to_bits())));
@@ -288,5 +274,6 @@ impl Call {
 
 fn told_list<T: Item>(name: &str, list: &[T], item: impl Fn(T) -> String) -> Option<String> {
     let shown: Vec<String> = list.iter().take(200).map(|&x| item(x)).collect();
-    (!list.is_empty()).then(|| format!("  {name} {}: {}{}", list.len(), shown.join(" "), if list.len() > 200 { " .." } else { "" }))
+    (!list.is_empty())
+        .then(|| format!("  {name} {}: {}{}", list.len(), shown.join(" "), if list.len() > 200 { " .." } else { "" }))
 }

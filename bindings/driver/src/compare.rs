@@ -19,8 +19,8 @@ use std::path::Path;
 use std::process::{Command, Stdio};
 
 const SETS: [&str; 18] = [
-    "worked", "tiny", "random", "special", "exact", "dyadic", "grid", "large", "default", "diagorig", "opvar", "pattern",
-    "perm", "floor", "least", "lookup", "refuse", "timing",
+    "worked", "tiny", "random", "special", "exact", "dyadic", "grid", "large", "default", "diagorig", "opvar",
+    "pattern", "perm", "floor", "least", "lookup", "refuse", "timing",
 ];
 /// The first is the generator's own.
 const SEEDS: [u64; 3] = [1, 7, 11];
@@ -110,7 +110,8 @@ impl Tally {
 }
 
 fn compare_set(folder: &Path, set: &str, seed: u64, tally: &mut Tally) -> io::Result<()> {
-    let generate = || Command::new(folder.join("generate")).arg(set).arg(seed.to_string()).stdout(Stdio::piped()).spawn();
+    let generate =
+        || Command::new(folder.join("generate")).arg(set).arg(seed.to_string()).stdout(Stdio::piped()).spawn();
     let mut asked = generate()?;
     let mut given = generate()?;
     let mut oracle = Command::new(folder.join("oracle"))
@@ -150,7 +151,8 @@ pub fn call_of(case: &Block) -> Call {
     let (words, values) = (|name| List::new(&case.numbers(name)), |name| List::new(&case.values(name)));
     let result = || Call { starts: words("starts"), rows: words("rows"), values: values("values"), ..Call::default() };
     let factor = |function| Call { function, n: case.number("n"), ..result() };
-    let operator = |call| Call { row_starts: words("ostarts"), columns: words("ocols"), weights: values("oweights"), ..call };
+    let operator =
+        |call| Call { row_starts: words("ostarts"), columns: words("ocols"), weights: values("oweights"), ..call };
     let simple = |function| Call { function, ..Call::default() };
     match case.kind.as_str() {
         "entries" => {
@@ -171,7 +173,9 @@ pub fn call_of(case: &Block) -> Call {
         "opvar" => Call { dimension: case.number("ncols"), ..operator(factor(Function::OperatorVariances)) },
         "patfactor" => factor(Function::FactorPattern),
         "patoperator" => Call { n: case.number("ncols"), ..operator(simple(Function::OperatorPattern)) },
-        "permvalidate" => Call { orig_to_perm: words("perm"), perm_to_orig: words("inv"), ..simple(Function::Validate) },
+        "permvalidate" => {
+            Call { orig_to_perm: words("perm"), perm_to_orig: words("inv"), ..simple(Function::Validate) }
+        }
         "permfrom" => Call { orig_to_perm: words("perm"), ..simple(Function::Inverse) },
         "permapply" => Call { orig_to_perm: words("perm"), input: values("input"), ..simple(Function::Reorder) },
         "floor" if case.field("floor") == "zero" => Call { input: values("input"), ..simple(Function::FloorZero) },
@@ -183,7 +187,11 @@ pub fn call_of(case: &Block) -> Call {
 
 /// What is needed, in four cases of ten a few places more.
 fn some_more(random: &mut Random, need: usize) -> usize {
-    if random.chance(40) { need + 1 + random.below(8) } else { need }
+    if random.chance(40) {
+        need + 1 + random.below(8)
+    } else {
+        need
+    }
 }
 
 /// Makes the calls of a case and compares them; how many there were.
@@ -209,8 +217,15 @@ fn compare_case(case: &Block, answer: &Block, seed: u64, random: &mut Random, ta
     }
     let small = call.n <= RULES_DIMENSION;
     let by_rules = (small || case.kind == "defaultlimit").then(|| rules::expected(call.clone()));
-    let expected = if number > 0 { rules::refused(number, call.clone()) } else { answered(case, answer, call.clone(), by_rules.as_ref()) };
-    if case.kind == "least" && expected.reply.least.to_bits() != value(answer.field("least")).to_bits() && expected.reply.least == 0.0 {
+    let expected = if number > 0 {
+        rules::refused(number, call.clone())
+    } else {
+        answered(case, answer, call.clone(), by_rules.as_ref())
+    };
+    if case.kind == "least"
+        && expected.reply.least.to_bits() != value(answer.field("least")).to_bits()
+        && expected.reply.least == 0.0
+    {
         tally.intended("least: the Rust keeps the later of two zeros".to_string(), case, seed);
     }
     tally.differs(&expected.differences(&reply, &made), case, &call);
@@ -318,7 +333,11 @@ fn pairs(case: &Block) -> Vec<(usize, usize)> {
 
 /// A lookup's reply by the Rust's word for it.
 fn got(word: &str) -> Reply {
-    if word == "none" { Reply::refused(8) } else { Reply { value: value(word), ..Reply::default() } }
+    if word == "none" {
+        Reply::refused(8)
+    } else {
+        Reply { value: value(word), ..Reply::default() }
+    }
 }
 
 /// Lookups in what a call left: the filled starts, and the rows and values as they are.
@@ -337,7 +356,8 @@ fn compare_read_back(made: &Call, case: &Block, answer: &Block, tally: &mut Tall
     pairs.len()
 }
 
-/// The lookups of a `get` case. Document 01 decides where the Rust's columns cannot hold the lists or are searched as they are.
+/// The lookups of a `get` case. Document 01 decides where the Rust's columns cannot hold the lists, or are searched as
+/// they are.
 fn compare_lookups(mut call: Call, case: &Block, answer: &Block, seed: u64, tally: &mut Tally) -> usize {
     let pairs = pairs(case);
     let fed = answer.field("reply") == "ok";
@@ -350,7 +370,11 @@ fn compare_lookups(mut call: Call, case: &Block, answer: &Block, seed: u64, tall
         let expected = rules::expected(call.clone());
         tally.differs(&expected.differences(&reply, &made), case, &call);
         if !fed {
-            tally.intended(format!("get: document 01 gives {}, the Rust: {}", expected.reply.refusal, answer.field("reply")), case, seed);
+            tally.intended(
+                format!("get: document 01 gives {}, the Rust: {}", expected.reply.refusal, answer.field("reply")),
+                case,
+                seed,
+            );
         } else if !expected.reply.same(&gets[at]) {
             let rust = if gets[at].refusal == 8 { "none" } else { "a value" };
             let what = format!("get: document 01 gives {}, the Rust {rust}", expected.reply.refusal);

@@ -39,7 +39,11 @@ impl Expected {
             };
             if let Some(at) = list.difference(expected, filled) {
                 let bits = |x: Option<&f64>| x.map(|x| format!("{:016x}", x.to_bits()));
-                found.push(format!("{name}[{at}] is {:?} in place of {:?}", bits(list.get(at)), bits(expected.get(at))));
+                found.push(format!(
+                    "{name}[{at}] is {:?} in place of {:?}",
+                    bits(list.get(at)),
+                    bits(expected.get(at))
+                ));
             }
             if !list.guards_hold() {
                 found.push(format!("written outside {name}"));

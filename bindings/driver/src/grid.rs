@@ -35,7 +35,12 @@ pub fn grid(side: usize, nested: bool) -> Grid {
             *columns[b].entry(b).or_default() += 1.0;
         }
     }
-    let mut grid = Grid { starts: vec![0], rows: Vec::new(), values: Vec::new(), orig_to_perm: place.iter().map(|&p| p as u32).collect() };
+    let mut grid = Grid {
+        starts: vec![0],
+        rows: Vec::new(),
+        values: Vec::new(),
+        orig_to_perm: place.iter().map(|&p| p as u32).collect(),
+    };
     for j in 0..n {
         let diagonal = columns[j][&j].sqrt();
         let below: Vec<(usize, f64)> = columns[j].range(j + 1..).map(|(&r, &v)| (r, v / diagonal)).collect();

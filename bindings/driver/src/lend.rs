@@ -20,7 +20,8 @@ pub fn needs(call: &Call) -> Needs {
     let n = if call.n <= MOST_COLUMNS { call.n } else { 3 };
     let pattern = matches!(call.function, Function::FactorPattern | Function::OperatorPattern);
     // with no list to write into, a pattern that could be listed is refused with 7 or has no pairs
-    let bare = Call { scratch: List::default(), pair_rows: List::default(), pair_columns: List::default(), ..call.clone() };
+    let bare =
+        Call { scratch: List::default(), pair_rows: List::default(), pair_columns: List::default(), ..call.clone() };
     let listed = pattern && matches!(refusal(&bare), 0 | 7);
     Needs {
         starts: n + 1,

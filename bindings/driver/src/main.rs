@@ -1,6 +1,7 @@
 //! The library's driver: comparison with the Rust's functions, malformed calls, benchmark.
 
 mod benchmark;
+mod bounds;
 mod call;
 mod compare;
 mod expected;
@@ -11,6 +12,8 @@ mod malformed;
 mod random;
 mod refusals;
 mod rules;
+mod sound;
+mod spoil;
 mod text;
 
 use std::path::Path;
@@ -45,7 +48,9 @@ fn main() -> ExitCode {
 /// The number of differences; None where the arguments are not understood.
 fn run(words: &[&str]) -> Option<std::io::Result<usize>> {
     match words {
-        ["compare" | "benchmark" | "profile", folder, ..] if !compare::oracle_is_there(Path::new(folder)) => Some(Ok(0)),
+        ["compare" | "benchmark" | "profile", folder, ..] if !compare::oracle_is_there(Path::new(folder)) => {
+            Some(Ok(0))
+        }
         ["compare", folder, "--huge"] => Some(compare::compare(Path::new(folder), &[], true)),
         ["compare", folder, seeds @ ..] => {
             let seeds: Vec<u64> = seeds.iter().map(|s| s.parse().ok()).collect::<Option<_>>()?;
@@ -60,7 +65,9 @@ fn run(words: &[&str]) -> Option<std::io::Result<usize>> {
             let runs = runs.first().map_or(Some(15), |r| r.parse().ok())?;
             Some(benchmark::benchmark(Path::new(folder), runs).map(|()| 0))
         }
-        ["profile", folder, case, runs] => Some(benchmark::profile(Path::new(folder), case, runs.parse().ok()?).map(|()| 0)),
+        ["profile", folder, case, runs] => {
+            Some(benchmark::profile(Path::new(folder), case, runs.parse().ok()?).map(|()| 0))
+        }
         _ => None,
     }
 }

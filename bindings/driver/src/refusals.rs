@@ -28,7 +28,11 @@ pub fn refusal(call: &Call) -> u32 {
 }
 
 fn refuse(number: u32, when: bool) -> Steps {
-    if when { Err(number) } else { Ok(()) }
+    if when {
+        Err(number)
+    } else {
+        Ok(())
+    }
 }
 
 fn entries(call: &Call) -> Steps {
@@ -57,7 +61,13 @@ fn original_diagonal(call: &Call) -> Steps {
 
 fn operator_variances(call: &Call) -> Steps {
     let rows = call.row_starts.len().saturating_sub(1);
-    refuse(1, call.n > MOST_COLUMNS || call.rows.len() > MOST_ENTRIES || rows > MOST_COLUMNS || call.columns.len() > MOST_ENTRIES)?;
+    refuse(
+        1,
+        call.n > MOST_COLUMNS
+            || call.rows.len() > MOST_ENTRIES
+            || rows > MOST_COLUMNS
+            || call.columns.len() > MOST_ENTRIES,
+    )?;
     factor(call)?;
     refuse(4, call.dimension != call.n)?;
     operator(call, call.n)?;
@@ -159,14 +169,17 @@ fn operator(call: &Call, columns: usize) -> Steps {
 
 /// 6.
 fn diagonals(call: &Call) -> Steps {
-    refuse(6, Factor::kept(call).diagonals.iter().any(|d| d.map_or(true, |d| d <= 0.0)))
+    refuse(6, Factor::kept(call).diagonals.iter().any(|d| d.is_none_or(|d| d <= 0.0)))
 }
 
 /// 7 of the lists that selecting entries fills.
 fn room(call: &Call) -> Steps {
     let n = call.n;
     let entries = rules::limit(call).min(triangle(n));
-    refuse(7, call.result_starts.len() < n + 1 || call.result_rows.len() < entries || call.result_values.len() < entries)?;
+    refuse(
+        7,
+        call.result_starts.len() < n + 1 || call.result_rows.len() < entries || call.result_values.len() < entries,
+    )?;
     refuse(7, call.scratch.len() < rules::scratch_words(n))
 }
 

@@ -16,7 +16,11 @@ pub fn scratch_words(n: usize) -> usize {
 
 /// The limit that applies: 10 times the stored entries where none is given.
 pub fn limit(call: &Call) -> usize {
-    if call.function == Function::EntriesWithLimit { call.limit } else { 10 * call.rows.len() }
+    if call.function == Function::EntriesWithLimit {
+        call.limit
+    } else {
+        10 * call.rows.len()
+    }
 }
 
 /// The kept entries of a factor that passes 1, 2 and 3.
@@ -31,7 +35,8 @@ impl Factor {
         let (mut diagonals, mut below) = (Vec::new(), Vec::new());
         for column in 0..call.n {
             let places = call.starts[column] as usize..call.starts[column + 1] as usize;
-            let entries = places.map(|p| (call.rows[p] as usize, call.values[p])).filter(|e| e.0 >= column && e.1 != 0.0);
+            let entries =
+                places.map(|p| (call.rows[p] as usize, call.values[p])).filter(|e| e.0 >= column && e.1 != 0.0);
             let (diagonal, rest): (Vec<_>, Vec<_>) = entries.partition(|e| e.0 == column);
             diagonals.push(diagonal.first().map(|e| e.1));
             below.push(rest);
@@ -113,7 +118,11 @@ pub fn requested(call: &Call) -> Pairs {
                 factor.below[column].iter().for_each(|e| pairs.insert(e.0, column));
             }
         }
-        _ => call.request_rows.iter().zip(call.request_columns.iter()).for_each(|(&r, &c)| pairs.insert(r as usize, c as usize)),
+        _ => call
+            .request_rows
+            .iter()
+            .zip(call.request_columns.iter())
+            .for_each(|(&r, &c)| pairs.insert(r as usize, c as usize)),
     }
     pairs
 }
@@ -150,7 +159,11 @@ pub fn found(call: &Call, row: usize, column: usize) -> Option<f64> {
 /// What a call must reply and leave.
 pub fn expected(call: Call) -> Expected {
     let number = refusal(&call);
-    if number > 0 { refused(number, call) } else { accepted(call) }
+    if number > 0 {
+        refused(number, call)
+    } else {
+        accepted(call)
+    }
 }
 
 /// What a refused call leaves: the marks of a scratch that is long enough end 0 in pattern lists, and after 8.
@@ -257,7 +270,9 @@ fn outputs(call: &mut Call, z: &[f64]) -> usize {
                 let mut sum = 0.0;
                 for a in row[0] as usize..row[1] as usize {
                     for b in row[0] as usize..row[1] as usize {
-                        sum += call.weights[a] * call.weights[b] * z[place(call.columns[a] as usize, call.columns[b] as usize)];
+                        sum += call.weights[a]
+                            * call.weights[b]
+                            * z[place(call.columns[a] as usize, call.columns[b] as usize)];
                     }
                 }
                 call.output[at] = sum;
@@ -281,8 +296,9 @@ fn floored(mut call: Call) -> Expected {
     }
     let mut hits = 0;
     for (at, &x) in call.input.iter().enumerate() {
-        call.output[at] = if x > floor { x } else { floor };
-        hits += usize::from(!(x > floor));
+        let above = x > floor;
+        call.output[at] = if above { x } else { floor };
+        hits += usize::from(!above);
     }
     Expected { output_filled: call.input.len(), ..Expected::untouched(Reply { floor, hits, ..Reply::default() }, call) }
 }

@@ -71,7 +71,13 @@ impl Block {
 
     /// The text with long lines cut.
     pub fn shown(&self) -> String {
-        let cut = |line: &str| if line.len() > 4000 { format!("{} ..", &line[..4000]) } else { line.to_string() };
+        let cut = |line: &str| {
+            if line.len() > 4000 {
+                format!("{} ..", &line[..4000])
+            } else {
+                line.to_string()
+            }
+        };
         self.text().lines().map(cut).collect::<Vec<_>>().join("\n")
     }
 }

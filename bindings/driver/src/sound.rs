@@ -1,0 +1,163 @@
+//! Sound calls of every function, before lists are lent for writing.
+
+use crate::call::{Call, Function};
+use crate::list::List;
+use crate::random::Random;
+use crate::rules::triangle;
+use std::cmp::Ordering::{Equal, Greater, Less};
+
+struct Columns {
+    starts: Vec<u32>,
+    rows: Vec<u32>,
+    values: Vec<f64>,
+}
+
+fn some_value(random: &mut Random) -> f64 {
+    match random.below(20) {
+        0..=10 => 4.0 * random.unit() - 2.0,
+        11..=14 => random.below(9) as f64 - 4.0,
+        15 => 0.0,
+        16 => -0.0,
+        _ => random.any_value(),
+    }
+}
+
+fn some_diagonal(random: &mut Random) -> f64 {
+    match random.below(40) {
+        0..=19 => 1.0,
+        20..=34 => 0.1 + 3.0 * random.unit(),
+        35..=38 => random.any_value().abs(),
+        _ => random.any_value(),
+    }
+}
+
+/// A factor of n columns: of some density, with a full first column alone, or, where n is large, of two entries a
+/// column.
+fn factor(random: &mut Random, n: usize) -> Columns {
+    let percent = random.pick(&[0, 5, 20, 50, 100]);
+    let upper = random.pick(&[0, 0, 10]);
+    let (bare, star) = (random.chance(3), n > 32 && random.chance(60));
+    let mut columns = Columns { starts: vec![0], rows: Vec::new(), values: Vec::new() };
+    for c in 0..n {
+        if n > 64 {
+            columns.rows.push(c as u32);
+            columns.values.push(0.5 + random.unit());
+            let next = c + 1 + random.below(60);
+            if next < n {
+                columns.rows.push(next as u32);
+                columns.values.push(some_value(random));
+            }
+        } else {
+            for r in 0..n {
+                let there = match r.cmp(&c) {
+                    Equal => !(bare && random.chance(20)),
+                    Greater if star => c == 0,
+                    Greater => random.chance(percent),
+                    Less => random.chance(upper),
+                };
+                if there {
+                    columns.rows.push(r as u32);
+                    columns.values.push(if r == c { some_diagonal(random) } else { some_value(random) });
+                }
+            }
+        }
+        columns.starts.push(columns.rows.len() as u32);
+    }
+    columns
+}
+
+fn put_factor(call: &mut Call, random: &mut Random) {
+    let columns = factor(random, call.n);
+    call.starts = List::new(&columns.starts);
+    call.rows = List::new(&columns.rows);
+    call.values = List::new(&columns.values);
+}
+
+fn put_operator(call: &mut Call, random: &mut Random) {
+    let (mut starts, mut columns) = (vec![0], Vec::new());
+    for _ in 0..random.below(6) {
+        let terms = if call.n == 0 { 0 } else { random.below(6) };
+        columns.extend((0..terms).map(|_| random.below(call.n) as u32));
+        starts.push(columns.len() as u32);
+    }
+    call.row_starts = List::new(&starts);
+    call.columns = List::new(&columns);
+    call.weights = List::made(columns.len(), |_| some_value(random));
+}
+
+fn permutation(random: &mut Random, n: usize) -> Vec<u32> {
+    let mut list: Vec<u32> = (0..n as u32).collect();
+    random.shuffle(&mut list);
+    list
+}
+
+fn some_limit(random: &mut Random, n: usize) -> usize {
+    let all = triangle(n);
+    match random.below(10) {
+        0 => 0,
+        1 => all,
+        2 => all.saturating_sub(1),
+        3 => usize::MAX,
+        4 => (1 << 32) + random.below(all + 1),
+        5 => random.bits() as usize,
+        _ => random.below(all + 2),
+    }
+}
+
+/// A call that document 01 accepts, but for some diagonals, before its lists are lent.
+pub fn sound(function: Function, n: usize, random: &mut Random) -> Call {
+    let mut call = Call { function, n, dimension: n, ..Call::default() };
+    match function {
+        Function::EntriesWithLimit | Function::Entries => {
+            put_factor(&mut call, random);
+            let count = if n == 0 { 0 } else { random.below(n.min(64) + 3) };
+            call.request_rows = List::made(count, |_| random.below(n) as u32);
+            call.request_columns = List::made(count, |_| random.below(n) as u32);
+            if count > 0 && random.chance(30) {
+                // what needs most
+                (call.request_rows[0], call.request_columns[0]) = (0, 0);
+            }
+            call.limit = some_limit(random, n);
+        }
+        Function::OriginalDiag => {
+            put_factor(&mut call, random);
+            call.orig_to_perm = List::new(&permutation(random, n));
+        }
+        Function::OperatorVariances => {
+            put_factor(&mut call, random);
+            put_operator(&mut call, random);
+        }
+        Function::FactorPattern => put_factor(&mut call, random),
+        Function::OperatorPattern => put_operator(&mut call, random),
+        Function::Get | Function::Diag => {
+            put_factor(&mut call, random);
+            call.row = random.below(n + 2);
+            call.column = random.below(n + 2);
+            if n > 0 && random.chance(60) {
+                // a stored entry
+                call.column = random.below(n);
+                let (start, end) = (call.starts[call.column] as usize, call.starts[call.column + 1] as usize);
+                call.row = if start < end { call.rows[start + random.below(end - start)] as usize } else { call.row };
+            }
+        }
+        Function::Validate => {
+            let list = permutation(random, n);
+            let mut inverse = vec![0; n];
+            list.iter().enumerate().for_each(|(at, &index)| inverse[index as usize] = at as u32);
+            call.orig_to_perm = List::new(&list);
+            call.perm_to_orig = List::new(&inverse);
+        }
+        Function::Inverse => call.orig_to_perm = List::new(&permutation(random, n)),
+        Function::Reorder => {
+            call.orig_to_perm = List::new(&permutation(random, n));
+            call.input = List::made(n, |_| random.any_value());
+        }
+        Function::FloorZero | Function::FloorMean => {
+            let finite = |x: f64| if x.is_finite() { x } else { 1.0 };
+            call.input = List::made(n, |_| finite(some_value(random)));
+            call.scale = finite(some_value(random)).abs();
+        }
+        Function::Least => call.input = List::made(n, |_| some_value(random)),
+    }
+    call
+}

@@ -1,0 +1,175 @@
+//! Random calls: sound ones with something spoilt.
+
+use crate::call::{Call, Function};
+use crate::lend::lend;
+use crate::list::List;
+use crate::random::Random;
+use crate::refusals::MOST_COLUMNS;
+use crate::sound::sound;
+
+/// One call of so many is large.
+const LARGE: usize = 4_000;
+
+/// An index of about n, or any at all.
+fn some_index(random: &mut Random, n: usize) -> u32 {
+    match random.below(8) {
+        0 => random.bits() as u32,
+        1 => u32::MAX,
+        _ => random.below(n.min(MOST_COLUMNS) + 3) as u32,
+    }
+}
+
+fn spoil_length<T>(random: &mut Random, list: &mut Vec<T>, mut item: impl FnMut(&mut Random) -> T) {
+    match random.below(6) {
+        0 => list.clear(),
+        1 => list.truncate(random.below(list.len() + 1)),
+        2 | 3 => drop(list.pop()),
+        4 => list.push(item(random)),
+        _ => {
+            let more = 1 + random.below(9);
+            list.extend((0..more).map(|_| item(random)));
+        }
+    }
+}
+
+fn spoil_words(random: &mut Random, list: &mut List<u32>, n: usize) {
+    list.edit(|list| match random.below(6) {
+        0 => spoil_length(random, list, |random| some_index(random, n)),
+        1 if list.len() > 1 => {
+            let at = 1 + random.below(list.len() - 1);
+            list.swap(at, at - 1);
+        }
+        2 if list.len() > 1 => {
+            let at = 1 + random.below(list.len() - 1);
+            list[at] = list[at - 1];
+        }
+        _ if !list.is_empty() => {
+            let at = random.below(list.len());
+            list[at] = some_index(random, n);
+        }
+        _ => list.push(some_index(random, n)),
+    });
+}
+
+fn spoil_values(random: &mut Random, list: &mut List<f64>) {
+    list.edit(|list| match random.below(3) {
+        0 => spoil_length(random, list, Random::any_value),
+        _ if !list.is_empty() => {
+            let at = random.below(list.len());
+            list[at] = random.pick(&[f64::NAN, f64::INFINITY, f64::NEG_INFINITY, 0.0, -0.0, -1.0, 5e-324, f64::MAX]);
+            if random.chance(40) {
+                list[at] = random.any_value();
+            }
+        }
+        _ => list.push(random.any_value()),
+    });
+}
+
+fn some_size(random: &mut Random, n: usize) -> usize {
+    match random.below(12) {
+        0 => usize::MAX,
+        1 => usize::MAX - random.below(4),
+        2 => 1 << 32,
+        3 => n.wrapping_add(1 << 32),
+        4 => 1 << 63,
+        5 => random.bits() as usize,
+        6 => MOST_COLUMNS,
+        7 => MOST_COLUMNS + 1,
+        8 => 0,
+        9 => n.wrapping_sub(1),
+        _ => n.wrapping_add(1),
+    }
+}
+
+fn spoil(call: &mut Call, random: &mut Random) {
+    let n = call.n;
+    match call.function {
+        Function::EntriesWithLimit | Function::Entries => match random.below(7) {
+            0 => call.n = some_size(random, n),
+            1 => spoil_words(random, &mut call.starts, n),
+            2 => spoil_words(random, &mut call.rows, n),
+            3 => spoil_values(random, &mut call.values),
+            4 => call.dimension = some_size(random, n),
+            5 => spoil_words(random, &mut call.request_rows, n),
+            _ => spoil_words(random, &mut call.request_columns, n),
+        },
+        Function::OriginalDiag => match random.below(5) {
+            0 => call.n = some_size(random, n),
+            1 => spoil_words(random, &mut call.starts, n),
+            2 => spoil_words(random, &mut call.rows, n),
+            3 => spoil_values(random, &mut call.values),
+            _ => spoil_words(random, &mut call.orig_to_perm, n),
+        },
+        Function::OperatorVariances => match random.below(8) {
+            0 => call.n = some_size(random, n),
+            1 => spoil_words(random, &mut call.starts, n),
+            2 => spoil_words(random, &mut call.rows, n),
+            3 => spoil_values(random, &mut call.values),
+            4 => call.dimension = some_size(random, n),
+            5 => spoil_words(random, &mut call.row_starts, n),
+            6 => spoil_words(random, &mut call.columns, n),
+            _ => spoil_values(random, &mut call.weights),
+        },
+        Function::FactorPattern => match random.below(4) {
+            0 => call.n = some_size(random, n),
+            1 => spoil_words(random, &mut call.starts, n),
+            2 => spoil_words(random, &mut call.rows, n),
+            _ => spoil_values(random, &mut call.values),
+        },
+        Function::OperatorPattern => match random.below(4) {
+            0 => call.n = some_size(random, n),
+            1 => spoil_words(random, &mut call.row_starts, n),
+            2 => spoil_words(random, &mut call.columns, n),
+            _ => spoil_values(random, &mut call.weights),
+        },
+        Function::Get | Function::Diag => match random.below(5) {
+            0 => call.row = some_size(random, n),
+            1 => call.column = some_size(random, n),
+            2 => spoil_words(random, &mut call.starts, n),
+            3 => spoil_words(random, &mut call.rows, n),
+            _ => spoil_values(random, &mut call.values),
+        },
+        Function::Validate | Function::Inverse => {
+            let first = call.function == Function::Inverse || random.chance(50);
+            spoil_words(random, if first { &mut call.orig_to_perm } else { &mut call.perm_to_orig }, n)
+        }
+        Function::Reorder => match random.below(2) {
+            0 => spoil_words(random, &mut call.orig_to_perm, n),
+            _ => spoil_values(random, &mut call.input),
+        },
+        Function::FloorZero | Function::Least => spoil_values(random, &mut call.input),
+        Function::FloorMean => match random.below(2) {
+            0 => spoil_values(random, &mut call.input),
+            _ => call.scale = random.any_value(),
+        },
+    }
+}
+
+/// The length of a list lent for writing where so much is needed.
+fn some_length(random: &mut Random, need: usize) -> usize {
+    match random.below(50) {
+        0 => 0,
+        1 => random.below(need + 1),
+        2 | 3 => need.saturating_sub(1),
+        4..=12 => need + 1 + random.below(4),
+        13..=15 => need + random.below(64),
+        _ => need,
+    }
+}
+
+/// A call of a function with no, one or several faults, lent lists of any length and contents.
+pub fn random_call(function: Function, random: &mut Random) -> Call {
+    let n = match random.below(LARGE) {
+        0 => random.pick(&[MOST_COLUMNS - 1, MOST_COLUMNS, MOST_COLUMNS, MOST_COLUMNS + 1]),
+        1..=59 => random.below(65),
+        60..=99 => 40 + random.below(25),
+        _ => random.below(13),
+    };
+    let mut call = sound(function, n, random);
+    let faults = random.pick(&[0, 0, 0, 1, 1, 1, 1, 2, 2, 12]);
+    for _ in 0..faults {
+        spoil(&mut call, random);
+    }
+    lend(&mut call, random, some_length);
+    call
+}
