@@ -1,52 +1,22 @@
 -- From the marked requests to the closed set: the answer and the words that closing leaves.
 -- Assumes nothing.
-use Prim.Native.Nat.{ℕ, zero, suc, _+_, _≤_, _<_, min}
+use Prim.Native.Nat.{ℕ, _+_, _≤_, _<_, min}
 use native.Mathlib.Omega.{arith}
-use mathlib.Core.Path.{_≡_, refl, sym, subst, _∙_}
-use mathlib.Core.Bool.{Bool, true, false, false≢true}
+use mathlib.Core.Path.{_≡_, refl, sym, _∙_}
+use mathlib.Core.Bool.{Bool, true, false}
 use mathlib.Core.List.{List}
 use lib.Dec.{leb}
-use lib.ListN.{length, getD}
-use borrow.Author.Tests.{eqb-true, eq-eqb, le-leb, lt-leb}
-use Rattle.lists.specs.Sum.{bit}
-use Rattle.pairs.specs.ColumnOrder.{columnMark, columnMarking, columnPlace, columnPlace-below, setSize, setSize-sum, setSize-le}
+use borrow.Author.Tests.{le-leb, lt-leb}
+use Rattle.lists.specs.Test.{same-truth}
+use Rattle.pairs.specs.ColumnOrder.{columnMarking, setSize, setSize-cong, setSize-le}
 use Rattle.columns.specs.Kept.{pattern}
 use Rattle.closed_set.specs.ClosedSet.{member, member-holds, member-closed, member-least, Pattern, Holds}
 use Rattle.closed_set.specs.Size.{closureSize, requestedPairs, requestedPairs-within}
 use Rattle.diagnostics.specs.Diagnosis.{statusOf}
-use Rattle.closure.specs.FactorPattern.{factor-pattern}
+use Rattle.descendants.specs.FactorPattern.{factor-pattern}
 use Rattle.closure.specs.declared.Closure.{Closure}
-use Rattle.pair_queue.specs.Scratch.{Marked, Within}
-use Rattle.pair_queue.specs.Marking.{grown-mark}
-use Rattle.closure.specs.Queue.{Finished}
+use Rattle.closure.specs.Queue.{Within, Finished}
 use Rattle.closure.specs.Closure.{ClosureInput, Requested, closureOf, Closing, Closes}
-
--- ---- marks as a set
-
-bit-one : (m : ℕ) (b : Bool) → m ≤ 1 → (m ≡ 1 → b ≡ true) → (b ≡ true → m ≡ 1) → m ≡ bit b
-bit-one m true l h g = g refl
-bit-one zero false l h g = refl
-bit-one (suc m) false l h g = absurd (false≢true (h (omega arith)))
-
-module _ {n : ℕ} {s : List ℕ} {count : ℕ} (M : Marked n s count) (S : ℕ → ℕ → Bool) (W : Within n S s) where
-  -- marks within a set count at most its pairs
-  pub marked-most : count ≤ setSize n S
-  marked-most =
-      subst (λ (k : ℕ). k ≤ setSize n S)
-      (setSize-sum n (columnMarking n s) (λ p. getD s p 0)
-      (λ r c h l. bit-one _ _ (M .bits (columnPlace n r c) (columnPlace-below n r c h l)) (eq-eqb _ 1) (eqb-true _ 1))
-      ∙ sym (M .size))
-      (setSize-le n (columnMarking n s) S (λ r c h l e. W r c h l (eqb-true _ 1 e)))
-
-  module _ (all : (r c : ℕ) → c ≤ r → r < n → S r c ≡ true → columnMark n s r c ≡ 1) where
-    -- marks that are a set
-    pub marked-bits : (r c : ℕ) → c ≤ r → r < n → columnMark n s r c ≡ bit (S r c)
-    marked-bits r c h l = bit-one (columnMark n s r c) (S r c) (M .bits (columnPlace n r c) (columnPlace-below n r c h l)) (W r c h l) (all r c h l)
-
-    pub marked-size : count ≡ setSize n S
-    marked-size = M .size ∙ sym (setSize-sum n S (λ p. getD s p 0) marked-bits)
-
--- ---- the answer
 
 -- the answer with these counts
 abbrev pub counts : ℕ → ℕ → Bool → Closure
@@ -75,13 +45,10 @@ module _ {n : ℕ} {starts rows : List ℕ} {values : ℕ} {s : List ℕ} {first
 
   module _ (req : ℕ → ℕ → Bool) (R : Requested n req s) where
     requested-within : (S : ℕ → ℕ → Bool) → Holds req S → Within n S s
-    requested-within S h r c o l e = h r c (sym (R .marks r c o l) ∙ eq-eqb _ 1 e)
-
-    requested-all : (r c : ℕ) → req r c ≡ true → columnMark n s r c ≡ 1
-    requested-all r c q = eqb-true _ 1 (R .marks r c (R .ranged .ordered r c q) (R .ranged .inside r c q) ∙ q)
+    requested-within S h r c o l e = h r c (sym (R .marks r c o l) ∙ e)
 
     requested-size : first ≡ requestedPairs n req
-    requested-size = marked-size (G .marked) req (requested-within req (λ r c q. q)) (λ r c h l q. requested-all r c q)
+    requested-size = G .marked .size ∙ setSize-cong n (columnMarking n s) req (R .marks)
 
     requested-most : first ≤ closureSize n desc req
     requested-most = omega (arith, requested-size, requestedPairs-within n desc req P (R .ranged))
@@ -100,7 +67,7 @@ module _ {n : ℕ} {starts rows : List ℕ} {values : ℕ} {s : List ℕ} {first
       closed-within = E .within (member n desc req) (member-closed n desc req P (R .ranged)) (requested-within (member n desc req) (member-holds n desc req P (R .ranged)))
 
       closed-most : count ≤ closureSize n desc req
-      closed-most = marked-most (E .marked) (member n desc req) closed-within
+      closed-most = omega (arith, E .marked .size, setSize-le n (columnMarking n t) (member n desc req) closed-within)
 
       -- the set is past the limit
       pub queue-past : limit < count → Answered n desc req limit s (counts first count false) t
@@ -114,13 +81,17 @@ module _ {n : ℕ} {starts rows : List ℕ} {values : ℕ} {s : List ℕ} {first
       -- the set is marked
       pub queue-complete : count ≤ limit → Answered n desc req limit s (counts first count true) t
       queue-complete l =
-          let size = marked-size (E .marked) (member n desc req) closed-within all in (
+          let size = E .marked .size ∙ setSize-cong n (columnMarking n t) (member n desc req) same in (
             answer n desc req limit first count true requested-size (omega arith) (le-leb (closureSize n desc req) limit (omega arith)),
-            record { long = E .grown .long; marks = λ low. marked-bits (E .marked) (member n desc req) closed-within all; later = E .grown .later },
+            record { long = E .grown .long; marks = λ low. same; later = E .grown .later },
           )
         where
           holds : Holds req (columnMarking n t)
-          holds r c q = eq-eqb _ 1 (grown-mark (E .grown) r c (R .ranged .ordered r c q) (R .ranged .inside r c q) (requested-all r c q))
+          holds r c q =
+              let o = R .ranged .ordered r c q in
+              let i = R .ranged .inside r c q in
+              E .grown .marks r c o i (R .marks r c o i ∙ q)
 
-          all : (r c : ℕ) → c ≤ r → r < n → member n desc req r c ≡ true → columnMark n t r c ≡ 1
-          all r c h m q = eqb-true _ 1 (member-least n desc req P (R .ranged) (columnMarking n t) (E .closed l) holds r c h m q)
+          same : (r c : ℕ) → c ≤ r → r < n → columnMarking n t r c ≡ member n desc req r c
+          same r c h m =
+              same-truth _ _ (closed-within r c h m) (member-least n desc req P (R .ranged) (columnMarking n t) (E .closed l) holds r c h m)

@@ -1,43 +1,89 @@
 -- Closing the queue's pairs: a pair taken from the queue, the stored entries of its column, and the end.
 -- Assumes nothing.
-use Prim.Native.Nat.{ℕ, _+_, _≤_, _<_, min, max}
+use Prim.Native.Nat.{ℕ, zero, suc, _+_, _-_, _≤_, _<_, min, max}
 use native.Mathlib.Omega.{arith}
 use native.Mathlib.Nat.{not-suc-le-zero, eq-or-lt-of-le, le-of-suc-le-suc}
 use native.Mathlib.Numerals.{add-one}
+use native.Mathlib.Decide.{ℕ-discrete}
 use mathlib.Core.Path.{_≡_, refl, sym, ap, subst, subst₂, _∙_}
 use mathlib.Core.Bool.{Bool, true, false, not, _&&_, true≢false}
-use mathlib.Core.Logic.{⊎-elim}
+use mathlib.Core.Logic.{_⊎_, inl, inr, ⊎-elim}
 use mathlib.Core.List.{List}
 use lib.Dec.{ltb}
 use lib.ListN.{length, getD, length-map}
 use lib.Ieee.{Float, eq, ne}
-use borrow.Author.Tests.{le-ltb, lt-ltb, eqb-true, eq-eqb}
-use Rattle.lists.specs.Test.{and-both}
+use borrow.Author.Tests.{le-ltb, lt-ltb, eq-eqb}
+use Rattle.lists.specs.Test.{and-left, and-right, and-both, or-cases, or-left, or-right}
 use Rattle.lists.specs.Select.{select-at, select-holds}
 use Rattle.refusal.specs.Bounds.{maxDimension}
-use Rattle.pairs.specs.ColumnOrder.{columnMark, columnMarking}
+use Rattle.pairs.specs.Pair.{ordered, ordered-is, is-ordered}
+use Rattle.pairs.specs.ColumnOrder.{columnMarking}
 use Rattle.columns.specs.Columns.{start, row, value}
 use Rattle.columns.specs.Kept.{f0, nonzero, keptBelow, descPlaces, pattern}
 use Rattle.columns.specs.Factor.{Factor, starts-end}
 use Rattle.columns.specs.Pattern.{pattern-at, pattern-above, pattern-inside}
 use Rattle.closed_set.specs.ClosedSet.{Closed, Pattern, descends, descends-at, descends-found}
-use Rattle.pair_queue.specs.Scratch.{rowOf, columnOf, queueWord, Queued, Marked, Within, Grown, Insert, Inserted}
-use Rattle.closure.specs.Queue.{Waiting, Finished}
-use Rattle.closure.specs.FactorPattern.{entry-descends, descends-entry}
-use Rattle.pair_queue.specs.Marking.{grown-none, grown-trans, grown-mark, count-most}
+use Rattle.nested_columns.specs.Nested.{Nested}
+use Rattle.pair_queue.specs.Marking.{rowOf, columnOf, queueWord, Queued, Marked, Insert, Inserted, count-most}
+use Rattle.closure.specs.Queue.{Within, Grown, Waiting, EndRoom, EndOf, Finished}
+use Rattle.descendants.specs.FactorPattern.{factor-pattern, entry-descends, descends-entry}
+
+-- ---- words that grow
+
+grown-none : (n : ℕ) (s : List ℕ) (count : ℕ) → Grown n s count s count
+grown-none n s count = record { long = refl; more = omega arith; marks = λ r c h l e. e; words = λ j l. refl; later = refl }
+
+grown-trans : {n : ℕ} {s : List ℕ} {a : ℕ} {s′ : List ℕ} {b : ℕ} {s″ : List ℕ} {d : ℕ} → Grown n s a s′ b → Grown n s′ b s″ d → Grown n s a s″ d
+grown-trans G H = record {
+  long = H .long ∙ G .long;
+  more = omega (arith, G .more, H .more);
+  marks = λ r c h l e. H .marks r c h l (G .marks r c h l e);
+  words = λ j l. H .words j (omega (arith, G .more)) ∙ G .words j l;
+  later = H .later ∙ G .later;
+}
+
+-- inserting a pair
+module _ {n a b : ℕ} {s : List ℕ} {count : ℕ} {s′ : List ℕ} {count′ : ℕ} (I : Inserted n a b s count s′ count′) where
+  pub inserted-grown : Grown n s count s′ count′
+  inserted-grown = record {
+    long = I .also .gained .long;
+    more = I .more;
+    marks = λ r c h l e. I .also .gained .marks r c h l ∙ or-left (columnMarking n s r c) _ e;
+    words = I .words;
+    later = I .also .gained .later;
+  }
+
+  inserted-here : a < n → b < n → columnMarking n s′ (max a b) (min a b) ≡ true
+  inserted-here l m =
+      I .also .gained .marks (max a b) (min a b) (omega arith) (omega arith)
+      ∙ or-right (columnMarking n s (max a b) (min a b)) _ (is-ordered a b (max a b) (min a b) refl refl)
+
+  inserted-within : (S : ℕ → ℕ → Bool) → S (max a b) (min a b) ≡ true → Within n S s → Within n S s′
+  inserted-within S q W r c h l e =
+      ⊎-elim (W r c h l)
+      (λ p. let o = ordered-is a b r c p in subst₂ (λ (x y : ℕ). S x y ≡ true) (sym (o .0)) (sym (o .1)) q)
+      (or-cases (columnMarking n s r c) _ (sym (I .also .gained .marks r c h l) ∙ e))
 
 -- ---- dependencies that are marked
 
 -- those of (r, c) by the stored entries before p
 abbrev pub DepsTo : ℕ → List ℕ → List ℕ → (ℕ → Bool) → List ℕ → ℕ → ℕ → ℕ → Type 0
 DepsTo n starts rows nz s r c p =
-    (q : ℕ) → start starts c ≤ q → q < p → keptBelow rows nz c q ≡ true → columnMark n s (max r (row rows q)) (min r (row rows q)) ≡ 1
+    (q : ℕ) → start starts c ≤ q → q < p → keptBelow rows nz c q ≡ true → columnMarking n s (max r (row rows q)) (min r (row rows q)) ≡ true
 
--- all those of the pair of a word
+-- the dependency by a descendant of which every other descendant of c is a descendant
+pub record Reduced (n : ℕ) (starts rows : List ℕ) (nz : ℕ → Bool) (s : List ℕ) (r c : ℕ) : Type 0 where
+  pub place : ℕ
+  pub nested : Nested starts rows nz c place
+  pub above : row rows place ≤ r
+  pub marked : columnMarking n s r (row rows place) ≡ true
+
+-- all those of the pair of a word, or that one
 abbrev pub WordDone : ℕ → List ℕ → List ℕ → (ℕ → Bool) → List ℕ → ℕ → Type 0
-WordDone n starts rows nz s w = DepsTo n starts rows nz s (rowOf w) (columnOf w) (start starts (columnOf w + 1))
+WordDone n starts rows nz s w =
+    DepsTo n starts rows nz s (rowOf w) (columnOf w) (start starts (columnOf w + 1)) ⊎ Reduced n starts rows nz s (rowOf w) (columnOf w)
 
--- all those of the queue's words before head
+-- so for the queue's words before head
 abbrev pub Done : ℕ → List ℕ → List ℕ → (ℕ → Bool) → List ℕ → ℕ → Type 0
 Done n starts rows nz s head =
     (j : ℕ) → j < head → WordDone n starts rows nz s (queueWord n s j)
@@ -47,13 +93,13 @@ module _ {n : ℕ} {starts rows : List ℕ} {values : ℕ} (nz : ℕ → Bool) (
       → DepsTo n starts rows nz s r c p → DepsTo n starts rows nz s′ r c p
   deps-grown r c p h l g G D q lo hi t =
       let d< = F .rows-ascend .inside q (omega (arith, starts-end (F .starts-rise) (c + 1) (omega arith))) in
-      grown-mark G (max r (row rows q)) (min r (row rows q)) (omega arith) (omega arith) (D q lo hi t)
+      G .marks (max r (row rows q)) (min r (row rows q)) (omega arith) (omega arith) (D q lo hi t)
 
-  deps-more : (s : List ℕ) (r c p : ℕ) → (keptBelow rows nz c p ≡ true → columnMark n s (max r (row rows p)) (min r (row rows p)) ≡ 1)
+  deps-more : (s : List ℕ) (r c p : ℕ) → (keptBelow rows nz c p ≡ true → columnMarking n s (max r (row rows p)) (min r (row rows p)) ≡ true)
       → DepsTo n starts rows nz s r c p → DepsTo n starts rows nz s r c (p + 1)
   deps-more s r c p e D q lo hi t =
       ⊎-elim
-      (λ m. subst (λ (j : ℕ). columnMark n s (max r (row rows j)) (min r (row rows j)) ≡ 1) (sym m) (e (subst (λ (j : ℕ). keptBelow rows nz c j ≡ true) m t)))
+      (λ m. subst (λ (j : ℕ). columnMarking n s (max r (row rows j)) (min r (row rows j)) ≡ true) (sym m) (e (subst (λ (j : ℕ). keptBelow rows nz c j ≡ true) m t)))
       (λ m. D q lo m t)
       (eq-or-lt-of-le (le-of-suc-le-suc (rw add-one at hi)))
 
@@ -63,7 +109,10 @@ module _ {n : ℕ} {starts rows : List ℕ} {values : ℕ} (nz : ℕ → Bool) (
       let Q = M .queued j (omega arith) in
       let w = queueWord n s j in
       subst (λ (x : ℕ). WordDone n starts rows nz s′ x) (sym (G .words j (omega arith)))
-      (deps-grown (rowOf w) (columnOf w) (start starts (columnOf w + 1)) (Q .ordered) (Q .inside) (omega arith) G (D j l))
+      (⊎-elim
+      (λ e. inl (deps-grown (rowOf w) (columnOf w) (start starts (columnOf w + 1)) (Q .ordered) (Q .inside) (omega arith) G e))
+      (λ e. inr (record { place = e .place; nested = e .nested; above = e .above; marked = G .marks _ _ (e .above) (Q .inside) (e .marked) }))
+      (D j l))
 
   done-more : (s : List ℕ) (head : ℕ)
       → WordDone n starts rows nz s (queueWord n s head) → Done n starts rows nz s head → Done n starts rows nz s (head + 1)
@@ -73,17 +122,42 @@ module _ {n : ℕ} {starts rows : List ℕ} {values : ℕ} (nz : ℕ → Bool) (
       (λ q. D j q)
       (eq-or-lt-of-le (le-of-suc-le-suc (rw add-one at l)))
 
-  -- once every word is done the marked pairs are closed
+  -- once every word is done the marked pairs are closed: columns from the last
   done-closed : (s : List ℕ) (count : ℕ) → n ≤ maxDimension → Marked n s count → Done n starts rows nz s count
       → Closed n (pattern starts rows nz) (columnMarking n s)
-  done-closed s count small M D r c d h l i e =
-      let f = M .found r c h l (eqb-true (columnMark n s r c) 1 e) in
-      let w = queueWord n s (f .0) in
-      let q₁ : rowOf w ≡ r = omega (arith, f .2) in
-      let q₂ : columnOf w ≡ c = omega (arith, f .2) in
-      let D′ = subst₂ (λ (a b : ℕ). DepsTo n starts rows nz s a b (start starts (b + 1))) q₁ q₂ (D (f .0) (f .1)) in
-      let g = descends-entry nz F c (omega arith) d i in
-      eq-eqb _ 1 (subst (λ (k : ℕ). columnMark n s (max r k) (min r k) ≡ 1) (g .4) (D′ (g .0) (g .1) (g .2) (g .3)))
+  done-closed s count small M D r c d h l i e = go n r c d (omega arith) h l i e
+    where
+      P : Pattern n (pattern starts rows nz)
+      P = factor-pattern nz F
+
+      go : (k r c d : ℕ) → n ≤ k + c → c ≤ r → r < n → descends (pattern starts rows nz) c d ≡ true → columnMarking n s r c ≡ true
+          → columnMarking n s (max r d) (min r d) ≡ true
+      go zero r c d b h l i e = absurd (omega arith)
+      go (suc k) r c d b h l i e =
+          let f = M .found r c h l e in
+          let w = queueWord n s (f .0) in
+          let q₁ : rowOf w ≡ r = omega (arith, f .2) in
+          let q₂ : columnOf w ≡ c = omega (arith, f .2) in
+          next (λ a a′ x y z o t. go k r a d (omega arith) x y z t)
+          (subst₂ (λ (a a′ : ℕ). DepsTo n starts rows nz s a a′ (start starts (a′ + 1)) ⊎ Reduced n starts rows nz s a a′) q₁ q₂ (D (f .0) (f .1)))
+        where
+          next : ((a a′ : ℕ) → a ≤ r → r < n → descends (pattern starts rows nz) a d ≡ true → c < a → columnMarking n s r a ≡ true
+              → columnMarking n s (max r d) (min r d) ≡ true)
+              → DepsTo n starts rows nz s r c (start starts (c + 1)) ⊎ Reduced n starts rows nz s r c → columnMarking n s (max r d) (min r d) ≡ true
+          next before (inl D′) =
+              let g = descends-entry nz F c (omega arith) d i in
+              subst (λ (x : ℕ). columnMarking n s (max r x) (min r x) ≡ true) (g .4) (D′ (g .0) (g .1) (g .2) (g .3))
+          next before (inr R) =
+              let p = row rows (R .place) in
+              let t = entry-descends nz F c (omega arith) (R .place) (R .nested .from) (R .nested .below) (R .nested .kept) in
+              let lower = P .below c p (omega arith) t in
+              elim (ℕ-discrete d p) [
+                | yes q ↦
+                    let e₁ : max r d ≡ r = omega (arith, R .above) in
+                    let e₂ : min r d ≡ p = omega (arith, R .above) in
+                    subst₂ (λ (x y : ℕ). columnMarking n s x y ≡ true) (sym e₁) (sym e₂) (R .marked)
+                | no q ↦ before p p (R .above) l (R .nested .rest d i q) lower (R .marked)
+              ]
 
 -- ---- the loops
 
@@ -109,8 +183,8 @@ pub record Column (n : ℕ) (starts rows : List ℕ) (nz : ℕ → Bool) (limit 
   pub serving : Serving n starts rows nz limit s₀ first s head count
   pub taken : Taken n starts rows nz s head w p
 
-module _ {n pairs : ℕ} {starts rows : List ℕ} {values limit : ℕ} (nz : ℕ → Bool) {s₀ : List ℕ} {first : ℕ}
-    (I : Waiting n pairs starts rows values limit s₀ first) where
+module _ {n pairs : ℕ} {starts rows : List ℕ} {values limit : ℕ} (nz : ℕ → Bool) {stops s₀ : List ℕ} {first : ℕ}
+    (I : Waiting n pairs starts rows values nz stops limit s₀ first) where
   pub serving-none : Serving n starts rows nz limit s₀ first s₀ 0 first
   serving-none = record {
     marked = I .marked;
@@ -124,10 +198,10 @@ module _ {n pairs : ℕ} {starts rows : List ℕ} {values limit : ℕ} (nz : ℕ
   module _ {s : List ℕ} {head count : ℕ} (U₀ : Serving n starts rows nz limit s₀ first s head count) where
     -- the place of the word at head
     pub head-words : head < count → pairs + head < length s
-    head-words l = omega (arith, I .all, U₀ .marked .room, count-most n s count (U₀ .marked))
+    head-words l = omega (arith, I .all, U₀ .marked .room, count-most (U₀ .marked))
 
     pub head-pairs : head < count → head < pairs
-    head-pairs l = omega (arith, I .all, count-most n s count (U₀ .marked))
+    head-pairs l = omega (arith, I .all, count-most (U₀ .marked))
 
     -- that word, as the code reads it
     pub word-queued : {w : ℕ} → head < count → w ≡ getD s (pairs + head) 0 → Queued n s w
@@ -136,6 +210,28 @@ module _ {n pairs : ℕ} {starts rows : List ℕ} {values limit : ℕ} (nz : ℕ
     -- its column and the next are within the starts
     pub word-starts : {w : ℕ} → head < count → w ≡ getD s (pairs + head) 0 → columnOf w + 1 < length starts
     word-starts l e = let Q = word-queued l e in omega (arith, I .factor .starts-rise .columns, Q .ordered, Q .inside)
+
+    -- its stop is stored
+    pub word-end : {w : ℕ} → head < count → w ≡ getD s (pairs + head) 0 → EndRoom (columnOf w) starts rows stops
+    word-end {w} l e =
+        let Q = word-queued l e in
+        let inside : columnOf w < n = omega (arith, Q .ordered, Q .inside) in
+        record {
+          next = word-starts l e;
+          fits = omega (arith, I .stopped .fits);
+          stored = λ h. omega (arith, I .stopped .nested (columnOf w) inside h .below, starts-end (I .factor .starts-rise) (columnOf w + 1) (omega arith));
+        }
+
+    -- closing it ends within its column
+    pub word-most : {w e : ℕ} → head < count → w ≡ getD s (pairs + head) 0 → EndOf starts rows stops (rowOf w) (columnOf w) e → e ≤ start starts (columnOf w + 1)
+    word-most {w} {e} l f E = go E
+      where
+        go : EndOf starts rows stops (rowOf w) (columnOf w) e → e ≤ start starts (columnOf w + 1)
+        go (inl q) = omega arith
+        go (inr q) =
+            let Q = word-queued l f in
+            let b = I .stopped .nested (columnOf w) (omega (arith, Q .ordered, Q .inside)) (q .0) .below in
+            omega (arith, q .1)
 
     -- the words at hand are those where the inner loop begins
     pub column-none : {w p : ℕ} → head < count → count ≤ limit → w ≡ getD s (pairs + head) 0 → p ≡ start starts (columnOf w)
@@ -170,18 +266,29 @@ module _ {n pairs : ℕ} {starts rows : List ℕ} {values limit : ℕ} (nz : ℕ
       }
 
       -- the word is done
-      pub serving-next : start starts (columnOf w + 1) ≤ p → Serving n starts rows nz limit s₀ first t (head + 1) count′
-      serving-next h = column-serving (record {
+      pub serving-next : {e : ℕ} → EndOf starts rows stops (rowOf w) (columnOf w) e → e ≤ p → Serving n starts rows nz limit s₀ first t (head + 1) count′
+      serving-next {e} E h = column-serving (record {
         marked = K .serving .marked;
         grown = K .serving .grown;
         within = K .serving .within;
         done =
             done-more nz (I .factor) t head
-            (subst (λ (x : ℕ). WordDone n starts rows nz t x) (sym (K .taken .here)) (λ i lo hi. K .taken .deps i lo (omega arith)))
+            (subst (λ (x : ℕ). WordDone n starts rows nz t x) (sym (K .taken .here)) (word-done E))
             (K .serving .done);
         behind = omega (arith, K .ahead);
         most = K .serving .most;
       })
+        where
+          word-done : EndOf starts rows stops (rowOf w) (columnOf w) e → WordDone n starts rows nz t w
+          word-done (inl q) = inl (λ i lo hi. K .taken .deps i lo (omega arith))
+          word-done (inr q) =
+              let Q = subst (λ (x : ℕ). Queued n t x) (K .taken .here) (K .serving .marked .queued head (K .ahead)) in
+              let N = I .stopped .nested (columnOf w) (omega (arith, Q .ordered, Q .inside)) (q .0) in
+              let d = getD stops (columnOf w) 0 - 1 in
+              let m = K .taken .deps d (N .from) (omega (arith, q .1, q .0)) (N .kept) in
+              let e₁ : max (rowOf w) (row rows d) ≡ rowOf w = omega (arith, q .2) in
+              let e₂ : min (rowOf w) (row rows d) ≡ row rows d = omega (arith, q .2) in
+              inr (record { place = d; nested = N; above = q .2; marked = subst₂ (λ (x y : ℕ). columnMarking n t x y ≡ true) e₁ e₂ m })
 
       -- the limit is passed
       pub finished-past : {t′ : List ℕ} {count″ : ℕ} → limit < count″ → Serving n starts rows nz limit s count t′ head count″
@@ -206,8 +313,8 @@ module _ {n pairs : ℕ} {starts rows : List ℕ} {values limit : ℕ} (nz : ℕ
 
 -- ---- one stored entry
 
-module _ {n pairs : ℕ} {starts rows : List ℕ} {values limit : ℕ} (nz : ℕ → Bool) {s₀ : List ℕ} {first : ℕ}
-    (I : Waiting n pairs starts rows values limit s₀ first) {s₁ : List ℕ} {first₁ head w : ℕ} {s : List ℕ} {count p : ℕ}
+module _ {n pairs : ℕ} {starts rows : List ℕ} {values limit : ℕ} (nz : ℕ → Bool) {stops s₀ : List ℕ} {first : ℕ}
+    (I : Waiting n pairs starts rows values nz stops limit s₀ first) {s₁ : List ℕ} {first₁ head w : ℕ} {s : List ℕ} {count p : ℕ}
     (K : Column n starts rows nz limit s₁ first₁ head w s count p) where
   abbrev r : ℕ
   r = rowOf w
@@ -241,12 +348,11 @@ module _ {n pairs : ℕ} {starts rows : List ℕ} {values limit : ℕ} (nz : ℕ
 
     module _ {k : ℕ} (e : k ≡ row rows p) where
       -- the dependency by it can be inserted
-      pub entry-insert : Insert n pairs (rowOf w) k s count
+      pub entry-insert : Insert n (rowOf w) k s count
       entry-insert =
           let Q = entry-word in
           record {
             small = I .small;
-            all = I .all;
             first = Q .inside;
             second = omega (arith, I .factor .rows-ascend .inside p entry-rows);
             marked = K .serving .marked;
@@ -257,16 +363,16 @@ module _ {n pairs : ℕ} {starts rows : List ℕ} {values limit : ℕ} (nz : ℕ
         serving-more =
             let Q = entry-word in
             record {
-              marked = J .marked;
-              grown = grown-trans (K .serving .grown) (J .grown);
+              marked = J .also .marked;
+              grown = grown-trans (K .serving .grown) (inserted-grown J);
               within = λ S C W.
                   let W₁ = K .serving .within S C W in
                   let d = entry-descends nz (I .factor) c (omega (arith, Q .ordered, Q .inside)) p (K .taken .from) hi b in
-                  J .within S
+                  inserted-within J S
                   (subst (λ (x : ℕ). S (max r x) (min r x) ≡ true) (sym e)
                   (C r c (row rows p) (Q .ordered) (Q .inside) d (W₁ r c (Q .ordered) (Q .inside) (Q .marked)))) W₁;
-              done = done-grown nz (I .factor) head (K .serving .behind) (K .serving .marked) (J .grown) (K .serving .done);
-              behind = omega (arith, K .serving .behind, J .grown .more);
+              done = done-grown nz (I .factor) head (K .serving .behind) (K .serving .marked) (inserted-grown J) (K .serving .done);
+              behind = omega (arith, K .serving .behind, J .more);
               most = omega (arith, J .most, K .low);
             }
 
@@ -274,15 +380,15 @@ module _ {n pairs : ℕ} {starts rows : List ℕ} {values limit : ℕ} (nz : ℕ
         column-more low =
             let Q = entry-word in
             record {
-              ahead = omega (arith, K .ahead, J .grown .more);
+              ahead = omega (arith, K .ahead, J .more);
               low = low;
               serving = serving-more;
               taken = record {
-                here = J .grown .words head (K .ahead) ∙ K .taken .here;
+                here = J .words head (K .ahead) ∙ K .taken .here;
                 from = omega (arith, K .taken .from);
                 deps =
-                    deps-more nz (I .factor) t r c p (λ _. subst (λ (x : ℕ). columnMark n t (max r x) (min r x) ≡ 1) e (J .here))
-                    (deps-grown nz (I .factor) r c p (Q .ordered) (Q .inside) (omega arith) (J .grown) (K .taken .deps));
+                    deps-more nz (I .factor) t r c p (λ _. subst (λ (x : ℕ). columnMarking n t (max r x) (min r x) ≡ true) e (inserted-here J (Q .inside) (omega (arith, I .factor .rows-ascend .inside p entry-rows))))
+                    (deps-grown nz (I .factor) r c p (Q .ordered) (Q .inside) (omega arith) (inserted-grown J) (K .taken .deps));
               };
             }
 

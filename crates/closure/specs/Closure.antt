@@ -9,16 +9,15 @@ use lib.Dec.{leb, ltb}
 use lib.ListN.{length, drop}
 use borrow.Author.Tests.{leb-true, leb-false, ltb-true, le-leb, lt-ltb}
 use Rattle.lists.specs.Test.{and-left, and-right}
-use Rattle.lists.specs.Sum.{bit}
 use Rattle.refusal.specs.Bounds.{maxDimension}
 use Rattle.pairs.specs.Pair.{pairTotal}
-use Rattle.pairs.specs.ColumnOrder.{columnMark, columnMarking}
+use Rattle.pairs.specs.ColumnOrder.{columnMarking}
 use Rattle.columns.specs.Factor.{Factor}
 use Rattle.closed_set.specs.ClosedSet.{member, Ranged}
 use Rattle.closed_set.specs.Size.{closureSize, requestedPairs}
 use Rattle.diagnostics.specs.Diagnosis.{statusOf}
 use Rattle.diagnostics.specs.declared.SelectedInverseStatus.the-variants.{Complete, ClosureTooLarge}
-use Rattle.pair_queue.specs.Scratch.{Marked}
+use Rattle.pair_queue.specs.Marking.{Marked}
 use Rattle.closure.specs.declared.Closure.{Closure}
 
 -- a factor past its checks, and words with `requested` marked pairs
@@ -56,7 +55,7 @@ closureOf n desc req limit = record {
 -- the words that closing leaves: where the set is within the limit its marks, and in any case the words behind 2T as they were
 pub record Closing (n : ℕ) (desc : ℕ → List ℕ) (req : ℕ → ℕ → Bool) (limit : ℕ) (s₀ s : List ℕ) : Type 0 where
   pub long : length s ≡ length s₀
-  pub marks : closureSize n desc req ≤ limit → (r c : ℕ) → c ≤ r → r < n → columnMark n s r c ≡ bit (member n desc req r c)
+  pub marks : closureSize n desc req ≤ limit → (r c : ℕ) → c ≤ r → r < n → columnMarking n s r c ≡ member n desc req r c
   pub later : drop (pairTotal n + pairTotal n) s ≡ drop (pairTotal n + pairTotal n) s₀
 
 -- the answer and the words of closing the marked pairs of s₀, whatever set they are

@@ -1,6 +1,5 @@
 -- The closure of requested pairs under their dependencies, and its diagnosis.
 pub mod Queue
-pub mod FactorPattern
 pub mod Closure
 pub mod KeptSet
 pub mod Diagnosis

@@ -1,24 +1,52 @@
 -- What closing the queue's pairs asks and leaves. Which stored values are not 0 is a test of the place.
 -- Assumes nothing.
-use Prim.Native.Nat.{ℕ, _+_, _≤_}
+use Prim.Native.Nat.{ℕ, _+_, _-_, _≤_, _<_}
 use mathlib.Core.Path.{_≡_}
-use mathlib.Core.Bool.{Bool}
+use mathlib.Core.Bool.{Bool, true}
 use mathlib.Core.List.{List}
+use mathlib.Core.Logic.{_⊎_}
+use lib.ListN.{length, getD, drop}
 use Rattle.refusal.specs.Bounds.{maxDimension}
 use Rattle.pairs.specs.Pair.{pairTotal}
 use Rattle.pairs.specs.ColumnOrder.{columnMarking}
+use Rattle.columns.specs.Columns.{start, row}
 use Rattle.columns.specs.Factor.{Factor}
 use Rattle.columns.specs.Kept.{pattern}
 use Rattle.closed_set.specs.ClosedSet.{Closed}
-use Rattle.pair_queue.specs.Scratch.{Marked, Within, Grown}
+use Rattle.nested_columns.specs.Nested.{Stops}
+use Rattle.pair_queue.specs.Marking.{queueWord, Marked}
 
--- a factor, and marked pairs that are within the limit
-pub record Waiting (n pairs : ℕ) (starts rows : List ℕ) (values limit : ℕ) (s : List ℕ) (count : ℕ) : Type 0 where
+-- each marked pair is in the set
+abbrev pub Within : ℕ → (ℕ → ℕ → Bool) → List ℕ → Type 0
+Within n S s = (r c : ℕ) → c ≤ r → r < n → columnMarking n s r c ≡ true → S r c ≡ true
+
+-- marks and queue words stay, and so do the words behind the queue
+pub record Grown (n : ℕ) (s : List ℕ) (count : ℕ) (s′ : List ℕ) (count′ : ℕ) : Type 0 where
+  pub long : length s′ ≡ length s
+  pub more : count ≤ count′
+  pub marks : (r c : ℕ) → c ≤ r → r < n → columnMarking n s r c ≡ true → columnMarking n s′ r c ≡ true
+  pub words : (j : ℕ) → j < count → queueWord n s′ j ≡ queueWord n s j
+  pub later : drop (pairTotal n + pairTotal n) s′ ≡ drop (pairTotal n + pairTotal n) s
+
+-- a factor with the stops of its columns, and marked pairs that are within the limit
+pub record Waiting (n pairs : ℕ) (starts rows : List ℕ) (values : ℕ) (nz : ℕ → Bool) (stops : List ℕ) (limit : ℕ) (s : List ℕ) (count : ℕ) : Type 0 where
   pub small : n ≤ maxDimension
   pub all : pairs ≡ pairTotal n
   pub factor : Factor n starts rows values
+  pub stopped : Stops n starts rows nz stops
   pub marked : Marked n s count
   pub low : count ≤ limit
+
+-- column c, with its stop stored among the rows
+pub record EndRoom (c : ℕ) (starts rows stops : List ℕ) : Type 0 where
+  pub next : c + 1 < length starts
+  pub fits : c < length stops
+  pub stored : 0 < getD stops c 0 → getD stops c 0 - 1 < length rows
+
+-- where closing (r, c) ends among the column's entries: with the column, or at its stop, whose row is at most r
+abbrev pub EndOf : List ℕ → List ℕ → List ℕ → ℕ → ℕ → ℕ → Type 0
+EndOf starts rows stops r c e =
+    (e ≡ start starts (c + 1)) ⊎ ((0 < getD stops c 0) × (e ≡ getD stops c 0) × (row rows (getD stops c 0 - 1) ≤ r))
 
 -- each pair added is in every closed set that holds those marked before; within the limit the marked pairs are closed
 pub record Finished (n : ℕ) (starts rows : List ℕ) (nz : ℕ → Bool) (limit : ℕ) (s₀ : List ℕ) (first : ℕ) (s : List ℕ) (count : ℕ) : Type 0 where

@@ -2,30 +2,49 @@
 // `takahashi_dependency_closure` of uncertainty.rs.
 ghost use lib.ListN.{length};
 ghost use Rattle.columns.specs.Kept.{nonzero, pattern};
-ghost use Rattle.closure.specs.Queue.{Waiting, Finished};
+ghost use Rattle.closure.specs.Queue.{Waiting, EndRoom, EndOf, Finished};
 ghost use Rattle.closure.specs.Closure.{ClosureInput, Closes};
 ghost use Rattle.closure.specs.Diagnosis.{Diagnoses};
 use diagnostics::SelectedInverseDiagnostics;
 use diagnostics::SelectedInverseStatus;
 use diagnostics::selected_inverse_diagnostics;
 use kept::factor_pairs;
+use nested_columns::list_stops;
 use pair_marks::pair_total;
 use pair_queue::PACKING;
 use pair_queue::insert_closure_pair;
+use refusal::MAX_DIMENSION;
 use words::at;
 
+// Where closing (r, c) ends among the entries of column c: at its stop, if the row there is at most r, else with the column.
+fn column_end(r: usize, c: usize, starts: &[u32], rows: &[u32], stops: &[u32]) -> usize
+    requires { ⌜ EndRoom c (now starts) (now rows) (now stops) ⌝ }
+    ensures { λ e. ⌜ EndOf (now (starts .entry)) (now (rows .entry)) (now (stops .entry)) r c e ⌝ }
+{
+    let stop = at(stops, c);
+    if stop == 0 {
+        return at(starts, c + 1);
+    }
+    if r < at(rows, stop - 1) {
+        return at(starts, c + 1);
+    }
+    stop
+}
+
 // Takes each pair of the queue and inserts its dependencies, up to the first pair past the limit. Entries not kept, and diagonals, are passed over.
+// At a column's stop the rest are dependencies of the pair inserted last, and follow when its turn comes.
 fn close_queue(
     n: usize,
     pairs: usize,
     starts: &[u32],
     rows: &[u32],
     values: &[f64],
+    stops: &[u32],
     limit: usize,
     first: usize,
     scratch: &mut [u32],
 ) -> usize
-    requires { ⌜ Waiting n pairs (now starts) (now rows) (length (now values)) limit (now scratch) first ⌝ }
+    requires { ⌜ Waiting n pairs (now starts) (now rows) (length (now values)) (nonzero (now values)) (now stops) limit (now scratch) first ⌝ }
     ensures { λ m. ⌜ Finished n (now (starts .entry)) (now (rows .entry)) (nonzero (now (values .entry))) limit
         (now (scratch .entry)) first (now (scratch .exit)) m ⌝ }
 {
@@ -35,7 +54,7 @@ fn close_queue(
         let w = at(scratch, pairs + head);
         let r = w / PACKING;
         let c = w % PACKING;
-        let end = at(starts, c + 1);
+        let end = column_end(r, c, starts, rows, stops);
         let mut p = at(starts, c);
         'column: while p < end {
             let k = at(rows, p);
@@ -47,7 +66,7 @@ fn close_queue(
             if l == 0.0 {
                 continue 'column;
             }
-            count = insert_closure_pair(n, pairs, r, k, count, scratch);
+            count = insert_closure_pair(n, r, k, count, scratch);
             if limit < count {
                 break 'queue;
             }
@@ -64,7 +83,7 @@ pub struct Closure {
     pub status: SelectedInverseStatus,
 }
 
-// Closes the marked pairs under their dependencies. Leaves the closed set's marks in the first T words where it is within the limit.
+// Closes the marked pairs under their dependencies. Leaves the closed set's marks where it is within the limit.
 pub fn takahashi_dependency_closure(
     n: usize,
     starts: &[u32],
@@ -84,6 +103,8 @@ pub fn takahashi_dependency_closure(
             status: SelectedInverseStatus::ClosureTooLarge,
         };
     }
+    let mut stops = [0; MAX_DIMENSION];
+    list_stops(n, starts, rows, values, &mut stops);
     let pairs = pair_total(n);
     let count = close_queue(
         n,
@@ -91,6 +112,7 @@ pub fn takahashi_dependency_closure(
         starts,
         rows,
         values,
+        &stops,
         limit,
         requested_pairs,
         scratch,

@@ -1,15 +1,15 @@
 -- What the recurrence over a closed set asks, and what it leaves while its columns are done from the last to the first.
 -- Assumes nothing.
-use Prim.Native.Nat.{ℕ, _+_, _≤_, _<_}
+use Prim.Native.Nat.{ℕ, _+_, _/_, _≤_, _<_}
 use native.Mathlib.Omega.{arith}
 use mathlib.Core.Path.{_≡_, refl, sym, ap, _∙_}
 use mathlib.Core.Bool.{Bool, true}
 use mathlib.Core.List.{List}
-use lib.Dec.{eqb}
 use lib.ListN.{length, getD}
 use lib.Ieee.{Float, nan}
 use Rattle.lists.specs.Tabulate.{tabulate-at}
 use Rattle.lists.specs.Overwrite.{overwrite, overwrite-at, overwrite-length}
+use Rattle.bits.specs.Bits.{bit-same, word-below, bitWords-most}
 use Rattle.refusal.specs.Bounds.{maxDimension}
 use Rattle.pairs.specs.Pair.{pairTotal}
 use Rattle.pairs.specs.ColumnOrder.{columnPlace, columnPlace-below, columnMarking, setSize}
@@ -73,7 +73,10 @@ module _ {n : ℕ} {firsts₀ listed₀ scratch₀ firsts listed scratch : List 
     (M : LayOut n firsts₀ listed₀ scratch₀) (L : LaidOut n firsts₀ listed₀ scratch₀ firsts listed scratch count) where
   -- the set is as it was
   pub laid-same : (r c : ℕ) → c ≤ r → r < n → columnMarking n scratch r c ≡ columnMarking n scratch₀ r c
-  laid-same r c h l = ap (λ (x : ℕ). eqb x 1) (L .marks (columnPlace n r c) (columnPlace-below n r c h l))
+  laid-same r c h l =
+      let p = columnPlace n r c in
+      bit-same scratch scratch₀ p
+      (L .marks (p / 32) (omega (arith, word-below p (pairTotal n) (columnPlace-below n r c h l), bitWords-most (pairTotal n))))
 
   module _ {starts rows : List ℕ} {values : List Float} (F : Factor n starts rows (length values)) (D : Diagonals n starts rows values)
       (P : Pattern n (pattern starts rows (nonzero values))) (K : Closed n (pattern starts rows (nonzero values)) (columnMarking n scratch₀))

@@ -28,7 +28,7 @@ diagonals-ranged n = record {
   inside = λ r c e. ltb-true r n (and-left (ltb r n) (eqb r c) e);
 }
 
--- a dimension within its bound, and words for marks and queue
+-- a dimension within its bound, and words for the pairs' marks
 pub record DiagonalsInput (n : ℕ) (s : List ℕ) : Type 0 where
   pub small : n ≤ maxDimension
   pub room : pairTotal n + pairTotal n ≤ length s

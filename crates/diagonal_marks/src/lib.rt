@@ -1,21 +1,19 @@
 // All diagonals, marked as pairs.
 ghost use Rattle.pair_queue.specs.Marking.{MarkedPairs};
 ghost use Rattle.diagonal_marks.specs.Diagonals.{DiagonalsInput, diagonalPairs};
-use pair_marks::pair_total;
+use pair_queue::clear_pairs;
 use pair_queue::insert_closure_pair;
-use words::clear;
 
 // Marks all n diagonals, and no other pair; returns how many they are.
 pub fn mark_diagonals(n: usize, scratch: &mut [u32]) -> usize
     requires { ⌜ DiagonalsInput n (now scratch) ⌝ }
     ensures { λ m. ⌜ MarkedPairs n (diagonalPairs n) (now (scratch .entry)) (now (scratch .exit)) m ⌝ }
 {
-    let pairs = pair_total(n);
-    clear(scratch, pairs);
+    clear_pairs(n, scratch);
     let mut count = 0;
     let mut i = 0;
     while i < n {
-        count = insert_closure_pair(n, pairs, i, i, count, scratch);
+        count = insert_closure_pair(n, i, i, count, scratch);
         i += 1;
     }
     count

@@ -22,7 +22,7 @@ use Rattle.entries.specs.Entries.{columnCount, position, entryStarts, en
 
 module _ (test : ℕ → Bool) where
   -- a number that passes counts
-  tally-strict : (s k e : ℕ) → s ≤ k → k < e → test k ≡ true → tally test s k < tally test s e
+  pub tally-strict : (s k e : ℕ) → s ≤ k → k < e → test k ≡ true → tally test s k < tally test s e
   tally-strict s k e h l t =
       let q = tally-next test s k h ∙ ap (λ (b : Bool). tally test s k + bit b) t in
       omega (arith, q, tally-mono test s (k + 1) e (omega arith) (omega arith))
@@ -39,7 +39,7 @@ module _ (test : ℕ → Bool) where
       ∙ ap (λ (l : List ℕ). getD l (tally test s k) 0) (select-next test s (k + 1 + m) (omega arith))
       ∙ List·getD-append (select test s (k + 1 + m)) _ 0 (tally test s k) (tally-strict s k (k + 1 + m) h (omega arith) t) ∙ tally-at s k m h t
 
-  select-tally : (s k e : ℕ) → s ≤ k → k < e → test k ≡ true → getD (select test s e) (tally test s k) 0 ≡ k
+  pub select-tally : (s k e : ℕ) → s ≤ k → k < e → test k ≡ true → getD (select test s e) (tally test s k) 0 ≡ k
   select-tally s k e h l t =
       let q : k + 1 + (e - (k + 1)) ≡ e = omega arith in
       ap (λ (x : ℕ). getD (select test s x) (tally test s k) 0) (sym q) ∙ tally-at s k (e - (k + 1)) h t

@@ -21,7 +21,7 @@ use Rattle.takahashi.specs.Entries.{ascend-rows}
 use Rattle.takahashi.specs.Recurrence.{at, Lower, Solves, table-solves, solves-part}
 use Rattle.exact.specs.Exact.{floats, float-off, float-on}
 use Rattle.diagnostics.specs.declared.SelectedInverseStatus.the-variants.{Complete}
-use Rattle.closure.specs.FactorPattern.{factor-pattern}
+use Rattle.descendants.specs.FactorPattern.{factor-pattern}
 use Rattle.entries.specs.Entries.{entryStarts, floatTable}
 use Rattle.result.specs.Lookup.{lookup}
 use Rattle.read_back.specs.ReadBack.{readBack, covered, lookup-filled}

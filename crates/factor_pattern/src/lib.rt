@@ -9,6 +9,7 @@ ghost use Rattle.pairs.specs.ColumnOrder.{columnMarking};
 ghost use Rattle.columns.specs.Kept.{nonzero, keptPair};
 ghost use Rattle.factor_pattern.specs.Agree.{samePairs};
 ghost use Rattle.factor_pattern.specs.Choice.{ChoiceInput, ChoiceColumn, unmarkedEntry, unmarkedAt};
+use bits::bit;
 use pair_queue::column_place;
 use words::at;
 
@@ -23,7 +24,7 @@ fn unmarked_entry(n: usize, c: usize, r: usize, l: f64, scratch: &[u32]) -> bool
     if l == 0.0 {
         return false;
     }
-    at(scratch, column_place(n, r, c)) != 1
+    !bit(scratch, column_place(n, r, c))
 }
 
 // Whether some entry of column c, stored from s to e, is kept and its pair not marked.

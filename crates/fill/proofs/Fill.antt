@@ -15,14 +15,15 @@ use Rattle.columns.specs.Kept.{nonzero, pattern}
 use Rattle.closed_set.specs.ClosedSet.{Pattern}
 use Rattle.closed_set.specs.Size.{closureSize-most}
 use Rattle.entries.specs.Entries.{entryStarts, entryRows, entryValues, entryStarts-length, entryRows-length}
-use Rattle.entries.specs.Position.{entryStarts-cong, entryRows-cong, entryValues-cong}
+use Rattle.entries.specs.Position.{position-cong, entryStarts-cong, entryRows-cong, entryValues-cong}
 use Rattle.diagnostics.specs.declared.SelectedInverseDiagnostics.{SelectedInverseDiagnostics}
 use Rattle.diagnostics.specs.declared.SelectedInverseStatus.the-variants.{Complete, ClosureTooLarge}
+use Rattle.positions.specs.Position.{Positioned}
 use Rattle.closure.specs.Closure.{Closing}
-use Rattle.closure.specs.FactorPattern.{factor-pattern}
+use Rattle.descendants.specs.FactorPattern.{factor-pattern}
 use Rattle.layout.specs.Layout.{LayOut, LaidOut}
 use Rattle.closure_route.specs.Route.{laid-same, laid-route}
-use Rattle.closure_route.specs.Members.{marked-member, marked-size, marked-closed}
+use Rattle.closure_route.specs.Members.{marked-size, marked-closed}
 use Rattle.routes.specs.Routes.{RoutesInput}
 use Rattle.selection.specs.Selection.{Selection, Lent, roomOf, Accepted, scratchWords, selectedSet, selectedSize, selectedComplete, selectedAnswer, selectedTable}
 use Rattle.selection.specs.Selection.{ResultLists, lists-passed, cleared-same, nothing-refused}
@@ -46,10 +47,10 @@ module _ (x : Selection) (lent : Lent) (A : Accepted x (roomOf lent)) where
       within = leb-true _ _ complete
 
       same : (r c : ℕ) → c ≤ r → r < x .n → columnMarking (x .n) s₁ r c ≡ selectedSet x r c
-      same = marked-member (x .n) (pat x) (x .requests) s₁ (K .marks within)
+      same = K .marks within
 
       size : setSize (x .n) (columnMarking (x .n) s₁) ≡ selectedSize x
-      size = marked-size (x .n) (pat x) (x .requests) s₁ (K .marks within)
+      size = marked-size (x .n) (pat x) (x .requests) s₁ same
 
       most : selectedSize x ≤ min (x .limit) (pairTotal (x .n))
       most = omega (arith, within, closureSize-most (x .n) (pat x) (x .requests))
@@ -74,7 +75,7 @@ module _ (x : Selection) (lent : Lent) (A : Accepted x (roomOf lent)) where
         pub fill-route : RoutesInput (x .n) (x .starts) (x .rows) (x .values) (d .«factor_pairs») (d .«closure_pairs») rs rr s₂ (length (lent .resultValues))
         fill-route = record {
           route =
-              laid-route fill-layout L (A .factor) (A .diagonals) P (marked-closed (x .n) (pat x) (x .requests) s₁ (K .marks within) P (A .requests))
+              laid-route fill-layout L (A .factor) (A .diagonals) P (marked-closed (x .n) (pat x) (x .requests) s₁ same P (A .requests))
               (omega (arith, size, most, A .values-room));
           kept-is = ap (λ (y : SelectedInverseDiagnostics). y .«factor_pairs») D ∙ factor-pairs-are x;
           closed-is =
@@ -90,13 +91,17 @@ module _ (x : Selection) (lent : Lent) (A : Accepted x (roomOf lent)) where
               ∙ entryRows-cong (x .n) (columnMarking (x .n) s₁) (columnMarking (x .n) s₂) laid;
         }
 
-        pub fill-words : scratchWords (x .n) ≤ length s₂
-        fill-words = omega (arith, K .long, L .long, A .scratch-room)
-
         -- what is left
-        pub fill-done : {rv : List Float} {s₃ : List ℕ} {used : ℕ} → rv ≡ overwrite (entryValues (x .n) (columnMarking (x .n) s₂) (selectedTable x)) (lent .resultValues)
-            → used ≡ scratchWords (x .n) → s₃ ≡ cleared used s₂ → ResultLists [] x lent rs rr rv s₃
-        fill-done {rv} {s₃} {used} ev eu es =
+        pub fill-long : length s₂ ≡ length (lent .scratch)
+        fill-long = L .long ∙ K .long
+
+        pub fill-positions : Positioned (x .n) (selectedSet x) s₂
+        fill-positions r c h l t =
+            L .positions r c h l (same r c h l ∙ t) ∙ position-cong (x .n) (columnMarking (x .n) s₁) (selectedSet x) same r c l
+
+        pub fill-done : {rv : List Float} → rv ≡ overwrite (entryValues (x .n) (columnMarking (x .n) s₂) (selectedTable x)) (lent .resultValues)
+            → ResultLists [] x lent rs rr rv (cleared (scratchWords (x .n)) s₂)
+        fill-done {rv} ev =
             lists-passed [] x lent nothing-refused
             (L .starts-are ∙ ap (λ (l : List ℕ). overwrite l (lent .resultStarts)) (entryStarts-cong (x .n) (columnMarking (x .n) s₁) (selectedSet x) same)
             ∙ sym (ap (λ (b : Bool). cond b (overwrite (entryStarts (x .n) (selectedSet x)) (lent .resultStarts)) (lent .resultStarts)) complete))
@@ -106,23 +111,21 @@ module _ (x : Selection) (lent : Lent) (A : Accepted x (roomOf lent)) where
             ∙ ap (λ (l : List Float). overwrite l (lent .resultValues))
             (entryValues-cong (x .n) (columnMarking (x .n) s₂) (selectedSet x) (λ r c h l. laid-same fill-layout L r c h l ∙ same r c h l) (selectedTable x))
             ∙ sym (ap (λ (b : Bool). cond b (overwrite (entryValues (x .n) (selectedSet x) (selectedTable x)) (lent .resultValues)) (lent .resultValues)) complete))
-            (es ∙ ap (λ (m : ℕ). cleared m s₂) eu
-            ∙ cleared-same (pairTotal (x .n) + pairTotal (x .n)) (scratchWords (x .n)) s₂ (lent .scratch) (omega arith) (L .later ∙ K .later))
+            (cleared-same (pairTotal (x .n) + pairTotal (x .n)) (scratchWords (x .n)) s₂ (lent .scratch) (omega arith) (L .later ∙ K .later))
 
     -- ---- beyond the limit
     module _ (told : d .status ≡ ClosureTooLarge) where
       large : selectedComplete x ≡ false
       large = status-tells x ClosureTooLarge (ap (λ (y : SelectedInverseDiagnostics). y .status) (sym D) ∙ told)
 
-      pub large-words : scratchWords (x .n) ≤ length s₁
-      large-words = omega (arith, K .long, A .scratch-room)
+      -- no member has a position to stand
+      pub large-positions : selectedComplete x ≡ true → Positioned (x .n) (selectedSet x) s₁
+      large-positions e = let z : _≡_ {A = ℕ} 0 1 = cc (sym large ∙ e) in absurd (omega arith)
 
-      pub large-done : {s₃ : List ℕ} {used : ℕ} → used ≡ scratchWords (x .n) → s₃ ≡ cleared used s₁
-          → ResultLists [] x lent (lent .resultStarts) (lent .resultRows) (lent .resultValues) s₃
-      large-done {s₃} {used} eu es =
+      pub large-done : ResultLists [] x lent (lent .resultStarts) (lent .resultRows) (lent .resultValues) (cleared (scratchWords (x .n)) s₁)
+      large-done =
           lists-passed [] x lent nothing-refused
           (sym (ap (λ (b : Bool). cond b (overwrite (entryStarts (x .n) (selectedSet x)) (lent .resultStarts)) (lent .resultStarts)) large))
           (sym (ap (λ (b : Bool). cond b (overwrite (entryRows (x .n) (selectedSet x)) (lent .resultRows)) (lent .resultRows)) large))
           (sym (ap (λ (b : Bool). cond b (overwrite (entryValues (x .n) (selectedSet x) (selectedTable x)) (lent .resultValues)) (lent .resultValues)) large))
-          (es ∙ ap (λ (m : ℕ). cleared m s₁) eu
-          ∙ cleared-same (pairTotal (x .n) + pairTotal (x .n)) (scratchWords (x .n)) s₁ (lent .scratch) (omega arith) (K .later))
+          (cleared-same (pairTotal (x .n) + pairTotal (x .n)) (scratchWords (x .n)) s₁ (lent .scratch) (omega arith) (K .later))

@@ -3,16 +3,18 @@
 use Prim.Native.Nat.{ℕ, _+_}
 use native.Mathlib.Omega.{arith}
 use mathlib.Core.Path.{_≡_, sym, _∙_}
-use mathlib.Core.Bool.{Bool}
+use mathlib.Core.Bool.{Bool, true}
 use mathlib.Core.List.{List, []}
+use lib.ListN.{length}
 use lib.Ieee.{Float}
+use Rattle.lists.specs.Overwrite.{cleared}
 use Rattle.diagnostics.specs.declared.SelectedInverseDiagnostics.{SelectedInverseDiagnostics}
 use Rattle.refusal.specs.Steps.{Step, Passed}
 use Rattle.pairs.specs.Pair.{pairTotal}
-use Rattle.pair_queue.specs.Scratch.{Marked}
-use Rattle.pair_queue.specs.Marking.{MarkedPairs}
+use Rattle.pair_queue.specs.Marking.{Marked, MarkedPairs}
+use Rattle.positions.specs.Position.{Positioned}
 use Rattle.closure.specs.Closure.{Requested, markedSet, marked-requested}
-use Rattle.selection.specs.Selection.{selection, lists, Lent, roomOf, scratchWords, Accepted, selectedAnswer, ResultLists}
+use Rattle.selection.specs.Selection.{selection, lists, Lent, roomOf, scratchWords, Accepted, selectedSet, selectedComplete, selectedAnswer, ResultLists}
 use Rattle.selection.specs.Selection.{lists-passed, passed-starts, passed-rows, passed-values, passed-scratch, nothing-refused, cleared-same}
 
 -- a call past its checks, with the requested pairs marked in the scratch
@@ -25,6 +27,14 @@ pub record Fills (n : ℕ) (starts rows : List ℕ) (values : List Float) (limit
     (rv : List Float) (s : List ℕ) : Type 0 where
   pub answers : (req : ℕ → ℕ → Bool) → Requested n req (lent .scratch) → d ≡ selectedAnswer (selection n starts rows values req limit)
   pub leaves : (req : ℕ → ℕ → Bool) → Requested n req (lent .scratch) → ResultLists [] (selection n starts rows values req limit) lent rs rr rv s
+
+-- the same before the scratch is cleared: where the set is within the limit, its members' positions stand in it
+pub record FillsLists (n : ℕ) (starts rows : List ℕ) (values : List Float) (limit : ℕ) (lent : Lent) (d : SelectedInverseDiagnostics) (rs rr : List ℕ)
+    (rv : List Float) (s : List ℕ) : Type 0 where
+  pub fills : Fills n starts rows values limit lent d rs rr rv (cleared (scratchWords n) s)
+  pub long : length s ≡ length (lent .scratch)
+  pub positions : (req : ℕ → ℕ → Bool) → Requested n req (lent .scratch) → selectedComplete (selection n starts rows values req limit) ≡ true
+      → Positioned n (selectedSet (selection n starts rows values req limit)) s
 
 -- ---- once a set of requested pairs is marked
 

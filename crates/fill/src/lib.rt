@@ -1,6 +1,11 @@
 // Filling result lists: what every call does past its checks, once the requested pairs are marked.
-ghost use Rattle.selection.specs.Selection.{lists};
-ghost use Rattle.fill.specs.Fill.{FillInput, Fills};
+ghost use mathlib.Core.Path.{_≡_};
+ghost use Prim.Native.Nat.{_≤_};
+ghost use lib.ListN.{length};
+ghost use Rattle.lists.specs.Overwrite.{cleared};
+ghost use Rattle.refusal.specs.Bounds.{maxDimension};
+ghost use Rattle.selection.specs.Selection.{lists, scratchWords};
+ghost use Rattle.fill.specs.Fill.{FillInput, Fills, FillsLists};
 use closure::diagnose;
 use diagnostics::SelectedInverseDiagnostics;
 use diagnostics::SelectedInverseStatus;
@@ -8,6 +13,58 @@ use layout::lay_out;
 use pair_marks::pair_total;
 use routes::takahashi_selected_inverse;
 use words::clear;
+
+// The diagnosis; where the closed set of the marked pairs is within the limit the result lists are filled, and the scratch ends with the
+// positions of its members.
+pub fn fill_lists(
+    n: usize,
+    starts: &[u32],
+    rows: &[u32],
+    values: &[f64],
+    requested_pairs: usize,
+    limit: usize,
+    result_starts: &mut [u32],
+    result_rows: &mut [u32],
+    result_values: &mut [f64],
+    scratch: &mut [u32],
+) -> SelectedInverseDiagnostics
+    requires { ⌜ FillInput n (now starts) (now rows) (now values) «requested_pairs» limit
+        (lists (now «result_starts») (now «result_rows») (now «result_values») (now scratch)) ⌝ }
+    ensures { λ d. ⌜ FillsLists n (now (starts .entry)) (now (rows .entry)) (now (values .entry)) limit
+        (lists (now («result_starts» .entry)) (now («result_rows» .entry)) (now («result_values» .entry)) (now (scratch .entry))) d
+        (now («result_starts» .exit)) (now («result_rows» .exit)) (now («result_values» .exit)) (now (scratch .exit)) ⌝ }
+{
+    let diagnosis = diagnose(n, starts, rows, values, requested_pairs, limit, scratch);
+    let status = diagnosis.status;
+    match status {
+        SelectedInverseStatus::Complete => {
+            lay_out(n, result_starts, result_rows, scratch);
+            takahashi_selected_inverse(
+                n,
+                starts,
+                rows,
+                values,
+                diagnosis.factor_pairs,
+                diagnosis.closure_pairs,
+                result_starts,
+                result_rows,
+                result_values,
+                scratch,
+            );
+            diagnosis
+        }
+        SelectedInverseStatus::ClosureTooLarge => diagnosis,
+    }
+}
+
+// Sets the words of scratch that a call uses to 0.
+pub fn clear_scratch(n: usize, scratch: &mut [u32])
+    requires { ⌜ (n ≤ maxDimension) × (scratchWords n ≤ length (now scratch)) ⌝ }
+    ensures { λ _. ⌜ now (scratch .exit) ≡ cleared (scratchWords n) (now (scratch .entry)) ⌝ }
+{
+    let used = 2 * pair_total(n) + 4 * n;
+    clear(scratch, used);
+}
 
 // The diagnosis; where the closed set of the marked pairs is within the limit the result lists are filled. The scratch ends cleared.
 pub fn fill_entries(
@@ -28,30 +85,18 @@ pub fn fill_entries(
         (lists (now («result_starts» .entry)) (now («result_rows» .entry)) (now («result_values» .entry)) (now (scratch .entry))) d
         (now («result_starts» .exit)) (now («result_rows» .exit)) (now («result_values» .exit)) (now (scratch .exit)) ⌝ }
 {
-    let used = 2 * pair_total(n) + 4 * n;
-    let diagnosis = diagnose(n, starts, rows, values, requested_pairs, limit, scratch);
-    let status = diagnosis.status;
-    match status {
-        SelectedInverseStatus::Complete => {
-            lay_out(n, result_starts, result_rows, scratch);
-            takahashi_selected_inverse(
-                n,
-                starts,
-                rows,
-                values,
-                diagnosis.factor_pairs,
-                diagnosis.closure_pairs,
-                result_starts,
-                result_rows,
-                result_values,
-                scratch,
-            );
-            clear(scratch, used);
-            diagnosis
-        }
-        SelectedInverseStatus::ClosureTooLarge => {
-            clear(scratch, used);
-            diagnosis
-        }
-    }
+    let diagnosis = fill_lists(
+        n,
+        starts,
+        rows,
+        values,
+        requested_pairs,
+        limit,
+        result_starts,
+        result_rows,
+        result_values,
+        scratch,
+    );
+    clear_scratch(n, scratch);
+    diagnosis
 }

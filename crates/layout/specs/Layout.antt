@@ -1,174 +1,132 @@
 -- The rows and positions of a set's pairs, written column by column from its marks: what each step asks, and what it leaves.
 -- Assumes nothing.
-use Prim.Native.Nat.{ℕ, _+_, _-_, _≤_, _<_}
+use Prim.Native.Nat.{ℕ, _+_, _-_, _/_, _≤_, _<_}
 use native.Mathlib.Omega.{arith}
-use native.Mathlib.Nat.{not-suc-le-zero, eq-or-lt-of-le, le-of-suc-le-suc, add-zero}
+use native.Mathlib.Nat.{not-suc-le-zero, eq-or-lt-of-le, le-of-suc-le-suc}
 use native.Mathlib.Numerals.{add-one}
 use mathlib.Core.Path.{_≡_, refl, sym, ap, ap₂, subst, _∙_}
-use mathlib.Core.Bool.{Bool, true, false, false≢true}
+use mathlib.Core.Bool.{Bool, true}
 use mathlib.Core.Logic.{⊎-elim}
-use mathlib.Core.List.{List, map}
-use lib.Dec.{eqb}
-use lib.ListN.{length, getD, set, drop, length-set, length-map, length-drop}
+use mathlib.Core.List.{List, _++_, map-id}
+use lib.ListN.{length, getD, set, drop, length-set, length-drop}
 use lib.Seq.{getD-set-same, getD-set-other, getD-drop, ext-getD}
-use borrow.Author.Tests.{eq-eqb}
-use Rattle.lists.specs.Sum.{bit}
-use Rattle.lists.specs.Select.{select, tally, select-none, select-yes, select-no, select-cong, tally-none, tally-next, tally-mono, map-snoc}
-use Rattle.lists.specs.Overwrite.{overwrite, overwrite-none, splice, splice-none, splice-more, splice-overwrite}
+use Rattle.lists.specs.Select.{select, tally, select-cong, Picked, select-at}
+use Rattle.lists.specs.Overwrite.{overwrite, overwrite-none, splice, splice-at, splice-length, splice-overwrite}
 use Rattle.lists.specs.Overwrite.{filled, filled-none, filled-more}
 use Rattle.lists.specs.Cells.{cells, cells-none, cells-next, cells-length}
+use Rattle.bits.specs.Bits.{bit-same}
 use Rattle.refusal.specs.Bounds.{maxDimension}
 use Rattle.pairs.specs.Pair.{pairTotal, maxPairs, pairTotal-small}
-use Rattle.pairs.specs.ColumnOrder.{colStart, colStart-next, colStart-mono, columnPlace, columnPlace-column, columnPlace-below, columnMarking}
-use Rattle.pairs.specs.ColumnOrder.{byColumn, columnFirst, columnEnd, setSize, setSize-most, colStart-total}
-use Rattle.pair_marks.specs.Listing.{storeIf}
+use Rattle.pairs.specs.ColumnOrder.{colStart, colStart-next, colStart-mono, colStart-total, colStart-least, columnPlace, columnPlace-column, columnPlace-below}
+use Rattle.pairs.specs.ColumnOrder.{columnMarking, byColumn, columnFirst, columnEnd, setSize, setSize-most}
+use Rattle.column_rows.specs.ColumnRows.{columnTest, ColumnRoom, ColumnListed}
 use Rattle.entries.specs.Entries.{columnCount, position, entryStarts, entryRows}
-use Rattle.entries.specs.Position.{columnCount-none, columnCount-next, columnCount-mono}
+use Rattle.entries.specs.Position.{columnCount-none, columnCount-next, columnCount-mono, tally-strict, select-tally}
 
--- the marks of a column, and its rows in the set from c to below e
-abbrev pub columnTest : ℕ → List ℕ → ℕ → ℕ → Bool
-columnTest n s c = byColumn (columnMarking n s) c
+-- ---- the positions of listed rows
 
-abbrev pub columnRows : ℕ → List ℕ → ℕ → ℕ → List ℕ
-columnRows n s c e = map (λ r. r) (select (columnTest n s c) c e)
+-- the rows listed from `first` to below e rise, and each has a word for its position
+pub record PositionsRoom (base first e : ℕ) (rows s : List ℕ) : Type 0 where
+  pub order : first ≤ e
+  pub listed : e ≤ length rows
+  pub few : e ≤ maxPairs
+  pub inside : (q : ℕ) → first ≤ q → q < e → base + getD rows q 0 < length s
+  pub rises : (p q : ℕ) → first ≤ p → p < q → q < e → getD rows p 0 < getD rows q 0
 
--- ---- one pair
+-- each row's position stands `base` words past it; no other word is changed
+pub record PositionsLaid (base first e : ℕ) (rows s₀ s : List ℕ) : Type 0 where
+  pub long : length s ≡ length s₀
+  pub placed : (q : ℕ) → first ≤ q → q < e → getD s (base + getD rows q 0) 0 ≡ q
+  pub others : (w : ℕ) → ((q : ℕ) → first ≤ q → q < e → base + getD rows q 0 ≡ w → ⊥) → getD s w 0 ≡ getD s₀ w 0
 
--- the mark is at p, and there is room for the pair if it is marked
-pub record PairRoom (pairs p r count : ℕ) (rows s : List ℕ) : Type 0 where
-  pub mark-in : p < length s
-  pub word-in : pairs + p < length s
-  pub fits : getD s p 0 ≡ 1 → count < length rows
-  pub row-small : r ≤ maxDimension
-  pub few : count ≤ maxPairs
+pub positions-none : (base first : ℕ) (rows s : List ℕ) → PositionsLaid base first first rows s s
+positions-none base first rows s = record { long = refl; placed = λ q h l. absurd (omega arith); others = λ w d. refl }
 
--- one pair, listed if it is marked, with its position at the word w
-pub record PairLaid (marked : Bool) (w r count : ℕ) (rows s rows′ s′ : List ℕ) (m : ℕ) : Type 0 where
-  pub count-is : m ≡ count + bit marked
-  pub rows-is : rows′ ≡ storeIf marked rows count r
-  pub words-is : s′ ≡ storeIf marked s w count
+-- one position more
+pub positions-more : {base first e : ℕ} {rows s₀ : List ℕ} {q r : ℕ} {s : List ℕ} → PositionsRoom base first e rows s₀ → first ≤ q → q < e → r ≡ getD rows q 0
+    → PositionsLaid base first q rows s₀ s → PositionsLaid base first (q + 1) rows s₀ (set s (base + r) q)
+positions-more {base} {first} {e} {rows} {s₀} {q} {r} {s} O h l at P = record {
+  long = length-set s (base + r) q ∙ P .long;
+  placed = λ p a b.
+      ⊎-elim
+      (λ x.
+      ap (λ (w : ℕ). getD (set s (base + r) q) w 0) (ap (λ (k : ℕ). base + getD rows k 0) x ∙ ap (λ (k : ℕ). base + k) (sym at))
+      ∙ getD-set-same s (base + r) q 0 (omega (arith, O .inside q h l, P .long)) ∙ sym x)
+      (λ x. kept (base + getD rows p 0) (λ y. omega (arith, O .rises p q a x l)) ∙ P .placed p a x)
+      (eq-or-lt-of-le (le-of-suc-le-suc (rw add-one at b)));
+  others = λ w d. kept w (λ y. d q h (omega arith) (omega arith)) ∙ P .others w (λ p a b. d p a (omega arith));
+}
+  where
+    kept : (w : ℕ) → (w ≡ base + r → ⊥) → getD (set s (base + r) q) w 0 ≡ getD s w 0
+    kept w d = getD-set-other s (base + r) w q 0 d
 
 -- ---- one column
 
--- the column's marks start at `place`, and there is room for its rows
-pub record ColumnRoom (n pairs place c first : ℕ) (rows s : List ℕ) : Type 0 where
-  pub small : n ≤ maxDimension
+-- the column's marks start at `place`, and there is room for its rows and their positions
+pub record LayColumn (n pairs place c first : ℕ) (rows s : List ℕ) : Type 0 where
   pub all : pairs ≡ pairTotal n
-  pub inside : c < n
-  pub start : place ≡ colStart n c
-  pub room : pairTotal n + pairTotal n ≤ length s
-  pub fits : first + tally (columnTest n s c) c n ≤ length rows
+  pub room : ColumnRoom n place c first rows s
   pub few : first + tally (columnTest n s c) c n ≤ maxPairs
 
--- the rows of column c below e, behind `first` rows, with their positions; no other word is changed
-pub record ColumnLaid (n c e first : ℕ) (rows₀ s₀ rows s : List ℕ) (count : ℕ) : Type 0 where
-  pub count-is : count ≡ first + tally (columnTest n s₀ c) c e
-  pub rows-is : rows ≡ splice first (columnRows n s₀ c e) rows₀
+-- the rows of column c, behind `first` rows, with their positions; no other word is changed
+pub record ColumnLaid (n c first : ℕ) (rows₀ s₀ rows s : List ℕ) (count : ℕ) : Type 0 where
+  pub listed : ColumnListed n c n first rows₀ s₀ rows count
   pub long : length s ≡ length s₀
-  pub positions : (r : ℕ) → c ≤ r → r < e → columnMarking n s₀ r c ≡ true
+  pub positions : (r : ℕ) → c ≤ r → r < n → columnMarking n s₀ r c ≡ true
       → getD s (pairTotal n + columnPlace n r c) 0 ≡ first + tally (columnTest n s₀ c) c r
   pub before : (q : ℕ) → q < pairTotal n + colStart n c → getD s q 0 ≡ getD s₀ q 0
-  pub after : (q : ℕ) → pairTotal n + columnPlace n e c ≤ q → getD s q 0 ≡ getD s₀ q 0
+  pub after : (q : ℕ) → pairTotal n + columnPlace n n c ≤ q → getD s q 0 ≡ getD s₀ q 0
 
-pub column-none : (n c first : ℕ) (rows s : List ℕ) → ColumnLaid n c c first rows s rows s first
-column-none n c first rows s = record {
-  count-is = sym (ap (λ (k : ℕ). first + k) (tally-none (columnTest n s c) c) ∙ add-zero first);
-  rows-is = sym (ap (λ (l : List ℕ). splice first (map (λ r. r) l) rows) (select-none (columnTest n s c) c) ∙ splice-none first rows);
-  long = refl;
-  positions = λ r h l. absurd (omega arith);
-  before = λ q l. refl;
-  after = λ q l. refl;
-}
-
-module _ {n pairs place c first : ℕ} {rows₀ s₀ : List ℕ} (O : ColumnRoom n pairs place c first rows₀ s₀)
-    {e count : ℕ} {rows s : List ℕ} (C : ColumnLaid n c e first rows₀ s₀ rows s count) (h : c ≤ e) (l : e < n) where
+module _ {n pairs place c first : ℕ} {rows₀ s₀ : List ℕ} (O : LayColumn n pairs place c first rows₀ s₀)
+    {rows : List ℕ} {next : ℕ} (L : ColumnListed n c n first rows₀ s₀ rows next) where
   abbrev test : ℕ → Bool
   test = columnTest n s₀ c
 
-  here : columnPlace n e c < pairTotal n
-  here = columnPlace-below n e c h l
+  abbrev listed : List ℕ
+  listed = select test c n
 
-  -- the pair's mark is as it was
-  same-mark : (p : ℕ) → p ≡ columnPlace n e c → eqb (getD s p 0) 1 ≡ test e
-  same-mark p q =
-      ap (λ (x : ℕ). eqb x 1) (ap (λ (x : ℕ). getD s x 0) q ∙ C .before (columnPlace n e c) (omega (arith, here)))
+  -- the row at a place of the list
+  row-at : (q : ℕ) → first ≤ q → q < next → getD rows q 0 ≡ getD listed (q - first) 0
+  row-at q h l =
+      let e : q ≡ first + (q - first) = omega arith in
+      ap₂ (λ (x : List ℕ) (k : ℕ). getD x k 0) (L .rows-is) e
+      ∙ splice-at first listed rows₀ (O .room .fits) 0 (q - first) (omega (arith, L .count-is))
 
-  upto : tally test c (e + 1) ≤ tally test c n
-  upto = tally-mono test c (e + 1) n (omega arith) (omega arith)
+  picked : (q : ℕ) → first ≤ q → q < next → Picked test c n listed (q - first)
+  picked q h l = select-at test c n (q - first) (omega (arith, O .room .inside)) (omega (arith, L .count-is))
 
-  -- room for a pair of the column
-  pub column-room : (p : ℕ) → p ≡ columnPlace n e c → length rows ≡ length rows₀ → PairRoom pairs p e count rows s
-  column-room p q long = record {
-    mark-in = omega (arith, here, O .room, C .long);
-    word-in = omega (arith, here, O .room, C .long, O .all);
-    fits = λ m.
-        let t = tally-next test c e h ∙ ap (λ (b : Bool). tally test c e + bit b) (sym (same-mark p q) ∙ eq-eqb _ 1 m) in
-        omega (arith, upto, C .count-is, O .fits);
-    row-small = omega (arith, O .small);
-    few = omega (arith, upto, tally-mono test c e (e + 1) h (omega arith), C .count-is, O .few);
+  -- the word of a row's position
+  word-is : (r : ℕ) → c ≤ r → pairs + (place - c) + r ≡ pairTotal n + columnPlace n r c
+  word-is r h = omega (arith, O .all, O .room .start, colStart-least n c (omega (arith, O .room .inside)))
+
+  -- room for the positions
+  pub column-positions : PositionsRoom (pairs + (place - c)) first next rows s₀
+  column-positions = record {
+    order = omega (arith, L .count-is);
+    listed = omega (arith, L .count-is, O .room .fits, ap length (L .rows-is) ∙ splice-length first listed rows₀ (O .room .fits));
+    few = omega (arith, L .count-is, O .few);
+    inside = λ q h l.
+        let P = picked q h l in
+        let x = row-at q h l in
+        omega (arith, word-is (getD listed (q - first) 0) (P .from), columnPlace-below n (getD listed (q - first) 0) c (P .from) (P .below), O .room .room);
+    rises = λ p q h m l. omega (arith, row-at p h (omega arith), row-at q (omega arith) l, picked q (omega arith) l .rises (p - first) (omega arith));
   }
 
-  module _ {rows′ s′ : List ℕ} {m : ℕ} where
-    -- a pair that is not in the set
-    without : test e ≡ false → PairLaid false (pairTotal n + columnPlace n e c) e count rows s rows′ s′ m → ColumnLaid n c (e + 1) first rows₀ s₀ rows′ s′ m
-    without t P =
-        let q = select-no test c e h t in
-        record {
-          count-is = omega (arith, P .count-is, C .count-is, ap length q);
-          rows-is = P .rows-is ∙ C .rows-is ∙ ap (λ (x : List ℕ). splice first (map (λ r. r) x) rows₀) (sym q);
-          long = ap length (P .words-is) ∙ C .long;
-          positions = λ r a b u.
-              ⊎-elim
-              (λ w. absurd (false≢true (sym t ∙ subst (λ (x : ℕ). test x ≡ true) w u)))
-              (λ w. ap (λ (x : List ℕ). getD x (pairTotal n + columnPlace n r c) 0) (P .words-is) ∙ C .positions r a w u)
-              (eq-or-lt-of-le (le-of-suc-le-suc (rw add-one at b)));
-          before = λ q b. ap (λ (x : List ℕ). getD x q 0) (P .words-is) ∙ C .before q b;
-          after = λ q b. ap (λ (x : List ℕ). getD x q 0) (P .words-is) ∙ C .after q (omega arith);
-        }
-
-    -- one that is
-    within : test e ≡ true → PairLaid true (pairTotal n + columnPlace n e c) e count rows s rows′ s′ m → ColumnLaid n c (e + 1) first rows₀ s₀ rows′ s′ m
-    within t P =
-        let w = pairTotal n + columnPlace n e c in
-        let new = columnRows n s₀ c e in
-        let size : length new ≡ tally test c e = length-map (select test c e) (λ r. r) in
-        let next = tally-next test c e h ∙ ap (λ (b : Bool). tally test c e + bit b) t in
-        let end : count ≡ first + length new = omega (arith, C .count-is) in
-        let other : (q : ℕ) → (q ≡ w → ⊥) → getD s′ q 0 ≡ getD s q 0 =
-        λ q d. ap (λ (x : List ℕ). getD x q 0) (P .words-is) ∙ getD-set-other s w q count 0 d in
-        record {
-          count-is = omega (arith, P .count-is, C .count-is);
-          rows-is =
-              P .rows-is ∙ ap₂ (λ (x : List ℕ) (i : ℕ). set x i e) (C .rows-is) end
-              ∙ splice-more first new rows₀ e (omega (arith, upto, O .fits))
-              ∙ ap (λ (x : List ℕ). splice first x rows₀) (sym (ap (map (λ r. r)) (select-yes test c e h t) ∙ map-snoc (λ r. r) (select test c e) e));
-          long = ap length (P .words-is) ∙ length-set s w count ∙ C .long;
-          positions = λ r a b u.
-              ⊎-elim
-              (λ x.
-              ap₂ (λ (y : List ℕ) (k : ℕ). getD y (pairTotal n + columnPlace n k c) 0) (P .words-is) x
-              ∙ getD-set-same s w count 0 (omega (arith, here, O .room, C .long)) ∙ C .count-is ∙ ap (λ (k : ℕ). first + tally test c k) (sym x))
-              (λ x. other (pairTotal n + columnPlace n r c) (omega arith) ∙ C .positions r a x u)
-              (eq-or-lt-of-le (le-of-suc-le-suc (rw add-one at b)));
-          before = λ q b. other q (omega arith) ∙ C .before q b;
-          after = λ q b. other q (omega arith) ∙ C .after q (omega arith);
-        }
-
-    -- one pair more
-    pub column-more : (p : ℕ) → p ≡ columnPlace n e c → PairLaid (eqb (getD s p 0) 1) (pairs + p) e count rows s rows′ s′ m
-        → ColumnLaid n c (e + 1) first rows₀ s₀ rows′ s′ m
-    column-more p q P = go (test e) refl (subst (λ (w : ℕ). PairLaid (test e) w e count rows s rows′ s′ m) word marked)
-      where
-        word : pairs + p ≡ pairTotal n + columnPlace n e c
-        word = omega (arith, O .all)
-
-        marked : PairLaid (test e) (pairs + p) e count rows s rows′ s′ m
-        marked = subst (λ (b : Bool). PairLaid b (pairs + p) e count rows s rows′ s′ m) (same-mark p q) P
-
-        go : (b : Bool) → test e ≡ b → PairLaid (test e) (pairTotal n + columnPlace n e c) e count rows s rows′ s′ m
-            → ColumnLaid n c (e + 1) first rows₀ s₀ rows′ s′ m
-        go true t L = within t (subst (λ (b : Bool). PairLaid b (pairTotal n + columnPlace n e c) e count rows s rows′ s′ m) t L)
-        go false t L = without t (subst (λ (b : Bool). PairLaid b (pairTotal n + columnPlace n e c) e count rows s rows′ s′ m) t L)
+  -- the column with its positions
+  pub column-laid : {s : List ℕ} → PositionsLaid (pairs + (place - c)) first next rows s₀ s → ColumnLaid n c first rows₀ s₀ rows s next
+  column-laid {s} P = record {
+    listed = L;
+    long = P .long;
+    positions = λ r h l t.
+        let k = tally test c r in
+        let few : first + k < next = omega (arith, L .count-is, tally-strict test c r n h l t) in
+        let z : first + k - first ≡ k = omega arith in
+        let row : getD rows (first + k) 0 ≡ r = row-at (first + k) (omega arith) few ∙ ap (λ (i : ℕ). getD listed i 0) z ∙ select-tally test c r n h l t in
+        ap (λ (w : ℕ). getD s w 0) (sym (ap (λ (i : ℕ). pairs + (place - c) + i) row ∙ word-is r h)) ∙ P .placed (first + k) (omega arith) few;
+    before = λ w b. P .others w (λ q h l e. omega (arith, row-at q h l, word-is (getD listed (q - first) 0) (picked q h l .from)));
+    after = λ w b. P .others w (λ q h l e.
+        omega (arith, row-at q h l, word-is (getD listed (q - first) 0) (picked q h l .from), picked q h l .below));
+  }
 
 -- ---- all columns
 
@@ -220,7 +178,7 @@ module _ {n : ℕ} {starts₀ rows₀ s₀ : List ℕ} (M : LayOut n starts₀ r
 
   -- the marks are as they were, and so is the set
   same-set : (r a : ℕ) → a ≤ r → r < n → columnMarking n s r a ≡ S r a
-  same-set r a h l = ap (λ (x : ℕ). eqb x 1) (K .before (columnPlace n r a) (columnPlace-below n r a h l))
+  same-set r a h l = bit-same s s₀ (columnPlace n r a) (K .before (columnPlace n r a / 32) (omega (arith, columnPlace-below n r a h l)))
 
   same-rows : (e : ℕ) → e ≤ n → select (columnTest n s c) c e ≡ select (columnTest n s₀ c) c e
   same-rows e h = select-cong (columnTest n s c) (columnTest n s₀ c) c e (λ r lo hi. same-set r c lo (omega arith))
@@ -233,14 +191,16 @@ module _ {n : ℕ} {starts₀ rows₀ s₀ : List ℕ} (M : LayOut n starts₀ r
 
   -- room for a column
   pub columns-room : (pairs place : ℕ) → pairs ≡ pairTotal n → place ≡ colStart n c → c < n → length rows ≡ length rows₀
-      → ColumnRoom n pairs place c count rows s
+      → LayColumn n pairs place c count rows s
   columns-room pairs place all start l long = record {
-    small = M .small;
     all = all;
-    inside = l;
-    start = start;
-    room = omega (arith, M .room, K .long);
-    fits = omega (arith, column-fits l, M .rows-fit);
+    room = record {
+      small = M .small;
+      inside = l;
+      start = start;
+      room = omega (arith, M .room, K .long);
+      fits = omega (arith, column-fits l, M .rows-fit);
+    };
     few = omega (arith, column-fits l, setSize-most n S, pairTotal-small n (M .small));
   }
 
@@ -250,14 +210,15 @@ module _ {n : ℕ} {starts₀ rows₀ s₀ : List ℕ} (M : LayOut n starts₀ r
       ap₂ (λ (l : List ℕ) (x : ℕ). set l c x) (K .starts-are) (K .count-is) ∙ filled-more (columnCount n S) starts₀ c (omega (arith, M .starts-fit))
 
   -- one column more
-  pub columns-more : {rows′ s′ : List ℕ} {m : ℕ} → c < n → ColumnLaid n c n count rows s rows′ s′ m
+  pub columns-more : {rows′ s′ : List ℕ} {m : ℕ} → c < n → ColumnLaid n c count rows s rows′ s′ m
       → ColumnsLaid n (c + 1) starts₀ rows₀ s₀ (set starts c count) rows′ s′ m
   columns-more {rows′} {s′} l C = record {
-    count-is = omega (arith, C .count-is, K .count-is, columnCount-next n S c, ap length (same-rows n (omega arith)));
+    count-is = omega (arith, C .listed .count-is, K .count-is, columnCount-next n S c, ap length (same-rows n (omega arith)));
     starts-are = start-written (omega arith);
     rows-are =
-        C .rows-is ∙ ap₂ (λ (x y : List ℕ). splice count (map (λ r. r) x) y) (same-rows n (omega arith)) (K .rows-are)
-        ∙ splice-overwrite listed _ rows₀ count (cells-length (byColumn S) columnFirst (columnEnd n) (λ c r. r) c ∙ sym (K .count-is))
+        C .listed .rows-is ∙ ap₂ (splice count) (same-rows n (omega arith)) (K .rows-are)
+        ∙ splice-overwrite earlier _ rows₀ count (cells-length (byColumn S) columnFirst (columnEnd n) (λ c r. r) c ∙ sym (K .count-is))
+        ∙ ap (λ (x : List ℕ). overwrite (earlier ++ x) rows₀) (sym (map-id (select (columnTest n s₀ c) c n)))
         ∙ ap (λ (x : List ℕ). overwrite x rows₀) (sym (cells-next (byColumn S) columnFirst (columnEnd n) (λ c r. r) c));
     long = C .long ∙ K .long;
     positions = λ r a h p q t.
@@ -267,8 +228,8 @@ module _ {n : ℕ} {starts₀ rows₀ s₀ : List ℕ} (M : LayOut n starts₀ r
     after = λ q h. C .after q (omega (arith, colStart-next n c)) ∙ K .after q (omega (arith, colStart-next n c));
   }
     where
-      listed : List ℕ
-      listed = cells (byColumn S) columnFirst (columnEnd n) (λ c r. r) c
+      earlier : List ℕ
+      earlier = cells (byColumn S) columnFirst (columnEnd n) (λ c r. r) c
 
       place-before : (r a : ℕ) → a < c → a ≤ r → r < n → columnPlace n r a < colStart n c
       place-before r a w p q = omega (arith, columnPlace-column n r a p q, colStart-mono n (a + 1) c (omega arith))

@@ -1,33 +1,23 @@
 // The result's layout from the marks of a set of pairs: the starts, the rows, and each member's position in them.
-ghost use Prim.Native.Nat.{_+_, _<_};
-ghost use lib.Dec.{eqb};
-ghost use lib.ListN.{getD};
-ghost use Rattle.layout.specs.Layout.{PairRoom, PairLaid, ColumnRoom, ColumnLaid, LayOut, LaidOut};
+ghost use Rattle.layout.specs.Layout.{PositionsRoom, PositionsLaid, LayColumn, ColumnLaid, LayOut, LaidOut};
+use column_rows::list_column;
 use pair_marks::pair_total;
+use words::at;
 
-// Lists the row r behind `count` rows if the word at p is 1, with its position `pairs` words past p; returns how many are listed.
-fn lay_pair(
-    pairs: usize,
-    p: usize,
-    r: usize,
-    count: usize,
-    rows: &mut [u32],
-    scratch: &mut [u32],
-) -> usize
-    requires { ⌜ PairRoom pairs p r count (now rows) (now scratch) ⌝ }
-    ensures { λ m. ⌜ PairLaid (eqb (getD (now (scratch .entry)) p 0) 1) (pairs + p) r count (now (rows .entry)) (now (scratch .entry))
-        (now (rows .exit)) (now (scratch .exit)) m ⌝ }
+// Writes the position of each row listed from `first` to below `end`, `base` words past the row.
+fn lay_positions(base: usize, first: usize, end: usize, rows: &[u32], scratch: &mut [u32])
+    requires { ⌜ PositionsRoom base first end (now rows) (now scratch) ⌝ }
+    ensures { λ _. ⌜ PositionsLaid base first end (now (rows .entry)) (now (scratch .entry)) (now (scratch .exit)) ⌝ }
 {
-    if scratch[p] != 1 {
-        return count;
+    let mut q = first;
+    while q < end {
+        let r = at(rows, q);
+        scratch[base + r] = q as u32;
+        q += 1;
     }
-    rows[count] = r as u32;
-    let word = pairs + p;
-    scratch[word] = count as u32;
-    count + 1
 }
 
-// Lists the rows of column c, whose marks start at `place`, behind `first` rows; returns how many are listed.
+// Lists the rows of column c, whose marks start at `place`, behind `first` rows, with their positions; returns how many are listed.
 fn lay_column(
     n: usize,
     pairs: usize,
@@ -37,21 +27,15 @@ fn lay_column(
     rows: &mut [u32],
     scratch: &mut [u32],
 ) -> usize
-    requires { ⌜ ColumnRoom n pairs place c first (now rows) (now scratch) ⌝ }
-    ensures { λ m. ⌜ ColumnLaid n c n first (now (rows .entry)) (now (scratch .entry)) (now (rows .exit)) (now (scratch .exit)) m ⌝ }
+    requires { ⌜ LayColumn n pairs place c first (now rows) (now scratch) ⌝ }
+    ensures { λ m. ⌜ ColumnLaid n c first (now (rows .entry)) (now (scratch .entry)) (now (rows .exit)) (now (scratch .exit)) m ⌝ }
 {
-    let mut count = first;
-    let mut p = place;
-    let mut r = c;
-    while r < n {
-        count = lay_pair(pairs, p, r, count, rows, scratch);
-        p += 1;
-        r += 1;
-    }
-    count
+    let next = list_column(n, place, c, first, rows, scratch);
+    lay_positions(pairs + (place - c), first, next, rows, scratch);
+    next
 }
 
-// Writes the starts and rows of the set that the marks say, and each member's position T words past its mark; returns how many members it has.
+// Writes the starts and rows of the set that the marks say, and each member's position T words past its place; returns how many members it has.
 pub fn lay_out(n: usize, starts: &mut [u32], rows: &mut [u32], scratch: &mut [u32]) -> usize
     requires { ⌜ LayOut n (now starts) (now rows) (now scratch) ⌝ }
     ensures { λ m. ⌜ LaidOut n (now (starts .entry)) (now (rows .entry)) (now (scratch .entry))

@@ -8,7 +8,7 @@ use mathlib.Core.Path.{_≡_, refl, sym, ap, ap₂, subst, _∙_}
 use mathlib.Core.List.{List, [], _∷_, _++_, append-assoc, append-nil}
 use lib.ListN.{length, getD, take, drop, set, length-append, length-drop, take-append-drop, List·getD-append}
 use Rattle.lists.specs.Tabulate.{tabulate, tabulate-none, tabulate-next, tabulate-length, tabulate-at}
-use lib.Seq.{drop-cons, drop-length, append-snoc, drop-drop, take-append-seam, drop-append-seam, set-append-seam, length-take-le, getD-append-add, getD-drop}
+use lib.Seq.{drop-cons, drop-length, append-snoc, drop-drop, take-append-seam, drop-append-seam, set-append-seam, length-take-le, getD-append-add, getD-drop, ext-getD}
 
 module _ {A : Type 0} where
   -- new, and behind it what old has there
@@ -91,6 +91,22 @@ module _ {A : Type 0} where
       ∙ sym (append-assoc xs ys _)
       ∙ ap (λ (k : ℕ). xs ++ ys ++ drop k old) (sym (length-append xs ys)))
 
+  -- a splice is the front and the new places written over
+  splice-front : (a : ℕ) (xs old : List A) → a ≤ length old → overwrite (take a old ++ xs) old ≡ splice a xs old
+  unfolding splice overwrite
+  splice-front a xs old h =
+      let q : length (take a old ++ xs) ≡ a + length xs = length-append (take a old) xs ∙ ap (λ (k : ℕ). k + length xs) (length-take-le a old h) in
+      ap (λ (k : ℕ). (take a old ++ xs) ++ drop k old) q ∙ append-assoc (take a old) xs _
+      ∙ ap (λ (l : List A). take a old ++ (xs ++ l)) (sym (drop-drop (length xs) a old))
+
+  -- one splice behind another
+  pub splice-join : (a : ℕ) (xs ys old : List A) → a ≤ length old → splice (a + length xs) ys (splice a xs old) ≡ splice a (xs ++ ys) old
+  splice-join a xs ys old h =
+      ap (splice (a + length xs) ys) (sym (splice-front a xs old h))
+      ∙ splice-overwrite (take a old ++ xs) ys old (a + length xs)
+      (length-append (take a old) xs ∙ ap (λ (k : ℕ). k + length xs) (length-take-le a old h))
+      ∙ ap (λ (l : List A). overwrite l old) (append-assoc (take a old) xs ys) ∙ splice-front a (xs ++ ys) old h
+
   -- writing as many places again leaves nothing of the first writing
   pub overwrite-again : (new mid old : List A) → length mid ≤ length new → overwrite new (overwrite mid old) ≡ overwrite new old
   unfolding overwrite
@@ -101,6 +117,32 @@ module _ {A : Type 0} where
       ∙ sym (drop-drop (length new - length mid) (length mid) (mid ++ drop (length mid) old))
       ∙ ap (drop (length new - length mid)) (drop-append-seam mid (drop (length mid) old))
       ∙ drop-drop (length new - length mid) (length mid) old ∙ ap (λ (k : ℕ). drop k old) (sym q))
+
+-- the places of a list written anew from the place a on
+module _ {A : Type 0} (a : ℕ) (new old : List A) (room : a + length new ≤ length old) (none : A) where
+  front : length (take a old) ≡ a
+  front = length-take-le a old (omega arith)
+
+  -- a place that was written, one behind, and all behind
+  pub splice-at : (x : ℕ) → x < length new → getD (splice a new old) (a + x) none ≡ getD new x none
+  unfolding splice
+  splice-at x h =
+      ap (λ (i : ℕ). getD (splice a new old) (i + x) none) (sym front) ∙ getD-append-add (take a old) (overwrite new (drop a old)) x none
+      ∙ overwrite-at new (drop a old) x none h
+
+  pub splice-past : (i : ℕ) → a + length new ≤ i → getD (splice a new old) i none ≡ getD old i none
+  unfolding splice
+  splice-past i h =
+      let q : a + (i - a) ≡ i = omega arith in
+      ap (λ (k : ℕ). getD (splice a new old) k none) (sym (ap (λ (k : ℕ). k + (i - a)) front ∙ q))
+      ∙ getD-append-add (take a old) (overwrite new (drop a old)) (i - a) none
+      ∙ overwrite-past new (drop a old) (i - a) none (omega arith) ∙ getD-drop a old (i - a) none ∙ ap (λ (k : ℕ). getD old k none) q
+
+  pub splice-later : (t : ℕ) → a + length new ≤ t → drop t (splice a new old) ≡ drop t old
+  splice-later t h =
+      ext-getD none (drop t (splice a new old)) (drop t old)
+      (length-drop t (splice a new old) ∙ ap (λ (x : ℕ). x - t) (splice-length a new old room) ∙ sym (length-drop t old))
+      (λ i _. getD-drop t (splice a new old) i none ∙ splice-past (t + i) (omega arith) ∙ sym (getD-drop t old i none))
 
 -- f 0, f 1, .., m of them, written over the front of a list
 unfoldable pub filled : {A : Type 0} → (ℕ → A) → ℕ → List A → List A

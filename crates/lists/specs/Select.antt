@@ -6,7 +6,7 @@ use native.Mathlib.Nat.{not-suc-le-zero, eq-or-lt-of-le, le-of-suc-le-suc, add-z
 use native.Mathlib.Numerals.{add-one}
 use mathlib.Core.Path.{_≡_, refl, sym, ap, ap₂, subst, _∙_}
 use mathlib.Core.Bool.{Bool, true, false}
-use mathlib.Core.List.{List, [], _∷_, _++_, map, append-nil}
+use mathlib.Core.List.{List, [], _∷_, _++_, map, append-nil, append-assoc}
 use mathlib.Core.Logic.{⊎-elim}
 use lib.ListN.{length, getD, length-append, List·getD-append}
 use lib.Seq.{getD-append-seam}
@@ -52,6 +52,31 @@ module _ (test : ℕ → Bool) where
 
   pub select-no : (s k : ℕ) → s ≤ k → test k ≡ false → select test s (k + 1) ≡ select test s k
   select-no s k h e = select-next s k h ∙ ap (λ (b : Bool). select test s k ++ one b k) e ∙ append-nil _
+
+  -- a range in two parts, and a part where none passes
+  pub select-join : (s m e : ℕ) → s ≤ m → m ≤ e → select test s e ≡ select test s m ++ select test m e
+  select-join s m e h l =
+      let q : m + (e - m) ≡ e = omega arith in
+      subst (λ (k : ℕ). select test s k ≡ select test s m ++ select test m k) q (up (e - m))
+    where
+      up : (k : ℕ) → select test s (m + k) ≡ select test s m ++ select test m (m + k)
+      up zero = rw (add-zero, select-none, append-nil)
+      up (suc k) =
+          let q : m + suc k ≡ m + k + 1 = omega arith in
+          ap (select test s) q ∙ select-next s (m + k) (omega arith) ∙ ap (λ (x : List ℕ). x ++ one (test (m + k)) (m + k)) (up k)
+          ∙ append-assoc (select test s m) (select test m (m + k)) _
+          ∙ ap (λ (x : List ℕ). select test s m ++ x) (sym (ap (select test m) q ∙ select-next m (m + k) (omega arith)))
+
+  pub select-gap : (s m e : ℕ) → s ≤ m → m ≤ e → ((k : ℕ) → m ≤ k → k < e → test k ≡ false) → select test s e ≡ select test s m
+  select-gap s m e h l none =
+      let q : m + (e - m) ≡ e = omega arith in
+      subst (λ (k : ℕ). select test s k ≡ select test s m) q (up (e - m) (omega arith))
+    where
+      up : (k : ℕ) → m + k ≤ e → select test s (m + k) ≡ select test s m
+      up zero b = ap (select test s) (add-zero m)
+      up (suc k) b =
+          let q : m + suc k ≡ m + k + 1 = omega arith in
+          ap (select test s) q ∙ select-no s (m + k) (omega arith) (none (m + k) (omega arith) (omega arith)) ∙ up k (omega arith)
 
   pub tally-none : (s : ℕ) → tally test s s ≡ 0
   tally-none s = ap length (select-none s)

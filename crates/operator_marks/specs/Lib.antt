@@ -1,3 +1,3 @@
--- The requests of an operator, and words that mark more pairs than before.
+-- The requests of an operator, and what marking them asks.
 pub mod OperatorRequests
 pub mod Marking

@@ -1,33 +1,31 @@
 // The requests of an operator marked as pairs: all column pairs of each row, after `selected_inverse_transformed_diag` of uncertainty.rs.
 ghost use Prim.Native.Nat.{_+_};
-ghost use Rattle.pair_queue.specs.Marking.{MarkedPairs};
+ghost use Rattle.pair_queue.specs.Marking.{MarkedPairs, AlsoMarked};
 ghost use Rattle.pattern_marks.specs.Marking.{termsSet, rowSet};
 ghost use Rattle.operator_marks.specs.OperatorRequests.{operatorRequested};
-ghost use Rattle.operator_marks.specs.Marking.{OperatorInput, RowInput, AlsoMarked};
+ghost use Rattle.operator_marks.specs.Marking.{OperatorInput, RowInput};
 use operator::operator_rows;
-use pair_marks::pair_total;
+use pair_queue::clear_pairs;
 use pair_queue::insert_closure_pair;
 use words::at;
-use words::clear;
 
 // Marks the pairs of the column at a with those from s to itself; the row's other columns come with their own turn.
 fn mark_terms(
     n: usize,
-    pairs: usize,
     columns: &[u32],
     s: usize,
     a: usize,
     first: usize,
     scratch: &mut [u32],
 ) -> usize
-    requires { ⌜ RowInput n pairs (now columns) s (a + 1) (now scratch) first ⌝ }
+    requires { ⌜ RowInput n (now columns) s (a + 1) (now scratch) first ⌝ }
     ensures { λ m. ⌜ AlsoMarked n (termsSet (now (columns .entry)) s a) (now (scratch .entry)) (now (scratch .exit)) m ⌝ }
 {
     let x = at(columns, a);
     let mut count = first;
     let mut b = s;
     while b <= a {
-        count = insert_closure_pair(n, pairs, x, at(columns, b), count, scratch);
+        count = insert_closure_pair(n, x, at(columns, b), count, scratch);
         b += 1;
     }
     count
@@ -36,20 +34,19 @@ fn mark_terms(
 // Marks the pairs of the columns from s to e, those of one row.
 fn mark_row(
     n: usize,
-    pairs: usize,
     columns: &[u32],
     s: usize,
     e: usize,
     first: usize,
     scratch: &mut [u32],
 ) -> usize
-    requires { ⌜ RowInput n pairs (now columns) s e (now scratch) first ⌝ }
+    requires { ⌜ RowInput n (now columns) s e (now scratch) first ⌝ }
     ensures { λ m. ⌜ AlsoMarked n (rowSet (now (columns .entry)) s e) (now (scratch .entry)) (now (scratch .exit)) m ⌝ }
 {
     let mut count = first;
     let mut a = s;
     while a < e {
-        count = mark_terms(n, pairs, columns, s, a, count, scratch);
+        count = mark_terms(n, columns, s, a, count, scratch);
         a += 1;
     }
     count
@@ -66,15 +63,13 @@ pub fn mark_operator_pairs(
     ensures { λ m. ⌜ MarkedPairs n (operatorRequested (now («row_starts» .entry)) (now (columns .entry)))
         (now (scratch .entry)) (now (scratch .exit)) m ⌝ }
 {
-    let pairs = pair_total(n);
-    clear(scratch, pairs);
+    clear_pairs(n, scratch);
     let last = operator_rows(row_starts);
     let mut count = 0;
     let mut i = 0;
     while i < last {
         count = mark_row(
             n,
-            pairs,
             columns,
             at(row_starts, i),
             at(row_starts, i + 1),

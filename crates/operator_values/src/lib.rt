@@ -4,34 +4,37 @@ ghost use mathlib.Core.Path.{_≡_};
 ghost use lib.ListN.{length};
 ghost use Rattle.lists.specs.Overwrite.{overwrite};
 ghost use Rattle.quadratic_form.specs.RowValue.{operatorValues};
-ghost use Rattle.quadratic_form.specs.Reading.{held, OperatorReading};
+ghost use Rattle.row_value.specs.Reading.{placed, OperatorReading};
 use operator::operator_rows;
+use pair_marks::pair_total;
 use row_value::row_value;
 use words::at;
 
 // Writes the value of each row to the front of the output.
 pub fn operator_values(
+    n: usize,
     row_starts: &[u32],
     columns: &[u32],
     weights: &[f64],
-    starts: &[u32],
-    rows: &[u32],
-    values: &[f64],
+    scratch: &[u32],
+    inverse: &[f64],
     output: &mut [f64],
 )
-    requires { ⌜ OperatorReading (now «row_starts») (now columns) (length (now weights)) (now starts) (now rows) (length (now values)) (length (now output)) ⌝ }
+    requires { ⌜ OperatorReading n (now «row_starts») (now columns) (length (now weights)) (now scratch) (length (now inverse)) (length (now output)) ⌝ }
     ensures { λ _. ⌜ now (output .exit) ≡ overwrite (operatorValues (now («row_starts» .entry)) (now (columns .entry)) (now (weights .entry))
-        (held (now (starts .entry)) (now (rows .entry)) (now (values .entry)))) (now (output .entry)) ⌝ }
+        (placed n (now (scratch .entry)) (now (inverse .entry)))) (now (output .entry)) ⌝ }
 {
+    let pairs = pair_total(n);
     let last = operator_rows(row_starts);
     let mut i = 0;
     while i < last {
         output[i] = row_value(
+            n,
+            pairs,
             columns,
             weights,
-            starts,
-            rows,
-            values,
+            scratch,
+            inverse,
             at(row_starts, i),
             at(row_starts, i + 1),
         );

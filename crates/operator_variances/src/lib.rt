@@ -14,7 +14,8 @@ ghost use Rattle.operator_variances.specs.Transformed.{transformedCall, 
 use bounds_check::check_bounds;
 use diagnostics::SelectedInverseStatus;
 use factor::check_columns;
-use fill::fill_entries;
+use fill::clear_scratch;
+use fill::fill_lists;
 use operator::check_operator;
 use operator::check_operator_bounds;
 use operator::operator_rows;
@@ -201,7 +202,7 @@ pub fn selected_inverse_transformed_diag(
         Checked::Accepted => {
             let requested_pairs = mark_operator_pairs(n, row_starts, columns, scratch);
             let limit = 10 * rows.len();
-            let diagnosis = fill_entries(
+            let diagnosis = fill_lists(
                 n,
                 starts,
                 rows,
@@ -215,18 +216,21 @@ pub fn selected_inverse_transformed_diag(
             );
             let status = diagnosis.status;
             match status {
-                SelectedInverseStatus::ClosureTooLarge => Selected::Answered(diagnosis),
+                SelectedInverseStatus::ClosureTooLarge => {
+                    clear_scratch(n, scratch);
+                    return Selected::Answered(diagnosis);
+                }
                 SelectedInverseStatus::Complete => {
-                    let end = n + 1;
                     operator_values(
+                        n,
                         row_starts,
                         columns,
                         weights,
-                        &result_starts[0..end],
-                        result_rows,
+                        scratch,
                         result_values,
                         output,
                     );
+                    clear_scratch(n, scratch);
                     Selected::Answered(diagnosis)
                 }
             }

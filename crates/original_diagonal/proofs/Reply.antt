@@ -20,7 +20,7 @@ use Rattle.pairs.specs.Pair.{pairTotal}
 use Rattle.columns.specs.Kept.{nonzero, pattern}
 use Rattle.closed_set.specs.ClosedSet.{member-holds}
 use Rattle.closed_set.specs.Size.{closureSize-most}
-use Rattle.closure.specs.FactorPattern.{factor-pattern}
+use Rattle.descendants.specs.FactorPattern.{factor-pattern}
 use Rattle.entries.specs.Entries.{columnCount, position, entryStarts, entryValues, entryStarts-length, entryValues-length}
 use Rattle.entries.specs.Position.{position-first, position-below, entryValues-at}
 use Rattle.factor_order.specs.Permutation.{index, reordered}

@@ -1,3 +1,2 @@
--- Marks of pairs, and a queue of them, in one list of words.
-pub mod Scratch
+-- Sets of pairs, marked by bits of words.
 pub mod Marking

@@ -1,118 +1,361 @@
--- Marked pairs: words that grow, and words that mark exactly the pairs of a set.
+-- Marked pairs and a queue of them: words that mark more pairs than before, and words that mark exactly the pairs of a set.
 -- Assumes nothing.
-use Prim.Native.Nat.{ℕ, _+_, _≤_, _<_, min, max}
+use Prim.Native.Nat.{ℕ, _+_, _*_, _/_, _%_, _≤_, _<_, min, max}
 use native.Mathlib.Omega.{arith}
-use native.Mathlib.Nat.{not-suc-le-zero}
-use mathlib.Core.Path.{_≡_, refl, sym, ap, subst₂, _∙_}
-use mathlib.Core.Bool.{Bool, true, false, _||_, false≢true}
+use native.Mathlib.Nat.{not-suc-le-zero, eq-or-lt-of-le, le-of-suc-le-suc}
+use native.Mathlib.Numerals.{add-one}
+use mathlib.Core.Path.{_≡_, refl, sym, ap, ap₂, subst, subst₂, _∙_}
+use mathlib.Core.Bool.{Bool, true, false, _&&_, _||_, false≢true}
 use mathlib.Core.Logic.{⊎-elim}
 use mathlib.Core.List.{List}
-use lib.ListN.{length, getD, drop}
-use borrow.Author.Tests.{eqb-true, eq-eqb}
-use Rattle.lists.specs.Test.{same-truth, not-so, or-cases, or-left, or-right}
-use Rattle.lists.specs.Sum.{sumTo-zero, sumTo-most}
+use lib.Dec.{eqb}
+use lib.ListN.{length, getD, set, drop, length-set}
+use lib.Seq.{getD-set-same, getD-set-other, drop-set-lt}
+use borrow.Author.Tests.{eqb-true, eq-eqb, ne-eqb}
+use Rattle.lists.specs.Test.{any, anyIn, any-next, anyIn-next, same-truth, and-left, and-right, and-both, or-cases, or-left, or-right}
+use Rattle.lists.specs.Sum.{bit, sumTo, sumTo-zero, sumTo-one}
 use Rattle.lists.specs.Overwrite.{cleared, filled-at, filled-length, filled-later}
-use Rattle.pairs.specs.Pair.{pairTotal, ordered, ordered-is, is-ordered}
-use Rattle.pairs.specs.ColumnOrder.{columnPlace, columnMark, columnMarking, columnPlace-below}
-use Rattle.pair_queue.specs.Scratch.{rowOf, columnOf, queueWord, Queued, Marked, Within, Grown, Inserted}
+use Rattle.bits.specs.Bits.{bitAt, bitWords, withBit, bit-clear, bit-same, bit-set, word-below, bitWords-most}
+use Rattle.refusal.specs.Bounds.{maxDimension}
+use Rattle.pairs.specs.Pair.{pairTotal, ordered}
+use Rattle.pairs.specs.ColumnOrder.{columnPlace, columnMarking, columnPlace-below, columnPlace-same, setSize, setSize-sum, setSize-cong, setSize-most}
 
--- words that mark exactly the pairs of a set, made of the words s₀; the words behind the queue are as they were
+-- a pair as one word of the queue, and the row and column of a word
+abbrev pub packing : ℕ
+packing = 4096
+
+abbrev pub packed : ℕ → ℕ → ℕ
+packed r c = r * packing + c
+
+abbrev pub rowOf : ℕ → ℕ
+rowOf w = w / packing
+
+abbrev pub columnOf : ℕ → ℕ
+columnOf w = w % packing
+
+-- word j of the queue, which stands T words past the marks' start
+abbrev pub queueWord : ℕ → List ℕ → ℕ → ℕ
+queueWord n s j = getD s (pairTotal n + j) 0
+
+-- the word is that of a marked pair
+pub record Queued (n : ℕ) (s : List ℕ) (w : ℕ) : Type 0 where
+  pub ordered : columnOf w ≤ rowOf w
+  pub inside : rowOf w < n
+  pub marked : columnMarking n s (rowOf w) (columnOf w) ≡ true
+
+-- `count` pairs are marked, and the queue has a word for each
+pub record Marked (n : ℕ) (s : List ℕ) (count : ℕ) : Type 0 where
+  pub room : pairTotal n + pairTotal n ≤ length s
+  pub size : count ≡ setSize n (columnMarking n s)
+  pub queued : (j : ℕ) → j < count → Queued n s (queueWord n s j)
+  pub found : (r c : ℕ) → c ≤ r → r < n → columnMarking n s r c ≡ true → (j : ℕ) × (j < count) × (queueWord n s j ≡ packed r c)
+
+-- the words s′ mark what s marks and the pairs of a set; the words behind 2T are as they were
+pub record Gained (n : ℕ) (S : ℕ → ℕ → Bool) (s s′ : List ℕ) : Type 0 where
+  pub long : length s′ ≡ length s
+  pub marks : (r c : ℕ) → c ≤ r → r < n → columnMarking n s′ r c ≡ (columnMarking n s r c || S r c)
+  pub later : drop (pairTotal n + pairTotal n) s′ ≡ drop (pairTotal n + pairTotal n) s
+
+-- the words s, made of the words s₀, mark exactly the pairs of a set
 pub record MarkedPairs (n : ℕ) (S : ℕ → ℕ → Bool) (s₀ s : List ℕ) (count : ℕ) : Type 0 where
   pub long : length s ≡ length s₀
   pub marked : Marked n s count
   pub marks : (r c : ℕ) → c ≤ r → r < n → columnMarking n s r c ≡ S r c
   pub later : drop (pairTotal n + pairTotal n) s ≡ drop (pairTotal n + pairTotal n) s₀
 
--- ---- words that grow
+-- the words w′ mark what w marks and the pairs of a set, `count` in all
+pub record AlsoMarked (n : ℕ) (S : ℕ → ℕ → Bool) (w w′ : List ℕ) (count : ℕ) : Type 0 where
+  pub gained : Gained n S w w′
+  pub marked : Marked n w′ count
 
-pub grown-none : (n : ℕ) (s : List ℕ) (count : ℕ) → Grown n s count s count
-grown-none n s count = record { long = refl; more = omega arith; marks = λ p l e. e; words = λ j l. refl; later = refl }
+-- a pair and the words that it is inserted into
+pub record Insert (n a b : ℕ) (s : List ℕ) (count : ℕ) : Type 0 where
+  pub small : n ≤ maxDimension
+  pub first : a < n
+  pub second : b < n
+  pub marked : Marked n s count
 
-pub grown-trans : {n : ℕ} {s : List ℕ} {a : ℕ} {s′ : List ℕ} {b : ℕ} {s″ : List ℕ} {d : ℕ} → Grown n s a s′ b → Grown n s′ b s″ d → Grown n s a s″ d
-grown-trans G H = record {
+-- what inserting the pair of a and b, put in order, leaves: the queue's words stay, and at most one is added
+pub record Inserted (n a b : ℕ) (s : List ℕ) (count : ℕ) (s′ : List ℕ) (count′ : ℕ) : Type 0 where
+  pub also : AlsoMarked n (ordered a b) s s′ count′
+  pub words : (j : ℕ) → j < count → queueWord n s′ j ≡ queueWord n s j
+  pub more : count ≤ count′
+  pub most : count′ ≤ count + 1
+
+-- there are at most as many marked pairs as pairs
+pub count-most : {n : ℕ} {s : List ℕ} {count : ℕ} → Marked n s count → count ≤ pairTotal n
+count-most {n} {s} M = omega (arith, M .size, setSize-most n (columnMarking n s))
+
+-- ---- words that mark more
+
+or-none : (a : Bool) → a ≡ (a || false)
+or-none true = refl
+or-none false = refl
+
+or-assoc : (a b c : Bool) → ((a || b) || c) ≡ (a || (b || c))
+or-assoc true b c = refl
+or-assoc false b c = refl
+
+-- none more
+pub gained-none : (n : ℕ) (S : ℕ → ℕ → Bool) (s : List ℕ) → ((r c : ℕ) → S r c ≡ false) → Gained n S s s
+gained-none n S s e = record {
+  long = refl;
+  marks = λ r c h l. or-none (columnMarking n s r c) ∙ ap (λ (b : Bool). columnMarking n s r c || b) (sym (e r c));
+  later = refl;
+}
+
+-- the pairs of two sets, one after the other
+pub gained-both : {n : ℕ} {S R : ℕ → ℕ → Bool} {s s′ s″ : List ℕ} → Gained n S s s′ → Gained n R s′ s″ → Gained n (λ r c. S r c || R r c) s s″
+gained-both {n} {S} {R} {s} G H = record {
   long = H .long ∙ G .long;
-  more = omega (arith, G .more, H .more);
-  marks = λ p l e. H .marks p l (G .marks p l e);
-  words = λ j l. H .words j (omega (arith, G .more)) ∙ G .words j l;
+  marks = λ r c h l. H .marks r c h l ∙ ap (λ (b : Bool). b || R r c) (G .marks r c h l) ∙ or-assoc (columnMarking n s r c) (S r c) (R r c);
   later = H .later ∙ G .later;
 }
 
--- a marked pair stays marked
-pub grown-mark : {n : ℕ} {s : List ℕ} {a : ℕ} {s′ : List ℕ} {b : ℕ} → Grown n s a s′ b → (r c : ℕ) → c ≤ r → r < n → columnMark n s r c ≡ 1
-    → columnMark n s′ r c ≡ 1
-grown-mark {n} G r c h l e = G .marks (columnPlace n r c) (columnPlace-below n r c h l) e
+-- sets that agree
+pub gained-cong : {n : ℕ} {S S′ : ℕ → ℕ → Bool} {s s′ : List ℕ} → ((r c : ℕ) → c ≤ r → r < n → S r c ≡ S′ r c) → Gained n S s s′ → Gained n S′ s s′
+gained-cong {n} {S} {S′} {s} e G = record {
+  long = G .long;
+  marks = λ r c h l. G .marks r c h l ∙ ap (λ (b : Bool). columnMarking n s r c || b) (e r c h l);
+  later = G .later;
+}
 
-pub queued-grown : {n : ℕ} {s : List ℕ} {a : ℕ} {s′ : List ℕ} {b : ℕ} (w : ℕ) → Grown n s a s′ b → Queued n s w → Queued n s′ w
-queued-grown w G Q = record { ordered = Q .ordered; inside = Q .inside; marked = grown-mark G (rowOf w) (columnOf w) (Q .ordered) (Q .inside) (Q .marked) }
+-- ---- one pair
 
--- ---- no pair
+module _ (n a b : ℕ) (h : b ≤ a) (l : a < n) where
+  -- its place is that of no other pair
+  place-test : (r c : ℕ) → c ≤ r → r < n → eqb (columnPlace n a b) (columnPlace n r c) ≡ (eqb a r && eqb b c)
+  place-test r c k m =
+      same-truth _ _
+      (λ e. let q = columnPlace-same n a b r c h l k m (eqb-true _ _ e) in and-both _ _ (eq-eqb a r (q .0)) (eq-eqb b c (q .1)))
+      (λ e.
+      eq-eqb _ _
+      (ap₂ (columnPlace n) (eqb-true a r (and-left (eqb a r) _ e)) (eqb-true b c (and-right (eqb a r) _ e))))
 
-module _ (n : ℕ) (s : List ℕ) (z : (p : ℕ) → p < pairTotal n → getD s p 0 ≡ 0) where
-  pub marked-none : pairTotal n + pairTotal n ≤ length s → Marked n s 0
-  marked-none h = record {
-    room = h;
-    bits = λ p l. omega (arith, z p l);
-    size = sym (sumTo-zero _ (pairTotal n) z);
-    queued = λ j l. absurd (not-suc-le-zero l);
-    found = λ r c l m e. absurd (omega (arith, z (columnPlace n r c) (columnPlace-below n r c l m)));
+  module _ (s : List ℕ) (room : pairTotal n + pairTotal n ≤ length s) {p : ℕ} (e : p ≡ columnPlace n a b) where
+    pub place-word : p / 32 < length s
+    place-word = omega (arith, columnPlace-below n a b h l, word-below p (pairTotal n) (omega (arith, columnPlace-below n a b h l)), bitWords-most (pairTotal n))
+
+    -- the pair is marked
+    pub gained-pair : Gained n (λ r c. eqb a r && eqb b c) s (withBit s p)
+    gained-pair = record {
+      long = length-set s (p / 32) _;
+      marks = λ r c k m.
+          bit-set s p place-word (columnPlace n r c)
+          ∙ ap (λ (x : Bool). columnMarking n s r c || x) (ap (λ (q : ℕ). eqb q (columnPlace n r c)) e ∙ place-test r c k m);
+      later =
+          drop-set-lt (pairTotal n + pairTotal n) s (p / 32) _
+          (omega (arith, columnPlace-below n a b h l, word-below p (pairTotal n) (omega (arith, columnPlace-below n a b h l)), bitWords-most (pairTotal n)));
+    }
+
+    -- and is one more, if it was not
+    pub pair-new : bitAt s p ≡ false → setSize n (columnMarking n (withBit s p)) ≡ setSize n (columnMarking n s) + 1
+    pair-new new =
+        setSize-sum n (columnMarking n (withBit s p)) (λ q. bit (bitAt (withBit s p) q)) (λ r c k m. refl)
+        ∙ sumTo-one (λ q. bit (bitAt s q)) (λ q. bit (bitAt (withBit s p) q)) (pairTotal n) p (omega (arith, columnPlace-below n a b h l))
+        (ap bit new)
+        (ap bit (bit-set s p place-word p ∙ or-true (bitAt s p) (eqb p p) (eq-eqb p p refl)))
+        (λ q m d. ap bit (bit-set s p place-word q ∙ ap (λ (x : Bool). bitAt s q || x) (ne-eqb p q (λ f. d (sym f))) ∙ sym (or-none (bitAt s q))))
+        ∙ ap (λ (k : ℕ). k + 1) (sym (setSize-sum n (columnMarking n s) (λ q. bit (bitAt s q)) (λ r c k m. refl)))
+      where
+        or-true : (x y : Bool) → y ≡ true → (x || y) ≡ true
+        or-true true y q = refl
+        or-true false y q = q
+
+-- a pair the other way round
+pub ordered-turned : (a b r c : ℕ) → ordered a b r c ≡ ordered b a r c
+ordered-turned a b r c =
+    let e₁ : max a b ≡ max b a = omega arith in
+    let e₂ : min a b ≡ min b a = omega arith in
+    ap₂ (λ (p q : ℕ). eqb p r && eqb q c) e₁ e₂
+
+-- the same for a pair given in either order
+module _ (n a b : ℕ) {r c : ℕ} (high : max a b ≡ r) (low : min a b ≡ c) where
+  ordered-pair : (x y : ℕ) → ordered a b x y ≡ (eqb r x && eqb c y)
+  ordered-pair x y = ap₂ (λ (p q : ℕ). eqb p x && eqb q y) high low
+
+  -- a marked pair is inserted again
+  pub insert-old : {s : List ℕ} {count : ℕ} → c ≤ r → r < n → Marked n s count → bitAt s (columnPlace n r c) ≡ true → Inserted n a b s count s count
+  insert-old {s} {count} h l M old = record {
+    also = record {
+      gained = record {
+        long = refl;
+        marks = λ x y k m. held x y (eqb r x && eqb c y) refl ∙ ap (λ (t : Bool). columnMarking n s x y || t) (sym (ordered-pair x y));
+        later = refl;
+      };
+      marked = M;
+    };
+    words = λ j m. refl;
+    more = omega arith;
+    most = omega arith;
   }
+    where
+      or-same : (u v : Bool) → u ≡ true → u ≡ (u || v)
+      or-same true v q = refl
+      or-same false v q = absurd (false≢true q)
 
-  within-none : (S : ℕ → ℕ → Bool) → Within n S s
-  within-none S r c l m e = absurd (omega (arith, z (columnPlace n r c) (columnPlace-below n r c l m)))
+      held : (x y : ℕ) (t : Bool) → (eqb r x && eqb c y) ≡ t → columnMarking n s x y ≡ (columnMarking n s x y || (eqb r x && eqb c y))
+      held x y true q =
+          or-same (columnMarking n s x y) _
+          (ap₂ (columnMarking n s) (sym (eqb-true r x (and-left (eqb r x) _ q))) (sym (eqb-true c y (and-right (eqb r x) _ q))) ∙ old)
+      held x y false q = or-none (columnMarking n s x y) ∙ ap (λ (t : Bool). columnMarking n s x y || t) (sym q)
 
--- there are at most as many marked pairs as pairs
-pub count-most : (n : ℕ) (s : List ℕ) (count : ℕ) → Marked n s count → count ≤ pairTotal n
-count-most n s count M = omega (arith, M .size, sumTo-most (λ p. getD s p 0) (pairTotal n) (M .bits))
+  -- one that is not marked is inserted: its bit and its word are written
+  module _ {s : List ℕ} {count p : ℕ} (small : n ≤ maxDimension) (h : c ≤ r) (l : r < n) (M : Marked n s count) (e : p ≡ columnPlace n r c) (new : bitAt s p ≡ false) where
+    abbrev end : ℕ
+    end = pairTotal n + count
+
+    abbrev s′ : List ℕ
+    s′ = set (withBit s p) end (packed r c)
+
+    G : Gained n (λ x y. eqb r x && eqb c y) s (withBit s p)
+    G = gained-pair n r c h l s (M .room) e
+
+    grows : setSize n (columnMarking n (withBit s p)) ≡ setSize n (columnMarking n s) + 1
+    grows = pair-new n r c h l s (M .room) e new
+
+    -- there is a word left
+    pub end-room : count < pairTotal n
+    end-room = omega (arith, M .size, grows, setSize-most n (columnMarking n (withBit s p)))
+
+    place-below : p < pairTotal n
+    place-below = omega (arith, columnPlace-below n r c h l)
+
+    word-first : p / 32 < pairTotal n
+    word-first = omega (arith, word-below p (pairTotal n) place-below, bitWords-most (pairTotal n))
+
+    -- the queue is behind the marks
+    same-mark : (x y : ℕ) → y ≤ x → x < n → columnMarking n s′ x y ≡ columnMarking n (withBit s p) x y
+    same-mark x y k m =
+        let w = word-below (columnPlace n x y) (pairTotal n) (columnPlace-below n x y k m) in
+        bit-same s′ (withBit s p) (columnPlace n x y)
+        (getD-set-other (withBit s p) end (columnPlace n x y / 32) (packed r c) 0 (omega (arith, bitWords-most (pairTotal n))))
+
+    marks′ : (x y : ℕ) → y ≤ x → x < n → columnMarking n s′ x y ≡ (columnMarking n s x y || (eqb r x && eqb c y))
+    marks′ x y k m = same-mark x y k m ∙ G .marks x y k m
+
+    words′ : (j : ℕ) → j < count → queueWord n s′ j ≡ queueWord n s j
+    words′ j m =
+        getD-set-other (withBit s p) end (pairTotal n + j) (packed r c) 0 (omega arith)
+        ∙ getD-set-other s (p / 32) (pairTotal n + j) _ 0 (omega (arith, word-first))
+
+    last-word : queueWord n s′ count ≡ packed r c
+    last-word = getD-set-same (withBit s p) end (packed r c) 0 (simp length-set (omega (arith, end-room, M .room)))
+
+    kept : (x y : ℕ) → y ≤ x → x < n → columnMarking n s x y ≡ true → columnMarking n s′ x y ≡ true
+    kept x y k m t = marks′ x y k m ∙ or-left (columnMarking n s x y) _ t
+
+    here : columnMarking n s′ r c ≡ true
+    here = marks′ r c h l ∙ or-right (columnMarking n s r c) _ (and-both _ _ (eq-eqb r r refl) (eq-eqb c c refl))
+
+    long′ : length s′ ≡ length s
+    long′ = length-set (withBit s p) end (packed r c) ∙ G .long
+
+    queued′ : (j : ℕ) → j < count + 1 → Queued n s′ (queueWord n s′ j)
+    queued′ j m =
+        ⊎-elim
+        (λ q. subst (λ (i : ℕ). Queued n s′ (queueWord n s′ i)) (sym q) (subst (λ (w : ℕ). Queued n s′ w) (sym last-word) last))
+        (λ q. let Q = M .queued j q in
+        subst (λ (w : ℕ). Queued n s′ w) (sym (words′ j q))
+        (record { ordered = Q .ordered; inside = Q .inside; marked = kept _ _ (Q .ordered) (Q .inside) (Q .marked) }))
+        (eq-or-lt-of-le (le-of-suc-le-suc (rw add-one at m)))
+      where
+        last : Queued n s′ (packed r c)
+        last =
+            let q₁ : rowOf (packed r c) ≡ r = omega arith in
+            let q₂ : columnOf (packed r c) ≡ c = omega arith in
+            record { ordered = omega arith; inside = omega arith; marked = subst₂ (λ (x y : ℕ). columnMarking n s′ x y ≡ true) (sym q₁) (sym q₂) here }
+
+    found′ : (x y : ℕ) → y ≤ x → x < n → columnMarking n s′ x y ≡ true → (j : ℕ) × (j < count + 1) × (queueWord n s′ j ≡ packed x y)
+    found′ x y k m t =
+        ⊎-elim
+        (λ q. let f = M .found x y k m q in (f .0, omega (arith, f .1), words′ (f .0) (f .1) ∙ f .2))
+        (λ q. (count, omega arith, last-word ∙ ap₂ packed (eqb-true r x (and-left (eqb r x) _ q)) (eqb-true c y (and-right (eqb r x) _ q))))
+        (or-cases (columnMarking n s x y) _ (sym (marks′ x y k m) ∙ t))
+
+    pub insert-new : Inserted n a b s count s′ (count + 1)
+    insert-new = record {
+      also = record {
+        gained = record {
+          long = long′;
+          marks = λ x y k m. marks′ x y k m ∙ ap (λ (t : Bool). columnMarking n s x y || t) (sym (ordered-pair x y));
+          later = drop-set-lt (pairTotal n + pairTotal n) (withBit s p) end (packed r c) (omega (arith, end-room)) ∙ G .later;
+        };
+        marked = record {
+          room = omega (arith, M .room, long′);
+          size = omega (arith, M .size, grows, setSize-cong n (columnMarking n s′) (columnMarking n (withBit s p)) same-mark);
+          queued = queued′;
+          found = found′;
+        };
+      };
+      words = words′;
+      more = omega arith;
+      most = omega arith;
+    }
 
 -- ---- the pairs of a set
 
 -- cleared words mark none
-pub pairs-none : {n : ℕ} {s₀ s : List ℕ} {pairs : ℕ} → pairs ≡ pairTotal n → pairTotal n + pairTotal n ≤ length s₀ → s ≡ cleared pairs s₀
+pub pairs-none : {n : ℕ} {s₀ s : List ℕ} → pairTotal n + pairTotal n ≤ length s₀ → s ≡ cleared (bitWords (pairTotal n)) s₀
     → MarkedPairs n (λ r c. false) s₀ s 0
-pairs-none {n} {s₀} {s} {pairs} e room z = record {
+pairs-none {n} {s₀} {s} room z = record {
   long = long;
-  marked = marked-none n s clear (omega (arith, long));
-  marks = λ r c h l. not-so _ (λ q. false≢true (within-none n s clear (λ a b. false) r c h l (eqb-true _ 1 q)));
-  later = ap (drop (pairTotal n + pairTotal n)) z ∙ filled-later (λ _. 0) pairs (pairTotal n + pairTotal n) s₀ (omega arith);
+  marked = record {
+    room = omega (arith, long);
+    size = sym (setSize-sum n (columnMarking n s) (λ q. bit (bitAt s q)) (λ r c k m. refl) ∙ sumTo-zero _ (pairTotal n) (λ q l. ap bit (clear q l)));
+    queued = λ j l. absurd (not-suc-le-zero l);
+    found = λ r c h l t. absurd (false≢true (sym (clear (columnPlace n r c) (columnPlace-below n r c h l)) ∙ t));
+  };
+  marks = λ r c h l. clear (columnPlace n r c) (columnPlace-below n r c h l);
+  later = ap (drop (pairTotal n + pairTotal n)) z ∙ filled-later (λ _. 0) words (pairTotal n + pairTotal n) s₀ (omega (arith, bitWords-most (pairTotal n)));
 }
   where
+    words : ℕ
+    words = bitWords (pairTotal n)
+
     long : length s ≡ length s₀
-    long = ap length z ∙ filled-length (λ _. 0) pairs s₀ (omega arith)
+    long = ap length z ∙ filled-length (λ _. 0) words s₀ (omega (arith, bitWords-most (pairTotal n)))
 
-    clear : (p : ℕ) → p < pairTotal n → getD s p 0 ≡ 0
-    clear p l = ap (λ (x : List ℕ). getD x p 0) z ∙ filled-at (λ _. 0) pairs s₀ p 0 (omega arith)
+    clear : (q : ℕ) → q < pairTotal n → bitAt s q ≡ false
+    clear q l = bit-clear s q (ap (λ (x : List ℕ). getD x (q / 32) 0) z ∙ filled-at (λ _. 0) words s₀ (q / 32) 0 (word-below q (pairTotal n) l))
 
--- one more pair, put in order
-pub pairs-insert : {n : ℕ} {S : ℕ → ℕ → Bool} {s₀ s : List ℕ} {count : ℕ} {a b : ℕ} {s′ : List ℕ} {count′ : ℕ} → MarkedPairs n S s₀ s count
-    → Inserted n a b s count s′ count′ → MarkedPairs n (λ r c. S r c || ordered a b r c) s₀ s′ count′
-pairs-insert {n} {S} {s₀} {s} {count} {a} {b} {s′} {count′} M I = record {
-  long = I .grown .long ∙ M .long;
-  marked = I .marked;
-  marks = λ r c h l. same-truth _ _ (λ q. to r c h l (eqb-true _ 1 q)) (λ q. eq-eqb _ 1 (from r c h l q));
-  later = I .grown .later ∙ M .later;
+-- the pairs of one more set
+pub pairs-also : {n : ℕ} {S R : ℕ → ℕ → Bool} {s₀ s s′ : List ℕ} {k count : ℕ} → MarkedPairs n S s₀ s k → AlsoMarked n R s s′ count
+    → MarkedPairs n (λ r c. S r c || R r c) s₀ s′ count
+pairs-also {n} {S} {R} M A = record {
+  long = A .gained .long ∙ M .long;
+  marked = A .marked;
+  marks = λ r c h l. A .gained .marks r c h l ∙ ap (λ (b : Bool). b || R r c) (M .marks r c h l);
+  later = A .gained .later ∙ M .later;
 }
-  where
-    to : (r c : ℕ) → c ≤ r → r < n → columnMark n s′ r c ≡ 1 → (S r c || ordered a b r c) ≡ true
-    to =
-        I .within (λ r c. S r c || ordered a b r c) (or-right (S (max a b) (min a b)) _ (is-ordered a b _ _ refl refl))
-        (λ r c h l e. or-left (S r c) _ (sym (M .marks r c h l) ∙ eq-eqb _ 1 e))
-
-    from : (r c : ℕ) → c ≤ r → r < n → (S r c || ordered a b r c) ≡ true → columnMark n s′ r c ≡ 1
-    from r c h l q =
-        ⊎-elim
-        (λ p. grown-mark (I .grown) r c h l (eqb-true _ 1 (M .marks r c h l ∙ p)))
-        (λ p. let o = ordered-is a b r c p in subst₂ (λ (x y : ℕ). columnMark n s′ x y ≡ 1) (sym (o .0)) (sym (o .1)) (I .here))
-        (or-cases (S r c) _ q)
 
 -- sets that agree
 pub pairs-cong : {n : ℕ} {S S′ : ℕ → ℕ → Bool} {s₀ s : List ℕ} {count : ℕ} → ((r c : ℕ) → c ≤ r → r < n → S r c ≡ S′ r c) → MarkedPairs n S s₀ s count
     → MarkedPairs n S′ s₀ s count
 pairs-cong e M = record { long = M .long; marked = M .marked; marks = λ r c h l. M .marks r c h l ∙ e r c h l; later = M .later }
 
--- words made of themselves, and of words made of others
-pub pairs-self : {n : ℕ} {S : ℕ → ℕ → Bool} {s₀ s : List ℕ} {count : ℕ} → MarkedPairs n S s₀ s count → MarkedPairs n S s s count
-pairs-self M = record { long = refl; marked = M .marked; marks = M .marks; later = refl }
+-- none more
+pub also-none : {n : ℕ} {w : List ℕ} {count : ℕ} (S : ℕ → ℕ → Bool) → ((r c : ℕ) → S r c ≡ false) → Marked n w count → AlsoMarked n S w w count
+also-none {n} {w} S e M = record { gained = gained-none n S w e; marked = M }
 
-pub pairs-after : {n : ℕ} {S S′ : ℕ → ℕ → Bool} {s₀ s₁ s : List ℕ} {k count : ℕ} → MarkedPairs n S s₀ s₁ k → MarkedPairs n S′ s₁ s count
-    → MarkedPairs n S′ s₀ s count
-pairs-after M N = record { long = N .long ∙ M .long; marked = N .marked; marks = N .marks; later = N .later ∙ M .later }
+-- the pairs of two sets, one after the other
+pub also-both : {n : ℕ} {S R : ℕ → ℕ → Bool} {w w′ w″ : List ℕ} {k count : ℕ} → AlsoMarked n S w w′ k → AlsoMarked n R w′ w″ count
+    → AlsoMarked n (λ r c. S r c || R r c) w w″ count
+also-both A B = record { gained = gained-both (A .gained) (B .gained); marked = B .marked }
+
+-- sets that agree
+pub also-cong : {n : ℕ} {S S′ : ℕ → ℕ → Bool} {w w′ : List ℕ} {count : ℕ} → ((r c : ℕ) → c ≤ r → r < n → S r c ≡ S′ r c) → AlsoMarked n S w w′ count
+    → AlsoMarked n S′ w w′ count
+also-cong e A = record { gained = gained-cong e (A .gained); marked = A .marked }
+
+-- one number more: the pairs of its set are marked too
+module _ {n : ℕ} {w w′ w″ : List ℕ} {k m : ℕ} (test : ℕ → ℕ → ℕ → Bool) (j : ℕ) where
+  -- between two ends
+  pub also-next : (s : ℕ) → s ≤ j → AlsoMarked n (λ r c. anyIn (λ p. test p r c) s j) w w′ k → AlsoMarked n (test j) w′ w″ m
+      → AlsoMarked n (λ r c. anyIn (λ p. test p r c) s (j + 1)) w w″ m
+  also-next s h A B = also-cong (λ r c o l. sym (anyIn-next (λ p. test p r c) s j h)) (also-both A B)
+
+  -- below an end
+  pub also-more : AlsoMarked n (λ r c. any (λ p. test p r c) j) w w′ k → AlsoMarked n (test j) w′ w″ m
+      → AlsoMarked n (λ r c. any (λ p. test p r c) (j + 1)) w w″ m
+  also-more A B = also-cong (λ r c o l. sym (any-next (λ p. test p r c) j)) (also-both A B)

@@ -10,7 +10,8 @@ use mathlib.Core.Bool.{Bool, true, false}
 use mathlib.Core.Logic.{⊎-elim}
 use mathlib.Core.List.{List}
 use lib.Dec.{eqb}
-use lib.ListN.{length, getD}
+use lib.ListN.{length}
+use Rattle.bits.specs.Bits.{bitAt}
 use Rattle.lists.specs.Sum.{bit, bit-most, sumTo, sumTo-add, sumTo-eq, sumTo-le, sumTo-most}
 use Rattle.lists.specs.Select.{tally-sum}
 use Rattle.lists.specs.Cells.{cells, cellCount, cells-length, cellCount-cong}
@@ -25,12 +26,9 @@ colStart n (suc c) = colStart n c + (n - c)
 abbrev pub columnPlace : ℕ → ℕ → ℕ → ℕ
 columnPlace n r c = colStart n c + (r - c)
 
--- the word at a pair's place, and the set that the words say
-abbrev pub columnMark : ℕ → List ℕ → ℕ → ℕ → ℕ
-columnMark n s r c = getD s (columnPlace n r c) 0
-
+-- the set that words say: a pair is in it if the bit at its place is set
 abbrev pub columnMarking : ℕ → List ℕ → ℕ → ℕ → Bool
-columnMarking n s r c = eqb (columnMark n s r c) 1
+columnMarking n s r c = bitAt s (columnPlace n r c)
 
 -- a set of pairs by column then row, and the rows of a column
 abbrev pub byColumn : (ℕ → ℕ → Bool) → ℕ → ℕ → Bool
@@ -83,6 +81,12 @@ module _ (n : ℕ) where
   colStart-total =
       let q : 2 * n + 1 ≡ n + (n + 1) = omega arith in
       omega (arith, pairTotal-half n, colStart-closed n (omega arith), ap (λ (k : ℕ). n * k) q, mul-add n n (n + 1))
+
+-- a column starts at its number or later
+pub colStart-least : (n c : ℕ) → c ≤ n → c ≤ colStart n c
+unfolding colStart
+colStart-least n zero h = omega arith
+colStart-least n (suc c) h = omega (arith, colStart-least n c (omega arith))
 
 -- what the code computes fits
 pub colStart-product : (n c b : ℕ) → n ≤ b → c ≤ n → c * (2 * n + 1 - c) ≤ b * (2 * b + 1)

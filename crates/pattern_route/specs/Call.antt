@@ -14,7 +14,7 @@ use Rattle.columns.specs.Kept.{nonzero, keptPair, pattern}
 use Rattle.columns.specs.Factor.{Factor}
 use Rattle.columns.specs.Diagonal.{Diagonals}
 use Rattle.closed_set.specs.ClosedSet.{Closed, Pattern}
-use Rattle.closure.specs.FactorPattern.{factor-pattern}
+use Rattle.descendants.specs.FactorPattern.{factor-pattern}
 use Rattle.entries.specs.Entries.{entryStarts, entryRows, entryStarts-length, entryRows-length}
 use Rattle.entries.specs.Position.{entryStarts-cong, entryRows-cong}
 use Rattle.pattern_route.specs.Route.{RouteInput}

@@ -1,6 +1,5 @@
 -- The value of an operator's row, wᵀXw.
 pub mod RowValue
-pub mod Reading
 pub mod Exchange
 pub mod ExactRow
 pub mod Examples

@@ -7,7 +7,7 @@ use Rattle.refusal.specs.Bounds.{maxDimension}
 use Rattle.pairs.specs.Pair.{pairTotal}
 use Rattle.closed_set.specs.Requests.{Requests}
 
--- requests past their checks, and words for marks and queue
+-- requests past their checks, and words for their marks
 pub record RequestsInput (n : ℕ) (rs cs s : List ℕ) : Type 0 where
   pub small : n ≤ maxDimension
   pub requests : Requests n rs cs

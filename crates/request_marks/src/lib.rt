@@ -2,10 +2,9 @@
 ghost use Rattle.closed_set.specs.Requests.{requested};
 ghost use Rattle.pair_queue.specs.Marking.{MarkedPairs};
 ghost use Rattle.request_marks.specs.Requests.{RequestsInput};
-use pair_marks::pair_total;
+use pair_queue::clear_pairs;
 use pair_queue::insert_closure_pair;
 use words::at;
-use words::clear;
 
 // Marks every request's pair, and no other; returns how many they are.
 pub fn mark_requests(
@@ -18,14 +17,12 @@ pub fn mark_requests(
     ensures { λ m. ⌜ MarkedPairs n (requested (now («request_rows» .entry)) (now («request_columns» .entry)))
         (now (scratch .entry)) (now (scratch .exit)) m ⌝ }
 {
-    let pairs = pair_total(n);
-    clear(scratch, pairs);
+    clear_pairs(n, scratch);
     let mut count = 0;
     let mut i = 0;
     while i < request_rows.len() {
         count = insert_closure_pair(
             n,
-            pairs,
             at(request_rows, i),
             at(request_columns, i),
             count,

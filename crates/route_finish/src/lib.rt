@@ -8,6 +8,7 @@ ghost use Rattle.pairs.specs.ColumnOrder.{columnMarking};
 ghost use Rattle.exact.specs.Exact.{float-off, float-on};
 ghost use Rattle.route_sums.specs.Stored.{putIf, entrySum};
 ghost use Rattle.route_finish.specs.Finish.{Divided, PartDivided, DiagonalRoom};
+use bits::bit;
 use pair_queue::column_place;
 use route_sums::entry_sum;
 use words::at;
@@ -77,7 +78,7 @@ pub fn store_diagonal(
         (float-on d (entrySum n j s e (now (rows .entry)) (now (values .entry)) (now (scratch .entry)) (now (inverse .entry)) j)) ⌝ }
 {
     let p = column_place(n, j, j);
-    if at(scratch, p) != 1 {
+    if !bit(scratch, p) {
         return;
     }
     let sum = entry_sum(n, pairs, j, j, s, e, rows, values, scratch, inverse);

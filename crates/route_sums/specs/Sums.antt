@@ -1,31 +1,23 @@
 -- A sum of the recurrence over a column's stored entries, of which those kept below the diagonal count, with the inverse's entries read by position.
 -- Assumes nothing.
-use Prim.Native.Nat.{ℕ, zero, suc, _+_, _-_, _≤_, _<_, min, max}
+use Prim.Native.Nat.{ℕ, zero, suc, _+_, _-_, _≤_, _<_}
 use native.Mathlib.Omega.{arith}
 use mathlib.Core.Path.{_≡_, refl, sym, ap, ap₂, subst, _∙_}
 use mathlib.Core.Bool.{Bool, true, false, _&&_}
 use mathlib.Core.List.{List, [], _∷_, _++_, map, map-append}
-use lib.ListN.{length, getD}
-use lib.Ieee.{Float, binary64, nan, ofBits, ne, add, mul}
+use lib.ListN.{length}
+use lib.Ieee.{Float, binary64, ofBits, ne, add, mul}
 use borrow.Author.Tests.{lt-ltb, le-ltb}
 use Rattle.lists.specs.Select.{one, select, select-none, select-next}
 use Rattle.refusal.specs.Bounds.{maxDimension}
 use Rattle.pairs.specs.Pair.{pairTotal}
-use Rattle.pairs.specs.ColumnOrder.{columnPlace}
 use Rattle.columns.specs.Columns.{row, value}
 use Rattle.columns.specs.Kept.{f0, nonzero, keptBelow, entry}
 use Rattle.columns.specs.Factor.{Column}
 use Rattle.takahashi.specs.Recurrence.{Arithmetic, Entry, run, dot}
 use Rattle.exact.specs.Multiple.{zero-float}
 use Rattle.exact.specs.Exact.{floats}
-
--- the word with the position of the pair of i and k, put in order
-abbrev pub positionWord : ℕ → List ℕ → ℕ → ℕ → ℕ
-positionWord n s i k = getD s (pairTotal n + columnPlace n (max i k) (min i k)) 0
-
--- the inverse's entry at that position
-abbrev pub inverseAt : ℕ → List ℕ → List Float → ℕ → ℕ → Float
-inverseAt n s inverse i k = getD inverse (positionWord n s i k) nan
+pub use Rattle.positions.specs.Position.{positionWord, inverseAt, Reading}
 
 -- the entries at some stored places
 abbrev pub entriesAt : List ℕ → List Float → List ℕ → List (Entry Float)
@@ -38,15 +30,6 @@ withProduct rows values j r p sum = run floats r sum (entriesAt rows values (one
 -- the sum over the stored entries from s to below e that are kept below the diagonal of column j, in their order
 unfoldable pub sumBetween : List ℕ → List Float → ℕ → (ℕ → Float) → ℕ → ℕ → Float
 sumBetween rows values j r s e = dot floats r (entriesAt rows values (select (keptBelow rows (nonzero values) j) s e))
-
--- an entry of the inverse that can be read: `size` is the number of its entries
-pub record Reading (n pairs i k : ℕ) (scratch : List ℕ) (size : ℕ) : Type 0 where
-  pub small : n ≤ maxDimension
-  pub all : pairs ≡ pairTotal n
-  pub left : i < n
-  pub right : k < n
-  pub room : pairTotal n + pairTotal n ≤ length scratch
-  pub known : positionWord n scratch i k < size
 
 -- a stored entry whose product can be taken
 pub record Adding (n pairs i j p : ℕ) (rows : List ℕ) (values : List Float) (scratch : List ℕ) (size : ℕ) : Type 0 where
@@ -92,7 +75,7 @@ adding-read A k = record { small = A .small; all = A .all; left = A .left; right
 
 module _ (rows : List ℕ) (values : List Float) (j p : ℕ) (r : ℕ → Float) (sum : Float) where
   -- an entry that is not kept below the diagonal
-  passed-over : keptBelow rows (nonzero values) j p ≡ false → sum ≡ withProduct rows values j r p sum
+  pub passed-over : keptBelow rows (nonzero values) j p ≡ false → sum ≡ withProduct rows values j r p sum
   passed-over t = ap (λ (b : Bool). run floats r sum (entriesAt rows values (one b p))) (sym t)
 
   pub withProduct-above : row rows p ≤ j → sum ≡ withProduct rows values j r p sum

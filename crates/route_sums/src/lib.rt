@@ -1,36 +1,18 @@
 // The sums of the recurrence over a closed set: entries of the inverse are read by position, and multiplied by a column's factor entries.
 ghost use mathlib.Core.Path.{_≡_};
 ghost use Prim.Native.Nat.{_+_, _<_, _≤_, min, max};
-ghost use lib.Dec.{ltb};
 ghost use lib.ListN.{length};
 ghost use Rattle.refusal.specs.Bounds.{maxDimension};
 ghost use Rattle.pairs.specs.ColumnOrder.{columnPlace};
-ghost use Rattle.columns.specs.Columns.{row};
+ghost use Rattle.columns.specs.Factor.{FirstFrom};
+ghost use Rattle.route_products.specs.Part.{PartSet, always, zeros};
 ghost use Rattle.route_sums.specs.Sums.{inverseAt, Reading, Adding, Summing, withProduct, sumBetween};
-ghost use Rattle.route_sums.specs.Stored.{StoringOne, Storing, SumsStored, putIf, entrySum};
-use pair_queue::column_place;
+ghost use Rattle.route_sums.specs.Stored.{Storing, SumsStored};
+ghost use Rattle.route_sums.specs.Column.{keptBefore, StoredRoom, SumsRoom, Advanced};
+use positions::read_entry;
+use route_products::add_column;
+use route_products::add_columns;
 use words::at;
-
-// The place of the pair of i and k, put in order.
-fn ordered_place(n: usize, i: usize, k: usize) -> usize
-    requires { ⌜ (n ≤ maxDimension) × (i < n) × (k < n) ⌝ }
-    ensures { λ p. ⌜ p ≡ columnPlace n (max i k) (min i k) ⌝ }
-{
-    if i < k {
-        return column_place(n, k, i);
-    }
-    column_place(n, i, k)
-}
-
-// The inverse's entry for the pair of i and k, whose position stands `pairs` words past its mark.
-fn read_entry(n: usize, pairs: usize, i: usize, k: usize, scratch: &[u32], inverse: &[f64]) -> f64
-    requires { ⌜ Reading n pairs i k (now scratch) (length (now inverse)) ⌝ }
-    ensures { λ z. ⌜ z ≡ inverseAt n (now (scratch .entry)) (now (inverse .entry)) i k ⌝ }
-{
-    let word = pairs + ordered_place(n, i, k);
-    let position = at(scratch, word);
-    inverse[position]
-}
 
 // The sum with the product of the stored entry at p, where it is kept below the diagonal of column j; other entries are passed over.
 fn add_product(
@@ -84,12 +66,88 @@ pub fn entry_sum(
     sum
 }
 
-// Stores the sum of the result's entry at q, where its row is below j.
-fn store_sum(
+// Whether the entry at p is stored before e and kept below the diagonal of column j.
+fn kept_before(j: usize, p: usize, e: usize, rows: &[u32], values: &[f64]) -> bool
+    requires { ⌜ (e ≤ length (now rows)) × (e ≤ length (now values)) ⌝ }
+    ensures { λ b. ⌜ b ≡ keptBefore (now (rows .entry)) (now (values .entry)) j e p ⌝ }
+{
+    if e <= p {
+        return false;
+    }
+    if at(rows, p) <= j {
+        return false;
+    }
+    values[p] != 0.0
+}
+
+// Adds to each sum of column j, from first to last, the product of the stored entry at p, and of the next where both are kept; an entry
+// that is not kept is passed over. Returns where the entries still to be added start.
+fn add_stored(
     n: usize,
     pairs: usize,
     j: usize,
-    q: usize,
+    p: usize,
+    e: usize,
+    first: usize,
+    last: usize,
+    rows: &[u32],
+    values: &[f64],
+    entry_rows: &[u32],
+    scratch: &[u32],
+    inverse: &mut [f64],
+) -> usize
+    requires { ⌜ StoredRoom n pairs j p e first last (now rows) (now values) (now «entry_rows») (now scratch) (length (now inverse)) ⌝ }
+    ensures { λ m. ⌜ Advanced n j p e m first last (now (rows .entry)) (now (values .entry)) (now («entry_rows» .entry)) (now (scratch .entry))
+        (now (inverse .entry)) (now (inverse .exit)) ⌝ }
+{
+    let next = p + 1;
+    if kept_before(j, p, e, rows, values) {
+        let k = at(rows, p);
+        let l = values[p];
+        if kept_before(j, next, e, rows, values) {
+            let m = at(rows, next);
+            let h = values[next];
+            add_columns(
+                n,
+                pairs,
+                j,
+                k,
+                m,
+                l,
+                h,
+                first,
+                last,
+                entry_rows,
+                scratch,
+                inverse,
+            );
+            return next + 1;
+        }
+        add_column(n, pairs, j, k, l, first, last, entry_rows, scratch, inverse);
+        return next;
+    }
+    next
+}
+
+// Sets the entries from first to last to 0.0.
+fn clear_part(first: usize, last: usize, inverse: &mut [f64])
+    requires { ⌜ (first ≤ last) × (last ≤ length (now inverse)) ⌝ }
+    ensures { λ _. ⌜ PartSet always first last zeros (now (inverse .entry)) (now (inverse .exit)) ⌝ }
+{
+    let mut q = first;
+    while q < last {
+        inverse[q] = 0.0;
+        q += 1;
+    }
+}
+
+// The sums of column j at the entries from first to last: the stored entries ascending, each added to all sums.
+fn add_sums(
+    n: usize,
+    pairs: usize,
+    j: usize,
+    first: usize,
+    last: usize,
     s: usize,
     e: usize,
     rows: &[u32],
@@ -98,18 +156,46 @@ fn store_sum(
     scratch: &[u32],
     inverse: &mut [f64],
 )
-    requires { ⌜ StoringOne n pairs j q s e (now rows) (now values) (now «entry_rows») (now scratch) (length (now inverse)) ⌝ }
-    ensures { λ _. ⌜ now (inverse .exit) ≡ putIf (ltb j (row (now («entry_rows» .entry)) q)) (now (inverse .entry)) q
-        (entrySum n j s e (now (rows .entry)) (now (values .entry)) (now (scratch .entry)) (now (inverse .entry)) (row (now («entry_rows» .entry)) q)) ⌝ }
+    requires { ⌜ SumsRoom n pairs j first last s e (now rows) (now values) (now «entry_rows») (now scratch) (length (now inverse)) ⌝ }
+    ensures { λ _. ⌜ SumsStored n j first last s e (now (rows .entry)) (now (values .entry)) (now («entry_rows» .entry)) (now (scratch .entry))
+        (now (inverse .entry)) (now (inverse .exit)) ⌝ }
 {
-    let i = at(entry_rows, q);
-    if i <= j {
-        return;
+    clear_part(first, last, inverse);
+    let mut next = s;
+    while next < e {
+        next = add_stored(
+            n,
+            pairs,
+            j,
+            next,
+            e,
+            first,
+            last,
+            rows,
+            values,
+            entry_rows,
+            scratch,
+            inverse,
+        );
     }
-    inverse[q] = entry_sum(n, pairs, i, j, s, e, rows, values, scratch, inverse);
 }
 
-// Stores the sums of column j, whose entries in the result are those from first to last: each row below j ascending.
+// The first entry from first to last whose row is below j, last if none.
+fn first_below(j: usize, first: usize, last: usize, entry_rows: &[u32]) -> usize
+    requires { ⌜ (first ≤ last) × (last ≤ length (now «entry_rows»)) ⌝ }
+    ensures { λ q. ⌜ FirstFrom (j + 1) (now («entry_rows» .entry)) first last q ⌝ }
+{
+    let mut q = first;
+    while q < last {
+        if j < at(entry_rows, q) {
+            return q;
+        }
+        q += 1;
+    }
+    q
+}
+
+// Stores the sums of column j, whose entries in the result are those from first to last: each row below j.
 pub fn store_sums(
     n: usize,
     pairs: usize,
@@ -128,13 +214,14 @@ pub fn store_sums(
     ensures { λ _. ⌜ SumsStored n j first last s e (now (rows .entry)) (now (values .entry)) (now («entry_rows» .entry)) (now (scratch .entry))
         (now (inverse .entry)) (now (inverse .exit)) ⌝ }
 {
-    let mut q = first;
-    while q < last {
-        store_sum(
+    let from = first_below(j, first, last, entry_rows);
+    if from < last {
+        add_sums(
             n,
             pairs,
             j,
-            q,
+            from,
+            last,
             s,
             e,
             rows,
@@ -143,6 +230,5 @@ pub fn store_sums(
             scratch,
             inverse,
         );
-        q += 1;
     }
 }

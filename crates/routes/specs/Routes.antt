@@ -11,7 +11,7 @@ use Rattle.lists.specs.Overwrite.{overwrite}
 use Rattle.pairs.specs.Pair.{pairTotal}
 use Rattle.pairs.specs.ColumnOrder.{columnMarking, setSize, setSize-cong}
 use Rattle.columns.specs.Kept.{nonzero, pattern, keptPair, factorPairs}
-use Rattle.closure.specs.FactorPattern.{factor-pattern}
+use Rattle.descendants.specs.FactorPattern.{factor-pattern}
 use Rattle.entries.specs.Entries.{entryStarts, entryRows, entryValues, floatTable}
 use Rattle.entries.specs.Position.{entryStarts-cong, entryRows-cong, entryValues-cong}
 use Rattle.closure_route.specs.Route.{ClosureRoute}

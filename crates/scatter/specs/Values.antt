@@ -7,9 +7,9 @@ use native.Mathlib.Nat.{eq-or-lt-of-le, le-refl, le-of-lt, le-of-suc-le-suc, not
 use native.Mathlib.Numerals.{add-one}
 use native.Mathlib.Omega.{arith}
 use lib.ListN.{length, getD, take, drop, length-drop, length-map, take-append-drop}
-use lib.Seq.{ext-getD, getD-append-add, getD-take, getD-drop, take-add, length-take-le}
+use lib.Seq.{ext-getD, getD-take, getD-drop, take-add, length-take-le}
 use Rattle.lists.specs.Select.{getD-mapped}
-use Rattle.lists.specs.Overwrite.{overwrite, overwrite-at, overwrite-past, splice, splice-length}
+use Rattle.lists.specs.Overwrite.{overwrite, splice, splice-length, splice-at, splice-past, splice-later}
 use Rattle.takahashi.specs.Recurrence.{Entry}
 use Rattle.scatter.specs.Scatter.{blank, Laid, Filled, columnOf, columnsOf}
 use Rattle.scatter.specs.Pattern.{cell, cell-is, starts-le, next-le}
@@ -19,30 +19,6 @@ use Rattle.scatter.specs.Pattern.{cell, cell-is, starts-le, next-le}
 pub splice-lent : {W : Type 0} (a k : ℕ) (new old : List W) → length new ≡ k → take a old ++ (new ++ drop k (drop a old)) ≡ splice a new old
 unfolding splice overwrite
 splice-lent a k new old e = ap (λ (i : ℕ). take a old ++ (new ++ drop i (drop a old))) (sym e)
-
-module _ {W : Type 0} (a : ℕ) (new old : List W) (room : a + length new ≤ length old) (none : W) where
-  front : length (take a old) ≡ a
-  front = length-take-le a old (omega arith)
-
-  pub splice-at : (x : ℕ) → x < length new → getD (splice a new old) (a + x) none ≡ getD new x none
-  unfolding splice
-  splice-at x h =
-      ap (λ (i : ℕ). getD (splice a new old) (i + x) none) (sym front) ∙ getD-append-add (take a old) (overwrite new (drop a old)) x none
-      ∙ overwrite-at new (drop a old) x none h
-
-  pub splice-past : (i : ℕ) → a + length new ≤ i → getD (splice a new old) i none ≡ getD old i none
-  unfolding splice
-  splice-past i h =
-      let q : a + (i - a) ≡ i = omega arith in
-      ap (λ (k : ℕ). getD (splice a new old) k none) (sym (ap (λ (k : ℕ). k + (i - a)) front ∙ q))
-      ∙ getD-append-add (take a old) (overwrite new (drop a old)) (i - a) none
-      ∙ overwrite-past new (drop a old) (i - a) none (omega arith) ∙ getD-drop a old (i - a) none ∙ ap (λ (k : ℕ). getD old k none) q
-
-  pub splice-later : (t : ℕ) → a + length new ≤ t → drop t (splice a new old) ≡ drop t old
-  splice-later t h =
-      ext-getD none (drop t (splice a new old)) (drop t old)
-      (length-drop t (splice a new old) ∙ ap (λ (x : ℕ). x - t) (splice-length a new old room) ∙ sym (length-drop t old))
-      (λ i _. getD-drop t (splice a new old) i none ∙ splice-past (t + i) (omega arith) ∙ sym (getD-drop t old i none))
 
 -- ---- columns
 module _ {W : Type 0} (none : W) (n : ℕ) (desc : ℕ → List (Entry W)) (starts rows : List ℕ) (L : Laid none n desc starts rows)

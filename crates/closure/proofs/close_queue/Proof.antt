@@ -1,7 +1,7 @@
 use mathlib.Core.Bool.{true}
-use Rattle.closure.proofs.Queue.{Serving, Column, serving-none, serving-next, serving-more, head-words, head-pairs, word-starts}
+use Rattle.closure.proofs.Queue.{Serving, Column, serving-none, serving-next, serving-more, head-words, head-pairs, word-starts, word-end, word-most}
 use Rattle.closure.proofs.Queue.{column-none, column-skip, column-more, entry-rows, entry-values, entry-insert, finished, finished-past, above-dropped, zero-dropped, entry-kept, nonzero-not}
-use Rattle.pair_queue.specs.Scratch.{columnOf}
+use Rattle.pair_queue.specs.Marking.{columnOf}
 use Rattle.columns.specs.Kept.{nonzero, keptBelow}
 use Rattle.columns.specs.Columns.{start}
 use denote.Ref.{now}
@@ -14,23 +14,23 @@ use Rattle.closure.proofs.close_queue.Statement.{statement}
 use Rattle.closure.proofs.close_queue.Tie as tie
 
 abbrev Inv-column : tie.InvT-column
-Inv-column n pairs starts rows values limit first scratch₀ count₀ head w r c end p₀ scratch count p =
+Inv-column n pairs starts rows values stops limit first scratch₀ count₀ head w r c end p₀ scratch count p =
     (length scratch ≡ length scratch₀) × Column n starts rows (nonzero values) limit scratch₀ count₀ head w scratch count p
 
 abbrev μ-column : tie.MeasureT-column
-μ-column n pairs starts rows values limit first scratch₀ count₀ head w r c end p₀ scratch count p = end - p
+μ-column n pairs starts rows values stops limit first scratch₀ count₀ head w r c end p₀ scratch count p = end - p
 
 abbrev Inv-queue : tie.InvT-queue
-Inv-queue n pairs starts rows values limit first scratch₀ count₀ head₀ scratch count head =
+Inv-queue n pairs starts rows values stops limit first scratch₀ count₀ head₀ scratch count head =
     (length scratch ≡ length scratch₀) × (count ≤ limit) × Serving n starts rows (nonzero values) limit scratch₀ first scratch head count
 
 abbrev μ-queue : tie.MeasureT-queue
-μ-queue n pairs starts rows values limit first scratch₀ count₀ head₀ scratch count head = pairs - head
+μ-queue n pairs starts rows values stops limit first scratch₀ count₀ head₀ scratch count head = pairs - head
 
 -- ---- places of the code
 
 abbrev begin : tie.At-queue Inv-column μ-column Inv-queue μ-queue → tie.Start Inv-column μ-column Inv-queue μ-queue
-begin q = q .before .before .before .before .before
+begin q = q .before .before .before .before .before .before
 
 abbrev queue : tie.After-at Inv-column μ-column Inv-queue μ-queue → tie.At-queue Inv-column μ-column Inv-queue μ-queue
 queue a = a .before .before .before
@@ -38,7 +38,7 @@ queue a = a .before .before .before
 abbrev word : tie.At-column Inv-column μ-column Inv-queue μ-queue → tie.After-at Inv-column μ-column Inv-queue μ-queue
 word k = k .before .before .before
 
-abbrev entry : tie.After-insert-closure-pair Inv-column μ-column Inv-queue μ-queue → tie.After-at4 Inv-column μ-column Inv-queue μ-queue
+abbrev entry : tie.After-insert-closure-pair Inv-column μ-column Inv-queue μ-queue → tie.After-at3 Inv-column μ-column Inv-queue μ-queue
 entry i = i .before .before .before .before .before
 
 -- ---- what is known there
@@ -57,7 +57,12 @@ in-starts a =
 -- the entry is before the column's end
 in-column : (c : tie.In-column Inv-column μ-column Inv-queue μ-queue)
     → c .before .column .p < start (now (begin (queue (word (c .before))) .args .starts)) (columnOf (word (c .before) .at .result) + 1)
-in-column c = omega (arith, c .column-test .taken, c .before .before .before .at2 .ensures)
+in-column c =
+    let e = c .before .before .before in
+    let a = e .before in
+    let q = queue a in
+    let m = word-most (nonzero (now (begin q .args .values))) (begin q .pre) (q .queue .inv .2) (a .before .before .queue-test .taken) (a .at .ensures) (e .column-end .ensures) in
+    omega (arith, c .column-test .taken)
 
 in-rows : (c : tie.In-column Inv-column μ-column Inv-queue μ-queue) → c .before .column .p < length (now (begin (queue (word (c .before))) .args .rows))
 in-rows c =
@@ -80,12 +85,12 @@ is-kept c =
     let a = c .before .before .before in
     let s = begin (queue (word (a .before .before))) in
     let nz = nonzero-not (now (s .args .values)) _ (c .if2 .left) in
-    entry-kept (now (s .args .rows)) (nonzero (now (s .args .values))) _ _ (a .at4 .ensures) (c .before .if1 .left) nz
+    entry-kept (now (s .args .rows)) (nonzero (now (s .args .values))) _ _ (a .at3 .ensures) (c .before .if1 .left) nz
 
 -- ---- the needs
 
 queue-holds : tie.Need-queue-holds Inv-column μ-column Inv-queue μ-queue
-queue-holds c = let s = c .before .before .before .before in (refl, s .pre .low, serving-none (nonzero (now (s .args .values))) (s .pre))
+queue-holds c = let s = c .before .before .before .before .before in (refl, s .pre .low, serving-none (nonzero (now (s .args .values))) (s .pre))
 
 add-at : tie.Need-add-at Inv-column μ-column Inv-queue μ-queue
 add-at c = let l = in-queue (c .before) in search needs
@@ -93,14 +98,13 @@ add-at c = let l = in-queue (c .before) in search needs
 at-requires : tie.Need-at-requires Inv-column μ-column Inv-queue μ-queue
 at-requires c κs = in-queue (c .before)
 
-add-at-2 : tie.Need-add-at-2 Inv-column μ-column Inv-queue μ-queue
-add-at-2 c = let l = in-starts c in search needs
+column-end-requires : tie.Need-column-end-requires Inv-column μ-column Inv-queue μ-queue
+column-end-requires c κs =
+    let q = queue c in
+    word-end (nonzero (now (begin q .args .values))) (begin q .pre) (q .queue .inv .2) (c .before .before .queue-test .taken) (c .at .ensures)
 
 at-requires-2 : tie.Need-at-requires-2 Inv-column μ-column Inv-queue μ-queue
-at-requires-2 c κs = in-starts c
-
-at-requires-3 : tie.Need-at-requires-3 Inv-column μ-column Inv-queue μ-queue
-at-requires-3 c κs = let l = in-starts (c .before) in omega arith
+at-requires-2 c κs = let l = in-starts (c .before) in omega arith
 
 column-holds : tie.Need-column-holds Inv-column μ-column Inv-queue μ-queue
 column-holds c =
@@ -108,10 +112,10 @@ column-holds c =
     let q = queue a in
     let s = begin q in
     let l = a .before .before .queue-test .taken in
-    (refl, column-none (nonzero (now (s .args .values))) (s .pre) (q .queue .inv .2) l (q .queue .inv .1) (a .at .ensures) (c .at3 .ensures))
+    (refl, column-none (nonzero (now (s .args .values))) (s .pre) (q .queue .inv .2) l (q .queue .inv .1) (a .at .ensures) (c .at2 .ensures))
 
-at-requires-4 : tie.Need-at-requires-4 Inv-column μ-column Inv-queue μ-queue
-at-requires-4 c κs = in-rows c
+at-requires-3 : tie.Need-at-requires-3 Inv-column μ-column Inv-queue μ-queue
+at-requires-3 c κs = in-rows c
 
 mul-l : tie.Need-mul-l Inv-column μ-column Inv-queue μ-queue
 mul-l c = let l = in-values (c .before) in search needs
@@ -132,7 +136,7 @@ column-again c =
     let k = t .before in
     let s = begin (queue (word k)) in
     let nz = nonzero (now (s .args .values)) in
-    let d = above-dropped (now (s .args .rows)) nz _ _ (a .at4 .ensures) (c .if1 .taken) in
+    let d = above-dropped (now (s .args .rows)) nz _ _ (a .at3 .ensures) (c .if1 .taken) in
     (k .column .inv .0, column-skip nz (s .pre) (k .column .inv .1) (in-column t) d)
 
 column-less-2 : tie.Need-column-less-2 Inv-column μ-column Inv-queue μ-queue
@@ -153,7 +157,7 @@ insert-closure-pair-requires c κs =
     let a = c .before .before .before .before in
     let t = a .before in
     let s = begin (queue (word (t .before))) in
-    entry-insert (nonzero (now (s .args .values))) (s .pre) (t .before .column .inv .1) (in-column t) (a .at4 .ensures)
+    entry-insert (nonzero (now (s .args .values))) (s .pre) (t .before .column .inv .1) (in-column t) (a .at3 .ensures)
 
 column-less-3 : tie.Need-column-less-3 Inv-column μ-column Inv-queue μ-queue
 column-less-3 c = let l = entry (c .before .before .before) .before .column-test .taken in omega arith
@@ -167,7 +171,7 @@ column-again-3 c =
     let s = begin (queue (word k)) in
     let nz = nonzero (now (s .args .values)) in
     let b = is-kept (i .before .before) in
-    let K = column-more nz (s .pre) (k .column .inv .1) (in-column t) (a .at4 .ensures) b (i .insert-closure-pair .ensures) (c .if3 .left) in
+    let K = column-more nz (s .pre) (k .column .inv .1) (in-column t) (a .at3 .ensures) b (i .insert-closure-pair .ensures) (c .if3 .left) in
     (K .serving .grown .long, K)
 
 add-head : tie.Need-add-head Inv-column μ-column Inv-queue μ-queue
@@ -192,7 +196,7 @@ queue-again c =
     let s = begin q in
     let K = k .column .inv in
     let h = c .column-test .left in
-    let U = serving-next (nonzero (now (s .args .values))) (s .pre) (q .queue .inv .2) (K .1) (omega (arith, k .before .before .at2 .ensures)) in
+    let U = serving-next (nonzero (now (s .args .values))) (s .pre) (q .queue .inv .2) (K .1) (k .before .before .column-end .ensures) (omega arith) in
     (K .0 ∙ q .queue .inv .0, K .1 .low, U)
 
 same-length : tie.Need-same-length Inv-column μ-column Inv-queue μ-queue
@@ -208,7 +212,7 @@ same-length-2 : tie.Need-same-length-2 Inv-column μ-column Inv-queue μ-queue
 same-length-2 c =
     let i = c .before .before .before in
     let k = entry i .before .before in
-    i .insert-closure-pair .ensures .grown .long ∙ k .column .inv .0 ∙ queue (word k) .queue .inv .0
+    i .insert-closure-pair .ensures .also .gained .long ∙ k .column .inv .0 ∙ queue (word k) .queue .inv .0
 
 returns-2 : tie.Need-returns-2 Inv-column μ-column Inv-queue μ-queue
 returns-2 c =
@@ -219,7 +223,7 @@ returns-2 c =
     let q = queue (word k) in
     let s = begin q in
     let nz = nonzero (now (s .args .values)) in
-    let U = serving-more nz (s .pre) (k .column .inv .1) (in-column t) (a .at4 .ensures) (is-kept (i .before .before)) (i .insert-closure-pair .ensures) in
+    let U = serving-more nz (s .pre) (k .column .inv .1) (in-column t) (a .at3 .ensures) (is-kept (i .before .before)) (i .insert-closure-pair .ensures) in
     finished-past nz (s .pre) (q .queue .inv .2) (k .column .inv .1) (c .if3 .taken) U
 
 pub close-queue-spec : {M : Type 1} → statement M
@@ -233,11 +237,10 @@ close-queue-spec =
     queue-holds
     add-at
     at-requires
-    add-at-2
+    column-end-requires
     at-requires-2
-    at-requires-3
     column-holds
-    at-requires-4
+    at-requires-3
     mul-l
     shared-slice-read-l
     add-p

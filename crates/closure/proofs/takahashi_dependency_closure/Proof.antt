@@ -2,47 +2,57 @@ use Rattle.closure.proofs.Answer.{closes, requests-past, queue-past, qu
 use Rattle.columns.specs.Kept.{nonzero}
 use denote.Ref.{now}
 use borrow.Author.Needs.{needs}
+use native.Mathlib.Omega.{arith}
+use Prim.Native.Nat.{ℕ, _≤_, _<_, _-_, _+_}
+use mathlib.Core.Path.{_≡_, refl, ap, sym, _∙_}
+use lib.ListN.{length, getD}
 use Rattle.closure.proofs.takahashi_dependency_closure.Statement.{statement}
 use Rattle.closure.proofs.takahashi_dependency_closure.Tie as tie
+use Rattle.closure.proofs.takahashi_dependency_closure.Reads as reads
+use Rattle.closure.proofs.takahashi_dependency_closure.Lts as lts
+use Rattle.closure.proofs.close_queue.Reads as close-queue-reads
+use Rattle.nested_columns.proofs.list_stops.Reads as list-stops-reads
+use Rattle.pair_marks.proofs.pair_total.Reads as pair-total-reads
 
--- where the queue starts
+-- where the call begins
 abbrev begin : tie.After-close-queue → tie.Start
-begin q = q .before .before .before .before .before .before .before .before
+begin q = q .before .before .before .before .before .before .before .before .before .before .before .before
 
--- src/lib.rt:83:28
-add-t11 : tie.Need-add-t11
-add-t11 c = search needs
+add-t12 : tie.Need-add-t12
+add-t12 c = search needs
 
--- src/lib.rt:81:9
 returns : tie.Need-returns
 returns c =
     let s = c .before .before .before .before .before in
     closes (λ req R. requests-past (nonzero (now (s .args .values))) (s .args .limit) (s .pre) req R (c .if1 .taken))
 
--- src/lib.rt:87:9
+slice-aggregate-list-stops : tie.Need-slice-aggregate-list-stops
+slice-aggregate-list-stops c = search needs
+
+list-stops-requires : tie.Need-list-stops-requires
+list-stops-requires c κs = search needs
+
 pair-total-requires : tie.Need-pair-total-requires
 pair-total-requires c κs = search needs
 
--- src/lib.rt:88:9
+slice-aggregate-close-queue : tie.Need-slice-aggregate-close-queue
+slice-aggregate-close-queue c = search needs
+
 close-queue-requires : tie.Need-close-queue-requires
 close-queue-requires c κs = search needs
 
--- src/lib.rt:99:9
 same-length : tie.Need-same-length
 same-length c = search needs
 
--- src/lib.rt:99:9
 returns-2 : tie.Need-returns-2
 returns-2 c =
     let q = c .before .before .before in
     let s = begin q in
     closes (λ req R. queue-past (nonzero (now (s .args .values))) (s .args .limit) (s .pre) req R (q .close-queue .ensures) (c .if2 .taken))
 
--- src/lib.rt:68:1
 same-length-2 : tie.Need-same-length-2
 same-length-2 c = search needs
 
--- src/lib.rt:68:1
 returns-3 : tie.Need-returns-3
 returns-3 c =
     let q = c .before .before .before in
@@ -53,9 +63,12 @@ pub takahashi-dependency-closure-spec : {M : Type 1} → statement M
 takahashi-dependency-closure-spec =
     tie.close
     (tie.spec
-    add-t11
+    add-t12
     returns
+    slice-aggregate-list-stops
+    list-stops-requires
     pair-total-requires
+    slice-aggregate-close-queue
     close-queue-requires
     same-length
     returns-2

@@ -2,58 +2,42 @@ use borrow.Author.Needs.{needs}
 use native.Mathlib.Omega.{arith}
 use Prim.Native.Nat.{ℕ, _≤_, _<_, _-_, _+_}
 use mathlib.Core.Path.{_≡_, ap, sym, subst₂, _∙_}
-use mathlib.Core.Bool.{false}
 use denote.Ref.{now}
 use Rattle.lists.specs.Test.{any-none}
-use Rattle.pairs.specs.Pair.{pairTotal}
 use Rattle.columns.specs.Columns as columns
 use Rattle.columns.specs.Operator.{operatorRows}
-use Rattle.pair_queue.specs.Marking.{MarkedPairs, pairs-none, pairs-cong, pairs-self, pairs-after}
+use Rattle.pair_queue.specs.Marking.{AlsoMarked, also-none, also-more, pairs-also, pairs-cong}
 use Rattle.pattern_marks.specs.Marking.{rowSet, rowsSet, rowsSet-operatorPair}
 use Rattle.operator_marks.specs.OperatorRequests.{operatorRequested-pair}
-use Rattle.operator_marks.specs.Marking.{RowInput, AlsoMarked, pairs-next, row-input}
+use Rattle.operator_marks.specs.Marking.{RowInput, row-input}
 use Rattle.operator_marks.proofs.mark_operator_pairs.Statement.{statement}
 use Rattle.operator_marks.proofs.mark_operator_pairs.Tie as tie
 
 abbrev Inv-loop : tie.InvT-loop
-Inv-loop n row-starts columns scratch₀ pairs last count₀ i₀ scratch count i =
-    (i ≤ operatorRows row-starts) × (pairs ≡ pairTotal n) × MarkedPairs n (rowsSet row-starts columns i) scratch₀ scratch count
+Inv-loop n row-starts columns scratch₀ last count₀ i₀ scratch count i =
+    (i ≤ operatorRows row-starts) × AlsoMarked n (rowsSet row-starts columns i) scratch₀ scratch count
 
 abbrev μ-loop : tie.MeasureT-loop
-μ-loop n row-starts columns scratch₀ pairs last count₀ i₀ scratch count i = operatorRows row-starts - i
+μ-loop n row-starts columns scratch₀ last count₀ i₀ scratch count i = operatorRows row-starts - i
+
+abbrev cleared : tie.At-loop Inv-loop μ-loop → tie.After-clear-pairs Inv-loop μ-loop
+cleared q = q .before .before .before .before
 
 abbrev start : tie.At-loop Inv-loop μ-loop → tie.Start Inv-loop μ-loop
-start q = q .before .before .before .before .before .before .before .before .before .before
-
--- no pair is marked after clearing
-none : (z : tie.After-clear Inv-loop μ-loop) → MarkedPairs (z .before .before .before .before .before .before .args .n) (λ r c. false)
-    (now (z .before .before .before .before .before .before .args .scratch)) (z .clear .last .0) 0
-none z =
-    let p = z .before .before in
-    pairs-none (p .pair-total .ensures .0) (p .before .before .before .before .pre .room) (z .clear .ensures)
+start q = cleared q .before .before .before .before .before
 
 -- the row's number
 row : (c : tie.In-loop Inv-loop μ-loop) → c .before .loop .i < operatorRows (now (start (c .before) .args .row-starts))
 row c = omega (arith, c .loop-test .taken, c .before .before .operator-rows .ensures)
 
-pair-total-requires : tie.Need-pair-total-requires Inv-loop μ-loop
-pair-total-requires c κs = c .before .before .before .pre .small
-
-clear-requires : tie.Need-clear-requires Inv-loop μ-loop
-clear-requires c κs =
-    let p = c .before in
-    omega (arith, p .pair-total .ensures .0, p .before .before .before .before .pre .room)
+clear-pairs-requires : tie.Need-clear-pairs-requires Inv-loop μ-loop
+clear-pairs-requires c κs = search needs
 
 operator-rows-requires : tie.Need-operator-rows-requires Inv-loop μ-loop
 operator-rows-requires c κs = search needs
 
 loop-holds : tie.Need-loop-holds Inv-loop μ-loop
-loop-holds c =
-    let z = c .before .before .before in (
-      omega arith,
-      z .before .before .pair-total .ensures .0,
-      pairs-cong (λ r k h l. sym (any-none _)) (pairs-self (none z)),
-    )
+loop-holds c = (omega arith, also-none _ (λ r k. any-none _) (c .before .before .before .clear-pairs .ensures .marked))
 
 at-requires : tie.Need-at-requires Inv-loop μ-loop
 at-requires c κs = omega (arith, row c)
@@ -70,9 +54,8 @@ mark-row-requires c κs =
     let t = d .before .before in
     let l = t .before .loop in
     let s = start (t .before) in
-    let pairs = t .before .before .before .before .before .before .before .pair-total .result in
-    subst₂ (λ (x y : ℕ). RowInput (s .args .n) pairs (now (s .args .columns)) x y (l .scratch) (l .count)) (sym (d .before .at .ensures)) (sym (d .at2 .ensures))
-    (row-input (s .pre .small) (l .inv .1) (s .pre .rows) (l .inv .2 .marked) (l .i) (row t))
+    subst₂ (λ (x y : ℕ). RowInput (s .args .n) (now (s .args .columns)) x y (l .scratch) (l .count)) (sym (d .before .at .ensures)) (sym (d .at2 .ensures))
+    (row-input (s .pre .small) (s .pre .rows) (l .inv .1 .marked) (l .i) (row t))
 
 add-i : tie.Need-add-i Inv-loop μ-loop
 add-i c = omega (arith, row (c .before .before .before .before .before .before))
@@ -88,17 +71,16 @@ loop-again c =
     let l = t .before .loop in
     let a = start (t .before) .args in
     let step =
-    subst₂ (λ (x y : ℕ). AlsoMarked (a .n) (rowSet (now (a .columns)) x y) (l .scratch) (v .mark-row .last .1 .1 .1 .1 .1 .1 .0) (v .mark-row .result))
+    subst₂ (λ (x y : ℕ). AlsoMarked (a .n) (rowSet (now (a .columns)) x y) (l .scratch) (v .mark-row .last .1 .1 .1 .1 .1 .0) (v .mark-row .result))
     (d .before .at .ensures) (d .at2 .ensures) (v .mark-row .ensures) in (
       omega (arith, row t),
-      l .inv .1,
-      pairs-next (λ i. rowSet (now (a .columns)) (columns.start (now (a .row-starts)) i) (columns.start (now (a .row-starts)) (i + 1))) (l .i) (l .inv .2) step,
+      also-more (λ i. rowSet (now (a .columns)) (columns.start (now (a .row-starts)) i) (columns.start (now (a .row-starts)) (i + 1))) (l .i) (l .inv .1) step,
     )
 
 same-length : tie.Need-same-length Inv-loop μ-loop
 same-length c =
     let q = c .before in
-    q .loop .inv .2 .long ∙ none (q .before .before .before .before) .long
+    q .loop .inv .1 .gained .long ∙ cleared q .clear-pairs .ensures .long
 
 returns : tie.Need-returns Inv-loop μ-loop
 returns c =
@@ -109,7 +91,7 @@ returns c =
     let e : q .loop .i ≡ operatorRows rs = omega (arith, c .loop-test .left, q .loop .inv .0, q .before .operator-rows .ensures) in
     pairs-cong
     (λ r k h l. ap (λ (j : ℕ). rowsSet rs cs j r k) e ∙ rowsSet-operatorPair rs cs r k h ∙ sym (operatorRequested-pair rs cs r k h))
-    (pairs-after (none (q .before .before .before .before)) (q .loop .inv .2))
+    (pairs-also (cleared q .clear-pairs .ensures) (q .loop .inv .1))
 
 pub mark-operator-pairs-spec : {M : Type 1} → statement M
 mark-operator-pairs-spec =
@@ -117,8 +99,7 @@ mark-operator-pairs-spec =
     (tie.spec
     Inv-loop
     μ-loop
-    pair-total-requires
-    clear-requires
+    clear-pairs-requires
     operator-rows-requires
     loop-holds
     at-requires

@@ -4,16 +4,17 @@ use mathlib.Core.Path.{_≡_, subst}
 use denote.Ref.{now}
 use Rattle.lists.specs.Test.{anyIn-none}
 use Rattle.pattern_marks.specs.Marking.{termsSet, rowSet}
-use Rattle.operator_marks.specs.Marking.{AlsoMarked, also-none, also-next, row-part}
+use Rattle.pair_queue.specs.Marking.{AlsoMarked, also-none, also-next}
+use Rattle.operator_marks.specs.Marking.{row-part}
 use Rattle.operator_marks.proofs.mark_row.Statement.{statement}
 use Rattle.operator_marks.proofs.mark_row.Tie as tie
 
 abbrev Inv-loop : tie.InvT-loop
-Inv-loop n pairs columns s e first scratch₀ count₀ a₀ scratch count a =
+Inv-loop n columns s e first scratch₀ count₀ a₀ scratch count a =
     (s ≤ a) × (a ≤ e) × AlsoMarked n (rowSet columns s a) scratch₀ scratch count
 
 abbrev μ-loop : tie.MeasureT-loop
-μ-loop n pairs columns s e first scratch₀ count₀ a₀ scratch count a = e - a
+μ-loop n columns s e first scratch₀ count₀ a₀ scratch count a = e - a
 
 abbrev start : tie.At-loop Inv-loop μ-loop → tie.Start Inv-loop μ-loop
 start q = q .before .before .before
@@ -52,7 +53,7 @@ loop-again c =
     )
 
 same-length : tie.Need-same-length Inv-loop μ-loop
-same-length c = c .before .loop .inv .2 .long
+same-length c = c .before .loop .inv .2 .gained .long
 
 returns : tie.Need-returns Inv-loop μ-loop
 returns c =

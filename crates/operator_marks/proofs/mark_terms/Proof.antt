@@ -3,18 +3,19 @@ use native.Mathlib.Omega.{arith}
 use mathlib.Core.Path.{_≡_, sym, subst, subst₂}
 use denote.Ref.{now}
 use Rattle.lists.specs.Test.{anyIn, anyIn-none}
-use Rattle.pair_queue.specs.Scratch.{Insert, Inserted}
+use Rattle.pairs.specs.Pair.{ordered}
+use Rattle.pair_queue.specs.Marking.{Insert, AlsoMarked, also-none, also-next}
 use Rattle.pattern_marks.specs.Marking.{termSet}
-use Rattle.operator_marks.specs.Marking.{AlsoMarked, also-none, also-insert, also-next, row-part, row-insert}
+use Rattle.operator_marks.specs.Marking.{row-part, row-insert}
 use Rattle.operator_marks.proofs.mark_terms.Statement.{statement}
 use Rattle.operator_marks.proofs.mark_terms.Tie as tie
 
 abbrev Inv-loop : tie.InvT-loop
-Inv-loop n pairs columns s a first scratch₀ x count₀ b₀ scratch count b =
+Inv-loop n columns s a first scratch₀ x count₀ b₀ scratch count b =
     (s ≤ b) × (b ≤ a + 1) × AlsoMarked n (λ r c. anyIn (λ b. termSet columns a b r c) s b) scratch₀ scratch count
 
 abbrev μ-loop : tie.MeasureT-loop
-μ-loop n pairs columns s a first scratch₀ x count₀ b₀ scratch count b = a + 1 - b
+μ-loop n columns s a first scratch₀ x count₀ b₀ scratch count b = a + 1 - b
 
 abbrev start : tie.At-loop Inv-loop μ-loop → tie.Start Inv-loop μ-loop
 start q = q .before .before .before .before
@@ -36,7 +37,7 @@ insert-closure-pair-requires c κs =
     let t = d .before in
     let l = t .before .loop in
     let s = start (t .before) in
-    subst₂ (λ (x y : ℕ). Insert (s .args .n) (s .args .pairs) x y (l .scratch) (l .count)) (sym (t .before .before .at .ensures)) (sym (d .at2 .ensures))
+    subst₂ (λ (x y : ℕ). Insert (s .args .n) x y (l .scratch) (l .count)) (sym (t .before .before .at .ensures)) (sym (d .at2 .ensures))
     (row-insert (row-part (s .pre) (l .inv .2 .marked) (s .args .a + 1) (s .pre .ordered) (omega arith))
     (s .args .a) (l .b) (omega arith) (omega (arith, t .loop-test .taken)))
 
@@ -58,15 +59,15 @@ loop-again c =
     let l = t .before .loop in
     let s = start (t .before) in
     let step =
-    subst₂ (λ (x y : ℕ). Inserted (s .args .n) x y (l .scratch) (l .count) (v .insert-closure-pair .last .1 .1 .1 .1 .1 .0) (v .insert-closure-pair .result))
-    (t .before .before .at .ensures) (d .at2 .ensures) (v .insert-closure-pair .ensures) in (
+    subst₂ (λ (x y : ℕ). AlsoMarked (s .args .n) (ordered x y) (l .scratch) (v .insert-closure-pair .last .1 .1 .1 .1 .0) (v .insert-closure-pair .result))
+    (t .before .before .at .ensures) (d .at2 .ensures) (v .insert-closure-pair .ensures .also) in (
       omega (arith, l .inv .0),
       omega (arith, t .loop-test .taken),
-      also-next (termSet (now (s .args .columns)) (s .args .a)) (l .b) (s .args .s) (l .inv .0) (l .inv .2) (also-insert (l .inv .2 .marked) step),
+      also-next (termSet (now (s .args .columns)) (s .args .a)) (l .b) (s .args .s) (l .inv .0) (l .inv .2) step,
     )
 
 same-length : tie.Need-same-length Inv-loop μ-loop
-same-length c = c .before .loop .inv .2 .long
+same-length c = c .before .loop .inv .2 .gained .long
 
 returns : tie.Need-returns Inv-loop μ-loop
 returns c =

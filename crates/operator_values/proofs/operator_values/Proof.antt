@@ -11,17 +11,17 @@ use Rattle.columns.specs.Columns.{value}
 use Rattle.columns.specs.Operator.{operatorRows}
 use Rattle.exact.specs.Exact.{floats}
 use Rattle.quadratic_form.specs.RowValue.{rowValue, columnAt, operatorValue, operatorValues}
-use Rattle.quadratic_form.specs.Reading.{held, RowReading, row-reading}
+use Rattle.row_value.specs.Reading.{placed, RowReading, row-reading}
 use Rattle.operator_values.proofs.operator_values.Statement.{statement}
 use Rattle.operator_values.proofs.operator_values.Tie as tie
 
 abbrev Inv-loop : tie.InvT-loop
-Inv-loop row-starts columns weights starts rows values output₀ last i₀ output i =
+Inv-loop n row-starts columns weights scratch inverse output₀ pairs last i₀ output i =
     (i ≤ operatorRows row-starts) × (length output ≡ length output₀)
-    × (output ≡ filled (operatorValue row-starts columns weights (held starts rows values)) i output₀)
+    × (output ≡ filled (operatorValue row-starts columns weights (placed n scratch inverse)) i output₀)
 
 abbrev μ-loop : tie.MeasureT-loop
-μ-loop row-starts columns weights starts rows values output₀ last i₀ output i = operatorRows row-starts - i
+μ-loop n row-starts columns weights scratch inverse output₀ pairs last i₀ output i = operatorRows row-starts - i
 
 abbrev start : tie.At-loop Inv-loop μ-loop → tie.Start Inv-loop μ-loop
 start q = q .before .before .before .before .before .before .before .before .before
@@ -30,7 +30,7 @@ start q = q .before .before .before .before .before .before .before .before .bef
 abbrev row-value-at : tie.Start Inv-loop μ-loop → ℕ → Float
 row-value-at s =
     let a = s .args in
-    operatorValue (now (a .row-starts)) (now (a .columns)) (now (a .weights)) (held (now (a .starts)) (now (a .rows)) (now (a .values)))
+    operatorValue (now (a .row-starts)) (now (a .columns)) (now (a .weights)) (placed (a .n) (now (a .scratch)) (now (a .inverse)))
 
 -- the row's number
 row : (c : tie.In-loop Inv-loop μ-loop) → c .before .loop .i < operatorRows (now (start (c .before) .args .row-starts))
@@ -39,6 +39,9 @@ row c = omega (arith, c .loop-test .taken, c .before .before .operator-rows .ens
 -- there is room for its value
 room : (c : tie.In-loop Inv-loop μ-loop) → c .before .loop .i < length (now (start (c .before) .args .output))
 room c = omega (arith, row c, start (c .before) .pre .fits)
+
+pair-total-requires : tie.Need-pair-total-requires Inv-loop μ-loop
+pair-total-requires c κs = search needs
 
 operator-rows-requires : tie.Need-operator-rows-requires Inv-loop μ-loop
 operator-rows-requires c κs = search needs
@@ -58,10 +61,11 @@ at-requires-2 c κs = omega (arith, row (c .before))
 row-value-requires : tie.Need-row-value-requires Inv-loop μ-loop
 row-value-requires c κs =
     let t = c .before .before in
+    let p = t .before .before .before in
     let s = start (t .before) in
     let a = s .args in
-    subst₂ (λ (x y : ℕ). RowReading (now (a .columns)) (length (now (a .weights))) (now (a .starts)) (now (a .rows)) (length (now (a .values))) x y)
-    (sym (c .before .at .ensures)) (sym (c .at2 .ensures)) (row-reading (s .pre) (t .before .loop .i) (row t))
+    subst₂ (λ (x y : ℕ). RowReading (a .n) (p .pair-total .result) (now (a .columns)) (length (now (a .weights))) (now (a .scratch)) (length (now (a .inverse))) x y)
+    (sym (c .before .at .ensures)) (sym (c .at2 .ensures)) (row-reading (s .pre) (p .pair-total .result) (p .pair-total .ensures .0) (t .before .loop .i) (row t))
 
 mul-output : tie.Need-mul-output Inv-loop μ-loop
 mul-output c = let h = room (c .before .before .before) in search needs
@@ -83,7 +87,7 @@ loop-again c =
     let s = start (t .before) in
     let a = s .args in
     let f = row-value-at s in
-    let Z = held (now (a .starts)) (now (a .rows)) (now (a .values)) in
+    let Z = placed (a .n) (now (a .scratch)) (now (a .inverse)) in
     let made : c .row-value .result ≡ f (l .i) =
     c .row-value .ensures
     ∙ ap₂ (λ (x y : ℕ). rowValue floats (columnAt (now (a .columns))) (value (now (a .weights))) Z x y) (d .before .at .ensures) (d .at2 .ensures) in (
@@ -111,6 +115,7 @@ operator-values-spec =
     (tie.spec
     Inv-loop
     μ-loop
+    pair-total-requires
     operator-rows-requires
     loop-holds
     at-requires

@@ -1,5 +1,6 @@
 use native.Mathlib.Omega.{arith}
 use mathlib.Core.Path.{_≡_, sym, ap, subst, _∙_}
+use mathlib.Core.Bool.{true}
 use mathlib.Core.List.{List}
 use lib.ListN.{length}
 use lib.Ieee.{Float}
@@ -10,11 +11,11 @@ use Rattle.refusal.specs.Refusal.{replyOf}
 use Rattle.columns.specs.Operator.{OperatorRows}
 use Rattle.diagnostics.specs.declared.SelectedInverseDiagnostics.{SelectedInverseDiagnostics}
 use Rattle.diagnostics.specs.declared.SelectedInverseStatus.the-variants.{Complete, ClosureTooLarge}
-use Rattle.selection.specs.Selection.{Lent, lists, roomOf}
+use Rattle.selection.specs.Selection.{Lent, lists, roomOf, selectedComplete, selectedAnswer}
 use Rattle.selection.specs.Status.{status-tells}
-use Rattle.fill.specs.Fill.{marked-input, marked-answer, marked-lists}
+use Rattle.fill.specs.Fill.{marked-are, marked-input, marked-answer, marked-lists}
 use Rattle.operator_variances.specs.Transformed.{TransformedCall, transformedCall, transformedSelection, transformedSteps, AcceptedTransformed, transformed-accepted}
-use Rattle.operator_variances.proofs.Reply.{transformed-refused, transformed-large, transformed-starts, transformed-reading, transformed-done}
+use Rattle.operator_variances.proofs.Reply.{transformed-refused, transformed-large, transformed-reading, transformed-done}
 use Rattle.operator_variances.proofs.selected_inverse_transformed_diag.Statement.{statement}
 use Rattle.operator_variances.proofs.selected_inverse_transformed_diag.Tie as tie
 
@@ -37,13 +38,13 @@ begin d = d .before .before .before .before .before .before .before .before .bef
 abbrev checked : tie.After-enum-told → tie.Start
 checked t = begin (t .before .before)
 
-abbrev marking : tie.After-fill-entries → tie.After-mark-operator-pairs
+abbrev marking : tie.After-fill-lists → tie.After-mark-operator-pairs
 marking e = e .before .before .before .before .before .before .before
 
-abbrev asked : tie.After-fill-entries → tie.After-enum-told
+abbrev asked : tie.After-fill-lists → tie.After-enum-told
 asked e = marking e .before .before
 
-abbrev filling : tie.After-enum-told3 → tie.After-fill-entries
+abbrev filling : tie.After-enum-told3 → tie.After-fill-lists
 filling t = t .before .before .before .before .before .before .before .before .before .before
 
 passed : (t : tie.After-enum-told) → let s = checked t in Passed (transformedSteps (handed s) (roomOf (lent s)) (length (out s)))
@@ -52,162 +53,137 @@ passed t = sym (t .before .before .check-transformed .ensures) ∙ ap replyOf (t
 ready : (t : tie.After-enum-told) → let s = checked t in AcceptedTransformed (handed s) (roomOf (lent s)) (length (out s))
 ready t = let s = checked t in transformed-accepted (handed s) (roomOf (lent s)) (length (out s)) (passed t)
 
--- src/lib.rt:185:11
+-- the diagnosis
+answer : (e : tie.After-fill-lists) → e .fill-lists .result ≡ selectedAnswer (transformedSelection (handed (checked (asked e))))
+answer e =
+    let t = asked e in
+    let l = lent (checked t) in
+    marked-answer (l .resultStarts) (l .resultRows) (l .resultValues) (ready t .accepted) (marking e .mark-operator-pairs .ensures) (e .fill-lists .ensures .fills)
+
+complete : (v : tie.After-enum-told3) → selectedComplete (transformedSelection (handed (checked (asked (filling v))))) ≡ true
+complete v =
+    status-tells (transformedSelection (handed (checked (asked (filling v))))) Complete
+    (ap (λ (d : SelectedInverseDiagnostics). d .status) (sym (answer (filling v))) ∙ v .enum-told3 .given .1)
+
 check-transformed-requires : tie.Need-check-transformed-requires
 check-transformed-requires c κs = search needs
 
--- src/lib.rt:200:26
 enum-known-why : tie.Need-enum-known-why
 enum-known-why c = search needs
 
--- src/lib.rt:202:79
 enum-told : tie.Need-enum-told
 enum-told c = search needs
 
--- src/lib.rt:202:17
 mark-operator-pairs-requires : tie.Need-mark-operator-pairs-requires
 mark-operator-pairs-requires c κs =
     let A = ready (c .before) in
     record { small = A .accepted .small; rows = subst (OperatorRows _ _ _) (A .operator .weighed) (A .operator); room = omega (arith, A .accepted .scratch-room) }
 
--- src/lib.rt:203:25
 mul-limit : tie.Need-mul-limit
 mul-limit c =
     let h = ready (c .before .before .before .before) .few in
     search needs
 
--- src/lib.rt:204:17
-fill-entries-requires : tie.Need-fill-entries-requires
-fill-entries-requires c κs =
+fill-lists-requires : tie.Need-fill-lists-requires
+fill-lists-requires c κs =
     let m = c .before .before .before .before .before .before in
     let t = m .before .before in
     let l = lent (checked t) in
     marked-input (l .resultStarts) (l .resultRows) (l .resultValues) (ready t .accepted) (m .mark-operator-pairs .ensures)
 
--- src/lib.rt:218:59
 enum-told-2 : tie.Need-enum-told-2
 enum-told-2 c = search needs
 
--- src/lib.rt:220:31
-enum-told-3 : tie.Need-enum-told-3
-enum-told-3 c = search needs
-
--- src/lib.rt:220:31
-add-end : tie.Need-add-end
-add-end c =
-    let h = ready (asked (filling c)) .accepted .small in
-    search needs
-
--- src/lib.rt:225:25
-sub-operator-values : tie.Need-sub-operator-values
-sub-operator-values c = search needs
-
--- src/lib.rt:225:25
-part-operator-values-start : tie.Need-part-operator-values-start
-part-operator-values-start c = search needs
-
--- src/lib.rt:225:25
-part-operator-values-end : tie.Need-part-operator-values-end
-part-operator-values-end c =
-    let v = c .before in
-    let e = filling v in
+clear-scratch-requires : tie.Need-clear-scratch-requires
+clear-scratch-requires c κs =
+    let e = c .before .before .before .before .before .before .before .before .before .before .before in
     let t = asked e in
-    let s = checked t in
-    let l = lent s in
-    let A = ready t .accepted in
-    let M = marking e .mark-operator-pairs .ensures in
-    let answer = marked-answer (l .resultStarts) (l .resultRows) (l .resultValues) A M (e .fill-entries .ensures) in
-    let L = marked-lists (l .resultStarts) (l .resultRows) (l .resultValues) A M (e .fill-entries .ensures) (transformedSteps (handed s) (roomOf l) (length (out s))) (passed t) in
-    let h = transformed-starts (handed s) l (out s) (passed t) L (ready t) (status-tells (transformedSelection (handed s)) Complete (ap (λ (d : SelectedInverseDiagnostics). d .status) (sym answer) ∙ v .enum-told3 .given .1)) in
-    search needs
+    let h = ready t .accepted in
+    (h .small, omega (arith, e .fill-lists .ensures .long, marking e .mark-operator-pairs .ensures .long, h .scratch-room))
 
--- src/lib.rt:221:21
-operator-values-requires : tie.Need-operator-values-requires
-operator-values-requires c κs =
-    let v = c .before .before .before .before .before in
-    let e = filling v in
-    let t = asked e in
-    let s = checked t in
-    let l = lent s in
-    let A = ready t .accepted in
-    let M = marking e .mark-operator-pairs .ensures in
-    let answer = marked-answer (l .resultStarts) (l .resultRows) (l .resultValues) A M (e .fill-entries .ensures) in
-    let L = marked-lists (l .resultStarts) (l .resultRows) (l .resultValues) A M (e .fill-entries .ensures) (transformedSteps (handed s) (roomOf l) (length (out s))) (passed t) in
-    transformed-reading (handed s) l (out s) (passed t) L (ready t)
-    (status-tells (transformedSelection (handed s)) Complete (ap (λ (d : SelectedInverseDiagnostics). d .status) (sym answer) ∙ v .enum-told3 .given .1))
-
--- src/lib.rt:165:1
-returns : tie.Need-returns
-returns c =
-    let d = c .before .before .before in
-    transformed-refused (handed (begin d)) (lent (begin d)) (out (begin d)) (sym (d .check-transformed .ensures) ∙ ap replyOf (c .before .why .given .1))
-
--- src/lib.rt:165:1
 same-length : tie.Need-same-length
 same-length c = search needs
 
--- src/lib.rt:165:1
 same-length-2 : tie.Need-same-length-2
 same-length-2 c = search needs
 
--- src/lib.rt:165:1
 same-length-3 : tie.Need-same-length-3
 same-length-3 c = search needs
 
--- src/lib.rt:165:1
 same-length-4 : tie.Need-same-length-4
 same-length-4 c = search needs
 
--- src/lib.rt:165:1
-returns-2 : tie.Need-returns-2
-returns-2 c =
-    let e = c .before .before .before .before .before .before .before .before .before .before in
+returns : tie.Need-returns
+returns c =
+    let k = c .before .before in
+    let v = k .before .before in
+    let e = v .before .before .before .before .before .before .before .before .before .before in
     let t = asked e in
     let s = checked t in
     let l = lent s in
     let A = ready t .accepted in
     let M = marking e .mark-operator-pairs .ensures in
-    let answer = marked-answer (l .resultStarts) (l .resultRows) (l .resultValues) A M (e .fill-entries .ensures) in
-    let L = marked-lists (l .resultStarts) (l .resultRows) (l .resultValues) A M (e .fill-entries .ensures) (transformedSteps (handed s) (roomOf l) (length (out s))) (passed t) in
-    transformed-large (handed s) l (out s) (passed t) L answer
-    (status-tells (transformedSelection (handed s)) ClosureTooLarge (ap (λ (d : SelectedInverseDiagnostics). d .status) (sym answer) ∙ c .enum-told2 .given .1))
+    let L = marked-lists (l .resultStarts) (l .resultRows) (l .resultValues) A M (e .fill-lists .ensures .fills) (transformedSteps (handed s) (roomOf l) (length (out s))) (passed t) in
+    transformed-large (handed s) l (out s) (passed t) _ L (answer e) (k .clear-scratch .ensures)
+    (status-tells (transformedSelection (handed s)) ClosureTooLarge (ap (λ (d : SelectedInverseDiagnostics). d .status) (sym (answer e)) ∙ v .enum-told2 .given .1))
 
--- src/lib.rt:165:1
-same-length-5 : tie.Need-same-length-5
-same-length-5 c = search needs
+enum-told-3 : tie.Need-enum-told-3
+enum-told-3 c = search needs
 
--- src/lib.rt:165:1
-same-length-6 : tie.Need-same-length-6
-same-length-6 c = search needs
-
--- src/lib.rt:165:1
-same-length-7 : tie.Need-same-length-7
-same-length-7 c = search needs
-
--- src/lib.rt:165:1
-same-length-8 : tie.Need-same-length-8
-same-length-8 c = search needs
-
--- src/lib.rt:165:1
-same-length-9 : tie.Need-same-length-9
-same-length-9 c = search needs
-
--- src/lib.rt:165:1
-returns-3 : tie.Need-returns-3
-returns-3 c =
-    let w = c .before .before in
-    let v = w .before .before .before .before .before .before in
+operator-values-requires : tie.Need-operator-values-requires
+operator-values-requires c κs =
+    let v = c .before .before .before in
     let e = filling v in
     let t = asked e in
     let s = checked t in
     let l = lent s in
     let A = ready t .accepted in
     let M = marking e .mark-operator-pairs .ensures in
-    let answer = marked-answer (l .resultStarts) (l .resultRows) (l .resultValues) A M (e .fill-entries .ensures) in
-    let L = marked-lists (l .resultStarts) (l .resultRows) (l .resultValues) A M (e .fill-entries .ensures) (transformedSteps (handed s) (roomOf l) (length (out s))) (passed t) in
-    transformed-done (handed s) l (out s) (passed t) L (ready t)
-    (status-tells (transformedSelection (handed s)) Complete (ap (λ (d : SelectedInverseDiagnostics). d .status) (sym answer) ∙ v .enum-told3 .given .1))
-    answer (w .operator-values .ensures)
+    let L = marked-lists (l .resultStarts) (l .resultRows) (l .resultValues) A M (e .fill-lists .ensures .fills) (transformedSteps (handed s) (roomOf l) (length (out s))) (passed t) in
+    let P = e .fill-lists .ensures .positions _ (marked-are (l .resultStarts) (l .resultRows) (l .resultValues) A M) (complete v) in
+    transformed-reading (handed s) l (out s) (passed t) _ L (ready t) (complete v) P (e .fill-lists .ensures .long ∙ M .long)
+
+clear-scratch-requires-2 : tie.Need-clear-scratch-requires-2
+clear-scratch-requires-2 c κs =
+    let e = filling (c .before .before .before .before .before .before .before) in
+    let t = asked e in
+    let h = ready t .accepted in
+    (h .small, omega (arith, e .fill-lists .ensures .long, marking e .mark-operator-pairs .ensures .long, h .scratch-room))
+
+returns-2 : tie.Need-returns-2
+returns-2 c =
+    let d = c .before .before .before in
+    transformed-refused (handed (begin d)) (lent (begin d)) (out (begin d)) (sym (d .check-transformed .ensures) ∙ ap replyOf (c .before .why .given .1))
+
+same-length-5 : tie.Need-same-length-5
+same-length-5 c = search needs
+
+same-length-6 : tie.Need-same-length-6
+same-length-6 c = search needs
+
+same-length-7 : tie.Need-same-length-7
+same-length-7 c = search needs
+
+same-length-8 : tie.Need-same-length-8
+same-length-8 c = search needs
+
+same-length-9 : tie.Need-same-length-9
+same-length-9 c = search needs
+
+returns-3 : tie.Need-returns-3
+returns-3 c =
+    let k = c .before .before in
+    let w = k .before .before .before .before in
+    let v = w .before .before .before .before in
+    let e = filling v in
+    let t = asked e in
+    let s = checked t in
+    let l = lent s in
+    let A = ready t .accepted in
+    let M = marking e .mark-operator-pairs .ensures in
+    let L = marked-lists (l .resultStarts) (l .resultRows) (l .resultValues) A M (e .fill-lists .ensures .fills) (transformedSteps (handed s) (roomOf l) (length (out s))) (passed t) in
+    let P = e .fill-lists .ensures .positions _ (marked-are (l .resultStarts) (l .resultRows) (l .resultValues) A M) (complete v) in
+    transformed-done (handed s) l (out s) (passed t) _ L (ready t) (complete v) P (answer e) (k .clear-scratch2 .ensures) (w .operator-values .ensures)
 
 pub selected-inverse-transformed-diag-spec : {M : Type 1} → statement M
 selected-inverse-transformed-diag-spec =
@@ -218,19 +194,17 @@ selected-inverse-transformed-diag-spec =
     enum-told
     mark-operator-pairs-requires
     mul-limit
-    fill-entries-requires
+    fill-lists-requires
     enum-told-2
-    enum-told-3
-    add-end
-    sub-operator-values
-    part-operator-values-start
-    part-operator-values-end
-    operator-values-requires
-    returns
+    clear-scratch-requires
     same-length
     same-length-2
     same-length-3
     same-length-4
+    returns
+    enum-told-3
+    operator-values-requires
+    clear-scratch-requires-2
     returns-2
     same-length-5
     same-length-6

@@ -1,31 +1,32 @@
-use Prim.Native.Nat.{ℕ}
 use native.Mathlib.Omega.{arith}
 use mathlib.Core.Path.{_≡_, sym, ap, _∙_}
 use mathlib.Core.Bool.{Bool, true}
 use lib.Ieee.{Float}
-use lib.ListN.{getD, set}
+use lib.ListN.{set}
 use denote.Ref.{now}
 use borrow.Author.Needs.{needs}
-use borrow.Author.Tests.{eq-eqb, ne-eqb}
-use Rattle.pairs.specs.ColumnOrder.{columnMark, columnMarking, columnPlace-below}
+use borrow.Author.Tests.{not-true, not-false}
+use Rattle.bits.specs.Bits.{bitAt}
+use Rattle.pairs.specs.ColumnOrder.{columnMarking}
+use Rattle.pair_queue.specs.Marking.{place-word}
 use Rattle.exact.specs.Exact.{float-on}
 use Rattle.route_sums.specs.Stored.{putIf, entrySum}
 use Rattle.route_finish.proofs.store_diagonal.Statement.{statement}
 use Rattle.route_finish.proofs.store_diagonal.Tie as tie
 
-abbrev start : tie.After-at → tie.Start
+abbrev start : tie.After-bit → tie.Start
 start c = c .before .before .before .before .before .before
 
 -- the diagonal's mark
-mark-is : (c : tie.After-at) →
+mark-is : (c : tie.After-bit) →
     let a = start c .args in
-    c .at .result ≡ columnMark (a .n) (now (a .scratch)) (a .j) (a .j)
-mark-is c = c .at .ensures ∙ ap (λ (p : ℕ). getD (now (start c .args .scratch)) p 0) (c .before .column-place .ensures)
+    c .bit .result ≡ columnMarking (a .n) (now (a .scratch)) (a .j) (a .j)
+mark-is c = c .bit .ensures ∙ ap (bitAt (now (start c .args .scratch))) (c .before .column-place .ensures)
 
 member : (c : tie.Else1) →
     let a = start (c .before) .args in
     columnMarking (a .n) (now (a .scratch)) (a .j) (a .j) ≡ true
-member c = eq-eqb _ 1 (sym (mark-is (c .before)) ∙ c .if1 .left)
+member c = sym (mark-is (c .before)) ∙ not-false _ (c .if1 .left)
 
 -- the entry on the diagonal
 abbrev entry-of : tie.Start → Float
@@ -36,18 +37,18 @@ entry-of s =
 column-place-requires : tie.Need-column-place-requires
 column-place-requires c κs = search needs
 
-at-requires : tie.Need-at-requires
-at-requires c κs =
+bit-requires : tie.Need-bit-requires
+bit-requires c κs =
     let s = c .before .before .before .before .before in
-    let b = columnPlace-below (s .args .n) (s .args .j) (s .args .j) (omega arith) (s .pre .inside) in
-    omega (arith, c .column-place .ensures, s .pre .room)
+    let a = s .args in
+    place-word (a .n) (a .j) (a .j) (omega arith) (s .pre .inside) (now (a .scratch)) (s .pre .room) (c .column-place .ensures)
 
 returns : tie.Need-returns
 returns c =
     let s = start (c .before) in
     let a = s .args in
     ap (λ (b : Bool). putIf b (now (a .inverse)) (a .q) (entry-of s))
-    (sym (ne-eqb (columnMark (a .n) (now (a .scratch)) (a .j) (a .j)) 1 (λ m. c .if1 .taken (mark-is (c .before) ∙ m))))
+    (sym (not-true _ (c .if1 .taken)) ∙ mark-is (c .before))
 
 entry-sum-requires : tie.Need-entry-sum-requires
 entry-sum-requires c κs = let t = c .before in start (t .before) .pre .sums (member t)
@@ -84,7 +85,7 @@ store-diagonal-spec =
     tie.close
     (tie.spec
     column-place-requires
-    at-requires
+    bit-requires
     returns
     entry-sum-requires
     on-diagonal-requires

@@ -7,33 +7,33 @@ use borrow.Author.Needs.{needs}
 use Rattle.columns.specs.Columns.{value}
 use Rattle.exact.specs.Exact.{floats}
 use Rattle.quadratic_form.specs.RowValue.{withTerms, sumBefore, sumBefore-start, sumBefore-next, columnAt}
-use Rattle.quadratic_form.specs.Reading.{held}
+use Rattle.row_value.specs.Reading.{placed}
 use Rattle.row_value.proofs.row_value.Statement.{statement}
 use Rattle.row_value.proofs.row_value.Tie as tie
 
 abbrev Inv-loop : tie.InvT-loop
-Inv-loop columns weights starts rows values s e sum₀ a₀ sum a =
-    (s ≤ a) × (a ≤ e) × (sum ≡ sumBefore floats (columnAt columns) (value weights) (held starts rows values) s e a)
+Inv-loop n pairs columns weights scratch inverse s e sum₀ a₀ sum a =
+    (s ≤ a) × (a ≤ e) × (sum ≡ sumBefore floats (columnAt columns) (value weights) (placed n scratch inverse) s e a)
 
 abbrev μ-loop : tie.MeasureT-loop
-μ-loop columns weights starts rows values s e sum₀ a₀ sum a = e - a
+μ-loop n pairs columns weights scratch inverse s e sum₀ a₀ sum a = e - a
 
 abbrev start : tie.At-loop Inv-loop μ-loop → tie.Start Inv-loop μ-loop
-start q = q .before .before .before .before .before .before
+start q = q .before .before .before .before .before
 
 -- the sum before a
 abbrev sum-to : tie.Start Inv-loop μ-loop → ℕ → Float
 sum-to s =
     let a = s .args in
-    sumBefore floats (columnAt (now (a .columns))) (value (now (a .weights))) (held (now (a .starts)) (now (a .rows)) (now (a .values))) (a .s) (a .e)
+    sumBefore floats (columnAt (now (a .columns))) (value (now (a .weights))) (placed (a .n) (now (a .scratch)) (now (a .inverse))) (a .s) (a .e)
 
 loop-holds : tie.Need-loop-holds Inv-loop μ-loop
 loop-holds c =
-    let s = c .before .before .before .before .before in
+    let s = c .before .before .before .before in
     (omega arith, s .pre .ordered, sumBefore-start _ _ _ (s .args .s) (s .args .e))
 
 add-terms-requires : tie.Need-add-terms-requires Inv-loop μ-loop
-add-terms-requires c κs = (start (c .before) .pre, c .loop-test .taken)
+add-terms-requires c κs = (start (c .before) .pre, (c .before .loop .inv .0, c .loop-test .taken))
 
 add-a : tie.Need-add-a Inv-loop μ-loop
 add-a c = search needs
@@ -49,7 +49,7 @@ loop-again c =
     let a = s .args in
     let k = columnAt (now (a .columns)) in
     let w = value (now (a .weights)) in
-    let Z = held (now (a .starts)) (now (a .rows)) (now (a .values)) in (
+    let Z = placed (a .n) (now (a .scratch)) (now (a .inverse)) in (
       omega (arith, l .inv .0),
       omega (arith, t .loop-test .taken),
       c .add-terms .ensures ∙ ap (λ (x : Float). withTerms floats k w Z (a .s) (a .e) (l .a) x) (l .inv .2)

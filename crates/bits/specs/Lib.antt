@@ -1,0 +1,2 @@
+-- Bits of a list of words.
+pub mod Bits

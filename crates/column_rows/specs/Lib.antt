@@ -1,0 +1,2 @@
+-- The rows of a column's marked pairs.
+pub mod ColumnRows

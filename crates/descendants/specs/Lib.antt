@@ -1,0 +1,2 @@
+-- The descendants of a column of a factor.
+pub mod FactorPattern

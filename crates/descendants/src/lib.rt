@@ -1,0 +1,1 @@
+// A factor's pattern: the descendants of its columns. No code.

@@ -1,0 +1,2 @@
+-- Where an entry of the inverse is read.
+pub mod Position

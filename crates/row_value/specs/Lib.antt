@@ -1,0 +1,2 @@
+-- An operator's values from entries read by position.
+pub mod Reading
