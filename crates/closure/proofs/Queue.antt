@@ -23,7 +23,7 @@ use Rattle.columns.specs.Kept.{f0, nonzero, keptBelow, descPlaces, pattern}
 use Rattle.columns.specs.Factor.{Factor, starts-end}
 use Rattle.columns.specs.Pattern.{pattern-at, pattern-above, pattern-inside}
 use Rattle.closed_set.specs.ClosedSet.{Closed, Pattern, descends, descends-at, descends-found}
-use Rattle.nested_columns.specs.Nested.{Nested}
+use Rattle.nested_columns.specs.Nested.{Nested, Stop}
 use Rattle.pair_queue.specs.Marking.{rowOf, columnOf, queueWord, Queued, Marked, Insert, Inserted, count-most}
 use Rattle.closure.specs.Queue.{Within, Grown, Waiting, EndRoom, EndOf, Finished}
 use Rattle.descendants.specs.FactorPattern.{factor-pattern, entry-descends, descends-entry}
@@ -211,27 +211,14 @@ module _ {n pairs : ℕ} {starts rows : List ℕ} {values limit : ℕ} (nz : ℕ
     pub word-starts : {w : ℕ} → head < count → w ≡ getD s (pairs + head) 0 → columnOf w + 1 < length starts
     word-starts l e = let Q = word-queued l e in omega (arith, I .factor .starts-rise .columns, Q .ordered, Q .inside)
 
-    -- its stop is stored
-    pub word-end : {w : ℕ} → head < count → w ≡ getD s (pairs + head) 0 → EndRoom (columnOf w) starts rows stops
-    word-end {w} l e =
-        let Q = word-queued l e in
-        let inside : columnOf w < n = omega (arith, Q .ordered, Q .inside) in
-        record {
-          next = word-starts l e;
-          fits = omega (arith, I .stopped .fits);
-          stored = λ h. omega (arith, I .stopped .nested (columnOf w) inside h .below, starts-end (I .factor .starts-rise) (columnOf w + 1) (omega arith));
-        }
+    -- its column is one of the factor's
+    pub word-inside : {w : ℕ} → head < count → w ≡ getD s (pairs + head) 0 → columnOf w < n
+    word-inside l e = let Q = word-queued l e in omega (arith, Q .ordered, Q .inside)
 
-    -- closing it ends within its column
-    pub word-most : {w e : ℕ} → head < count → w ≡ getD s (pairs + head) 0 → EndOf starts rows stops (rowOf w) (columnOf w) e → e ≤ start starts (columnOf w + 1)
-    word-most {w} {e} l f E = go E
-      where
-        go : EndOf starts rows stops (rowOf w) (columnOf w) e → e ≤ start starts (columnOf w + 1)
-        go (inl q) = omega arith
-        go (inr q) =
-            let Q = word-queued l f in
-            let b = I .stopped .nested (columnOf w) (omega (arith, Q .ordered, Q .inside)) (q .0) .below in
-            omega (arith, q .1)
+    -- its stop is stored
+    pub word-end : {w stop : ℕ} → head < count → w ≡ getD s (pairs + head) 0 → Stop starts rows nz (columnOf w) stop → EndRoom (columnOf w) stop starts rows
+    word-end l e T =
+        record { next = word-starts l e; stored = starts-end (I .factor .starts-rise) _ (omega (arith, word-inside l e)); after = T .after }
 
     -- the words at hand are those where the inner loop begins
     pub column-none : {w p : ℕ} → head < count → count ≤ limit → w ≡ getD s (pairs + head) 0 → p ≡ start starts (columnOf w)
@@ -266,8 +253,9 @@ module _ {n pairs : ℕ} {starts rows : List ℕ} {values limit : ℕ} (nz : ℕ
       }
 
       -- the word is done
-      pub serving-next : {e : ℕ} → EndOf starts rows stops (rowOf w) (columnOf w) e → e ≤ p → Serving n starts rows nz limit s₀ first t (head + 1) count′
-      serving-next {e} E h = column-serving (record {
+      pub serving-next : {stop e : ℕ} → Stop starts rows nz (columnOf w) stop → EndOf starts rows stop (rowOf w) (columnOf w) e → e ≤ p
+          → Serving n starts rows nz limit s₀ first t (head + 1) count′
+      serving-next {stop} {e} T E h = column-serving (record {
         marked = K .serving .marked;
         grown = K .serving .grown;
         within = K .serving .within;
@@ -279,13 +267,12 @@ module _ {n pairs : ℕ} {starts rows : List ℕ} {values limit : ℕ} (nz : ℕ
         most = K .serving .most;
       })
         where
-          word-done : EndOf starts rows stops (rowOf w) (columnOf w) e → WordDone n starts rows nz t w
+          word-done : EndOf starts rows stop (rowOf w) (columnOf w) e → WordDone n starts rows nz t w
           word-done (inl q) = inl (λ i lo hi. K .taken .deps i lo (omega arith))
           word-done (inr q) =
-              let Q = subst (λ (x : ℕ). Queued n t x) (K .taken .here) (K .serving .marked .queued head (K .ahead)) in
-              let N = I .stopped .nested (columnOf w) (omega (arith, Q .ordered, Q .inside)) (q .0) in
-              let d = getD stops (columnOf w) 0 - 1 in
-              let m = K .taken .deps d (N .from) (omega (arith, q .1, q .0)) (N .kept) in
+              let N = T .nested (q .0) in
+              let d = stop - 1 in
+              let m = K .taken .deps d (N .from) (omega (arith, q .1, T .after (q .0))) (N .kept) in
               let e₁ : max (rowOf w) (row rows d) ≡ rowOf w = omega (arith, q .2) in
               let e₂ : min (rowOf w) (row rows d) ≡ row rows d = omega (arith, q .2) in
               inr (record { place = d; nested = N; above = q .2; marked = subst₂ (λ (x y : ℕ). columnMarking n t x y ≡ true) e₁ e₂ m })
@@ -391,6 +378,11 @@ module _ {n pairs : ℕ} {starts rows : List ℕ} {values limit : ℕ} (nz : ℕ
                     (deps-grown nz (I .factor) r c p (Q .ordered) (Q .inside) (omega arith) (inserted-grown J) (K .taken .deps));
               };
             }
+
+-- closing a word's pair ends within its column
+pub word-most : (starts rows : List ℕ) (w : ℕ) {stop e : ℕ} → EndOf starts rows stop (rowOf w) (columnOf w) e → e ≤ start starts (columnOf w + 1)
+word-most starts rows w (inl q) = omega arith
+word-most starts rows w (inr q) = omega (arith, q .0, q .1)
 
 -- an entry is passed over for its row or for its value
 pub above-dropped : (rows : List ℕ) (nz : ℕ → Bool) (c p : ℕ) {k : ℕ} → k ≡ row rows p → k ≤ c → keptBelow rows nz c p ≡ false

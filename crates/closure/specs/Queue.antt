@@ -28,7 +28,7 @@ pub record Grown (n : ℕ) (s : List ℕ) (count : ℕ) (s′ : List ℕ) (count
   pub words : (j : ℕ) → j < count → queueWord n s′ j ≡ queueWord n s j
   pub later : drop (pairTotal n + pairTotal n) s′ ≡ drop (pairTotal n + pairTotal n) s
 
--- a factor with the stops of its columns, and marked pairs that are within the limit
+-- a factor, stops of its columns, and marked pairs that are within the limit
 pub record Waiting (n pairs : ℕ) (starts rows : List ℕ) (values : ℕ) (nz : ℕ → Bool) (stops : List ℕ) (limit : ℕ) (s : List ℕ) (count : ℕ) : Type 0 where
   pub small : n ≤ maxDimension
   pub all : pairs ≡ pairTotal n
@@ -37,16 +37,16 @@ pub record Waiting (n pairs : ℕ) (starts rows : List ℕ) (values : ℕ) (nz :
   pub marked : Marked n s count
   pub low : count ≤ limit
 
--- column c, with its stop stored among the rows
-pub record EndRoom (c : ℕ) (starts rows stops : List ℕ) : Type 0 where
+-- column c, and its stop, with the entries up to its end stored among the rows
+pub record EndRoom (c stop : ℕ) (starts rows : List ℕ) : Type 0 where
   pub next : c + 1 < length starts
-  pub fits : c < length stops
-  pub stored : 0 < getD stops c 0 → getD stops c 0 - 1 < length rows
+  pub stored : start starts (c + 1) ≤ length rows
+  pub after : stop < start starts (c + 1) → 0 < stop
 
--- where closing (r, c) ends among the column's entries: with the column, or at its stop, whose row is at most r
-abbrev pub EndOf : List ℕ → List ℕ → List ℕ → ℕ → ℕ → ℕ → Type 0
-EndOf starts rows stops r c e =
-    (e ≡ start starts (c + 1)) ⊎ ((0 < getD stops c 0) × (e ≡ getD stops c 0) × (row rows (getD stops c 0 - 1) ≤ r))
+-- where closing (r, c) ends among the column's entries: with the column, or at its stop before that, the row there being at most r
+abbrev pub EndOf : List ℕ → List ℕ → ℕ → ℕ → ℕ → ℕ → Type 0
+EndOf starts rows stop r c e =
+    (e ≡ start starts (c + 1)) ⊎ ((stop < start starts (c + 1)) × (e ≡ stop) × (row rows (stop - 1) ≤ r))
 
 -- each pair added is in every closed set that holds those marked before; within the limit the marked pairs are closed
 pub record Finished (n : ℕ) (starts rows : List ℕ) (nz : ℕ → Bool) (limit : ℕ) (s₀ : List ℕ) (first : ℕ) (s : List ℕ) (count : ℕ) : Type 0 where

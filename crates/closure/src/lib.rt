@@ -9,7 +9,7 @@ use diagnostics::SelectedInverseDiagnostics;
 use diagnostics::SelectedInverseStatus;
 use diagnostics::selected_inverse_diagnostics;
 use kept::factor_pairs;
-use nested_columns::list_stops;
+use nested_columns::find_stop;
 use pair_marks::pair_total;
 use pair_queue::PACKING;
 use pair_queue::insert_closure_pair;
@@ -17,18 +17,17 @@ use refusal::MAX_DIMENSION;
 use words::at;
 
 // Where closing (r, c) ends among the entries of column c: at its stop, if the row there is at most r, else with the column.
-fn column_end(r: usize, c: usize, starts: &[u32], rows: &[u32], stops: &[u32]) -> usize
-    requires { ⌜ EndRoom c (now starts) (now rows) (now stops) ⌝ }
-    ensures { λ e. ⌜ EndOf (now (starts .entry)) (now (rows .entry)) (now (stops .entry)) r c e ⌝ }
+fn column_end(r: usize, c: usize, stop: usize, starts: &[u32], rows: &[u32]) -> usize
+    requires { ⌜ EndRoom c stop (now starts) (now rows) ⌝ }
+    ensures { λ e. ⌜ EndOf (now (starts .entry)) (now (rows .entry)) stop r c e ⌝ }
 {
-    let stop = at(stops, c);
-    if stop == 0 {
-        return at(starts, c + 1);
+    let end = at(starts, c + 1);
+    if stop < end {
+        if at(rows, stop - 1) <= r {
+            return stop;
+        }
     }
-    if r < at(rows, stop - 1) {
-        return at(starts, c + 1);
-    }
-    stop
+    end
 }
 
 // Takes each pair of the queue and inserts its dependencies, up to the first pair past the limit. Entries not kept, and diagonals, are passed over.
@@ -39,9 +38,9 @@ fn close_queue(
     starts: &[u32],
     rows: &[u32],
     values: &[f64],
-    stops: &[u32],
     limit: usize,
     first: usize,
+    stops: &mut [u32],
     scratch: &mut [u32],
 ) -> usize
     requires { ⌜ Waiting n pairs (now starts) (now rows) (length (now values)) (nonzero (now values)) (now stops) limit (now scratch) first ⌝ }
@@ -54,7 +53,8 @@ fn close_queue(
         let w = at(scratch, pairs + head);
         let r = w / PACKING;
         let c = w % PACKING;
-        let end = column_end(r, c, starts, rows, stops);
+        let stop = find_stop(n, c, starts, rows, values, stops);
+        let end = column_end(r, c, stop, starts, rows);
         let mut p = at(starts, c);
         'column: while p < end {
             let k = at(rows, p);
@@ -104,7 +104,6 @@ pub fn takahashi_dependency_closure(
         };
     }
     let mut stops = [0; MAX_DIMENSION];
-    list_stops(n, starts, rows, values, &mut stops);
     let pairs = pair_total(n);
     let count = close_queue(
         n,
@@ -112,9 +111,9 @@ pub fn takahashi_dependency_closure(
         starts,
         rows,
         values,
-        &stops,
         limit,
         requested_pairs,
+        &mut stops,
         scratch,
     );
     if limit < count {

@@ -2,22 +2,23 @@
 -- Assumes nothing.
 use Prim.Native.Nat.{ℕ, _+_, _-_, _≤_, _<_}
 use native.Mathlib.Omega.{arith}
-use native.Mathlib.Decide.{decLe}
+use native.Mathlib.Decide.{decLe, ℕ-discrete}
 use mathlib.Core.Path.{_≡_, sym, ap, subst, _∙_}
 use mathlib.Core.Bool.{Bool, true, false, not, false≢true}
 use mathlib.Core.List.{List}
 use lib.Dec.{ltb}
-use lib.ListN.{length, getD, set, length-set}
+use lib.ListN.{length, getD, set, replicate, length-set, length-replicate, getD-replicate}
 use lib.Seq.{getD-set-same, getD-set-other}
 use lib.Ieee.{Float, ne, eq}
 use borrow.Author.Tests.{lt-ltb}
 use Rattle.lists.specs.Test.{anyIn, anyIn-below, and-right, and-both}
+use Rattle.refusal.specs.Bounds.{maxDimension}
 use Rattle.columns.specs.Columns.{start, row, value}
 use Rattle.columns.specs.Kept.{f0, nonzero, keptBelow, pattern}
 use Rattle.columns.specs.Factor.{Factor, factor-column}
 use Rattle.closed_set.specs.ClosedSet.{descends}
 use Rattle.descendants.specs.FactorPattern.{entry-descends, descends-entry}
-use Rattle.nested_columns.specs.Nested.{Nested, Stops}
+use Rattle.nested_columns.specs.Nested.{Nested, Stop, Stops, StopFound}
 
 -- q is the first place from s to below e that is kept below the diagonal of column c, e if none
 pub record FirstKept (c s e : ℕ) (rows : List ℕ) (nz : ℕ → Bool) (q : ℕ) : Type 0 where
@@ -53,10 +54,6 @@ pub record CoveredInput (rows : List ℕ) (values a b s e : ℕ) : Type 0 where
 -- each place from a to below b that is not 0 has its row at a place from s to below e that is not 0
 pub record Covered (rows : List ℕ) (nz : ℕ → Bool) (a b s e : ℕ) : Type 0 where
   pub found : (i : ℕ) → a ≤ i → i < b → nz i ≡ true → (j : ℕ) × (s ≤ j) × (j < e) × (nz j ≡ true) × (row rows j ≡ row rows i)
-
--- the place after one such as `Nested` says, or 0
-pub record Stop (starts rows : List ℕ) (nz : ℕ → Bool) (c r : ℕ) : Type 0 where
-  pub nested : 0 < r → Nested starts rows nz c (r - 1)
 
 -- ---- one entry
 
@@ -157,32 +154,43 @@ module _ {n : ℕ} {starts rows : List ℕ} {values : ℕ} (F : Factor n starts 
                 | no o ↦ false≢true (sym (anyIn-below (keptBelow rows nz c) (start starts c) q i (K .before) from (omega arith)) ∙ t)
               ]
 
--- ---- the columns, one after the other
+-- ---- stops
 
 module _ {starts rows : List ℕ} {nz : ℕ → Bool} where
-  -- a column's place, and none
+  -- a column's place, and its end
   pub stop-at : {c q : ℕ} → Nested starts rows nz c q → Stop starts rows nz c (q + 1)
-  stop-at {c} {q} N = record { nested = λ o. let e : q ≡ (q + 1) - 1 = omega arith in subst (λ (k : ℕ). Nested starts rows nz c k) e N }
+  stop-at {c} {q} N = record {
+    upto = omega (arith, N .below);
+    after = λ l. omega arith;
+    nested = λ l. let e : q ≡ (q + 1) - 1 = omega arith in subst (λ (k : ℕ). Nested starts rows nz c k) e N;
+  }
 
-  pub stop-none : {c : ℕ} → Stop starts rows nz c 0
-  stop-none = record { nested = λ o. absurd (omega arith) }
+  pub stop-end : {c e : ℕ} → e ≡ start starts (c + 1) → Stop starts rows nz c e
+  stop-end q = record { upto = omega arith; after = λ l. absurd (omega arith); nested = λ l. absurd (omega arith) }
 
-  pub stops-none : (stops : List ℕ) → Stops 0 starts rows nz stops
-  stops-none stops = record { fits = omega arith; nested = λ c l. absurd (omega arith) }
+  -- none is listed
+  pub stops-none : {n : ℕ} → n ≤ maxDimension → Stops n starts rows nz (replicate maxDimension 0)
+  stops-none h = record {
+    fits = rw (length-replicate {A = ℕ} maxDimension 0) h;
+    stop = λ c l o. absurd (omega (arith, getD-replicate {A = ℕ} maxDimension c 0 0 (omega arith)));
+  }
 
-  -- one column more
-  pub stops-more : {c : ℕ} {stops : List ℕ} {r : ℕ} → c < length stops → Stops c starts rows nz stops → Stop starts rows nz c r → Stops (c + 1) starts rows nz (set stops c r)
-  stops-more {c} {stops} {r} room S T = record {
-    fits = rw length-set (omega arith);
-    nested = λ x l o.
-        elim (decLe c x) [
-          | yes m ↦
-              (let q : c ≡ x = omega arith in
-              let v : getD (set stops c r) x 0 ≡ r = ap (λ (y : ℕ). getD (set stops c r) y 0) (sym q) ∙ getD-set-same stops c r 0 room in
-              subst (λ (y : ℕ). Nested starts rows nz y (getD (set stops c r) x 0 - 1)) q
-              (subst (λ (y : ℕ). Nested starts rows nz c (y - 1)) (sym v) (T .nested (omega (arith, v)))))
-          | no m ↦
-              (let v : getD (set stops c r) x 0 ≡ getD stops x 0 = getD-set-other stops c x r 0 (λ q. m (omega arith)) in
-              subst (λ (y : ℕ). Nested starts rows nz x (y - 1)) (sym v) (S .nested x (omega arith) (omega (arith, v))))
-        ];
+  -- a column's stop is listed
+  pub stop-found : {n c : ℕ} {stops : List ℕ} {r : ℕ} → c < n → Stops n starts rows nz stops → Stop starts rows nz c r
+      → StopFound n c starts rows nz stops (set stops c r) r
+  stop-found {n} {c} {stops} {r} inside S T = record {
+    long = length-set stops c r;
+    listed = record {
+      fits = rw length-set (S .fits);
+      stop = λ x l o.
+          elim (ℕ-discrete c x) [
+            | yes q ↦
+                (let v : getD (set stops c r) x 0 ≡ r = ap (λ (y : ℕ). getD (set stops c r) y 0) (sym q) ∙ getD-set-same stops c r 0 (omega (arith, S .fits)) in
+                subst (λ (y : ℕ). Stop starts rows nz y (getD (set stops c r) x 0)) q (subst (λ (y : ℕ). Stop starts rows nz c y) (sym v) T))
+            | no m ↦
+                (let v : getD (set stops c r) x 0 ≡ getD stops x 0 = getD-set-other stops c x r 0 (λ q. m (sym q)) in
+                subst (λ (y : ℕ). Stop starts rows nz x y) (sym v) (S .stop x l (omega (arith, v))))
+          ];
+    };
+    stop = T;
   }

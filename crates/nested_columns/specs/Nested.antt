@@ -1,11 +1,10 @@
--- Columns whose descendants are one of them and descendants of that one: where that one is stored, and a list of such places.
+-- Columns whose descendants are one of them and descendants of that one: where that one is stored, and a list of the places found so far.
 -- Assumes nothing.
 use Prim.Native.Nat.{ℕ, _+_, _-_, _≤_, _<_}
 use mathlib.Core.Path.{_≡_}
 use mathlib.Core.Bool.{Bool, true}
 use mathlib.Core.List.{List}
 use lib.ListN.{length, getD}
-use Rattle.refusal.specs.Bounds.{maxDimension}
 use Rattle.columns.specs.Columns.{start, row}
 use Rattle.columns.specs.Kept.{keptBelow, pattern}
 use Rattle.columns.specs.Factor.{Factor}
@@ -18,13 +17,25 @@ pub record Nested (starts rows : List ℕ) (nz : ℕ → Bool) (c q : ℕ) : Typ
   pub kept : keptBelow rows nz c q ≡ true
   pub rest : (d : ℕ) → descends (pattern starts rows nz) c d ≡ true → (d ≡ row rows q → ⊥) → descends (pattern starts rows nz) (row rows q) d ≡ true
 
--- the place after such a place, for each of n columns, or 0
+-- the place after such a place of column c, or the column's end
+pub record Stop (starts rows : List ℕ) (nz : ℕ → Bool) (c r : ℕ) : Type 0 where
+  pub upto : r ≤ start starts (c + 1)
+  pub after : r < start starts (c + 1) → 0 < r
+  pub nested : r < start starts (c + 1) → Nested starts rows nz c (r - 1)
+
+-- for each of n columns its stop, or 0
 pub record Stops (n : ℕ) (starts rows : List ℕ) (nz : ℕ → Bool) (stops : List ℕ) : Type 0 where
   pub fits : n ≤ length stops
-  pub nested : (c : ℕ) → c < n → 0 < getD stops c 0 → Nested starts rows nz c (getD stops c 0 - 1)
+  pub stop : (c : ℕ) → c < n → 0 < getD stops c 0 → Stop starts rows nz c (getD stops c 0)
 
--- a factor, and room for a place for each column
-pub record StopsInput (n : ℕ) (starts rows : List ℕ) (values : ℕ) (stops : List ℕ) : Type 0 where
-  pub small : n ≤ maxDimension
+-- a factor, one of its columns, and a list of stops
+pub record StopInput (n c : ℕ) (starts rows : List ℕ) (nz : ℕ → Bool) (values : ℕ) (stops : List ℕ) : Type 0 where
   pub factor : Factor n starts rows values
-  pub stops-fit : n ≤ length stops
+  pub inside : c < n
+  pub listed : Stops n starts rows nz stops
+
+-- the column's stop, and a list of stops after it
+pub record StopFound (n c : ℕ) (starts rows : List ℕ) (nz : ℕ → Bool) (stops₀ stops : List ℕ) (r : ℕ) : Type 0 where
+  pub long : length stops ≡ length stops₀
+  pub listed : Stops n starts rows nz stops
+  pub stop : Stop starts rows nz c r

@@ -1,12 +1,12 @@
-// For each column, where one of its descendants is stored of which every other one is a descendant.
+// A column's stop: where one of its descendants is stored of which every other one is a descendant.
 ghost use mathlib.Core.Path.{_≡_};
 ghost use mathlib.Core.Bool.{true};
 ghost use Prim.Native.Nat.{_<_};
 ghost use lib.ListN.{length};
 ghost use Rattle.columns.specs.Kept.{nonzero, keptBelow};
 ghost use Rattle.columns.specs.Factor.{Factor, Column};
-ghost use Rattle.nested_columns.specs.Nested.{Stops, StopsInput};
-ghost use Rattle.nested_columns.specs.Covered.{FirstKept, PlaceInput, Place, CoveredInput, Covered, Stop};
+ghost use Rattle.nested_columns.specs.Nested.{Stop, StopInput, StopFound};
+ghost use Rattle.nested_columns.specs.Covered.{FirstKept, PlaceInput, Place, CoveredInput, Covered};
 use kept_diagonal::first_from;
 use words::at;
 
@@ -73,8 +73,9 @@ fn covered(a: usize, b: usize, s: usize, e: usize, rows: &[u32], values: &[f64])
     true
 }
 
-// The place after column c's first descendant, where every other one is a descendant of it; else 0.
-fn column_stop(n: usize, c: usize, starts: &[u32], rows: &[u32], values: &[f64]) -> u32
+// The place after column c's first descendant, where every other one is a descendant of it; else the column's end, which is always allowed
+// and costs a caller time alone.
+fn column_stop(n: usize, c: usize, starts: &[u32], rows: &[u32], values: &[f64]) -> usize
     requires { ⌜ Factor n (now starts) (now rows) (length (now values)) × (c < n) ⌝ }
     ensures { λ r. ⌜ Stop (now (starts .entry)) (now (rows .entry)) (nonzero (now (values .entry))) c r ⌝ }
 {
@@ -83,20 +84,29 @@ fn column_stop(n: usize, c: usize, starts: &[u32], rows: &[u32], values: &[f64])
     if q < e {
         let p = at(rows, q);
         if covered(q + 1, e, at(starts, p), at(starts, p + 1), rows, values) {
-            return (q + 1) as u32;
+            return q + 1;
         }
     }
-    0
+    e
 }
 
-// Lists the place after such a descendant for each column, 0 where its first one is none such: a 0 is always allowed, and costs a caller time alone.
-pub fn list_stops(n: usize, starts: &[u32], rows: &[u32], values: &[f64], stops: &mut [u32])
-    requires { ⌜ StopsInput n (now starts) (now rows) (length (now values)) (now stops) ⌝ }
-    ensures { λ _. ⌜ Stops n (now (starts .entry)) (now (rows .entry)) (nonzero (now (values .entry))) (now (stops .exit)) ⌝ }
+// Column c's stop: the one listed, or, where none is yet, the one then found and listed.
+pub fn find_stop(
+    n: usize,
+    c: usize,
+    starts: &[u32],
+    rows: &[u32],
+    values: &[f64],
+    stops: &mut [u32],
+) -> usize
+    requires { ⌜ StopInput n c (now starts) (now rows) (nonzero (now values)) (length (now values)) (now stops) ⌝ }
+    ensures { λ r. ⌜ StopFound n c (now (starts .entry)) (now (rows .entry)) (nonzero (now (values .entry))) (now (stops .entry)) (now (stops .exit)) r ⌝ }
 {
-    let mut c = 0;
-    while c < n {
-        stops[c] = column_stop(n, c, starts, rows, values);
-        c += 1;
+    let listed = at(stops, c);
+    if 0 < listed {
+        return listed;
     }
+    let stop = column_stop(n, c, starts, rows, values);
+    stops[c] = stop as u32;
+    stop
 }

@@ -1,9 +1,10 @@
 use mathlib.Core.Bool.{true}
-use Rattle.closure.proofs.Queue.{Serving, Column, serving-none, serving-next, serving-more, head-words, head-pairs, word-starts, word-end, word-most}
+use Rattle.closure.proofs.Queue.{Serving, Column, serving-none, serving-next, serving-more, head-words, head-pairs, word-starts, word-inside, word-end, word-most}
 use Rattle.closure.proofs.Queue.{column-none, column-skip, column-more, entry-rows, entry-values, entry-insert, finished, finished-past, above-dropped, zero-dropped, entry-kept, nonzero-not}
 use Rattle.pair_queue.specs.Marking.{columnOf}
 use Rattle.columns.specs.Kept.{nonzero, keptBelow}
 use Rattle.columns.specs.Columns.{start}
+use Rattle.nested_columns.specs.Nested.{Stops}
 use denote.Ref.{now}
 use borrow.Author.Needs.{needs}
 use native.Mathlib.Omega.{arith}
@@ -14,18 +15,22 @@ use Rattle.closure.proofs.close_queue.Statement.{statement}
 use Rattle.closure.proofs.close_queue.Tie as tie
 
 abbrev Inv-column : tie.InvT-column
-Inv-column n pairs starts rows values stops limit first scratch₀ count₀ head w r c end p₀ scratch count p =
+Inv-column n pairs starts rows values limit first stops scratch₀ count₀ head w r c stop end p₀ scratch count p =
     (length scratch ≡ length scratch₀) × Column n starts rows (nonzero values) limit scratch₀ count₀ head w scratch count p
 
 abbrev μ-column : tie.MeasureT-column
-μ-column n pairs starts rows values stops limit first scratch₀ count₀ head w r c end p₀ scratch count p = end - p
+μ-column n pairs starts rows values limit first stops scratch₀ count₀ head w r c stop end p₀ scratch count p = end - p
 
 abbrev Inv-queue : tie.InvT-queue
-Inv-queue n pairs starts rows values stops limit first scratch₀ count₀ head₀ scratch count head =
-    (length scratch ≡ length scratch₀) × (count ≤ limit) × Serving n starts rows (nonzero values) limit scratch₀ first scratch head count
+Inv-queue n pairs starts rows values limit first stops₀ scratch₀ count₀ head₀ stops scratch count head =
+    (length scratch ≡ length scratch₀)
+    × (count ≤ limit)
+    × Serving n starts rows (nonzero values) limit scratch₀ first scratch head count
+    × (length stops ≡ length stops₀)
+    × Stops n starts rows (nonzero values) stops
 
 abbrev μ-queue : tie.MeasureT-queue
-μ-queue n pairs starts rows values stops limit first scratch₀ count₀ head₀ scratch count head = pairs - head
+μ-queue n pairs starts rows values limit first stops₀ scratch₀ count₀ head₀ stops scratch count head = pairs - head
 
 -- ---- places of the code
 
@@ -35,8 +40,11 @@ begin q = q .before .before .before .before .before .before
 abbrev queue : tie.After-at Inv-column μ-column Inv-queue μ-queue → tie.At-queue Inv-column μ-column Inv-queue μ-queue
 queue a = a .before .before .before
 
+abbrev found : tie.At-column Inv-column μ-column Inv-queue μ-queue → tie.After-find-stop Inv-column μ-column Inv-queue μ-queue
+found k = k .before .before .before .before .before
+
 abbrev word : tie.At-column Inv-column μ-column Inv-queue μ-queue → tie.After-at Inv-column μ-column Inv-queue μ-queue
-word k = k .before .before .before
+word k = found k .before .before
 
 abbrev entry : tie.After-insert-closure-pair Inv-column μ-column Inv-queue μ-queue → tie.After-at3 Inv-column μ-column Inv-queue μ-queue
 entry i = i .before .before .before .before .before
@@ -59,9 +67,9 @@ in-column : (c : tie.In-column Inv-column μ-column Inv-queue μ-queue)
     → c .before .column .p < start (now (begin (queue (word (c .before))) .args .starts)) (columnOf (word (c .before) .at .result) + 1)
 in-column c =
     let e = c .before .before .before in
-    let a = e .before in
-    let q = queue a in
-    let m = word-most (nonzero (now (begin q .args .values))) (begin q .pre) (q .queue .inv .2) (a .before .before .queue-test .taken) (a .at .ensures) (e .column-end .ensures) in
+    let a = word (c .before) in
+    let s = begin (queue a) .args in
+    let m = word-most (now (s .starts)) (now (s .rows)) (a .at .result) (e .column-end .ensures) in
     omega (arith, c .column-test .taken)
 
 in-rows : (c : tie.In-column Inv-column μ-column Inv-queue μ-queue) → c .before .column .p < length (now (begin (queue (word (c .before))) .args .rows))
@@ -90,7 +98,7 @@ is-kept c =
 -- ---- the needs
 
 queue-holds : tie.Need-queue-holds Inv-column μ-column Inv-queue μ-queue
-queue-holds c = let s = c .before .before .before .before .before in (refl, s .pre .low, serving-none (nonzero (now (s .args .values))) (s .pre))
+queue-holds c = let s = c .before .before .before .before .before in (refl, s .pre .low, serving-none (nonzero (now (s .args .values))) (s .pre), refl, s .pre .stopped)
 
 add-at : tie.Need-add-at Inv-column μ-column Inv-queue μ-queue
 add-at c = let l = in-queue (c .before) in search needs
@@ -98,17 +106,30 @@ add-at c = let l = in-queue (c .before) in search needs
 at-requires : tie.Need-at-requires Inv-column μ-column Inv-queue μ-queue
 at-requires c κs = in-queue (c .before)
 
+find-stop-requires : tie.Need-find-stop-requires Inv-column μ-column Inv-queue μ-queue
+find-stop-requires c κs =
+    let a = c .before in
+    let q = queue a in
+    let s = begin q in
+    record {
+      factor = s .pre .factor;
+      inside = word-inside (nonzero (now (s .args .values))) (s .pre) (q .queue .inv .2) (a .before .before .queue-test .taken) (a .at .ensures);
+      listed = q .queue .inv .4;
+    }
+
 column-end-requires : tie.Need-column-end-requires Inv-column μ-column Inv-queue μ-queue
 column-end-requires c κs =
-    let q = queue c in
-    word-end (nonzero (now (begin q .args .values))) (begin q .pre) (q .queue .inv .2) (c .before .before .queue-test .taken) (c .at .ensures)
+    let f = c .before .before in
+    let a = f .before .before in
+    let q = queue a in
+    word-end (nonzero (now (begin q .args .values))) (begin q .pre) (q .queue .inv .2) (a .before .before .queue-test .taken) (a .at .ensures) (f .find-stop .ensures .stop)
 
 at-requires-2 : tie.Need-at-requires-2 Inv-column μ-column Inv-queue μ-queue
-at-requires-2 c κs = let l = in-starts (c .before) in omega arith
+at-requires-2 c κs = let l = in-starts (c .before .before .before .before .before) in omega arith
 
 column-holds : tie.Need-column-holds Inv-column μ-column Inv-queue μ-queue
 column-holds c =
-    let a = c .before .before in
+    let a = c .before .before .before .before .before .before in
     let q = queue a in
     let s = begin q in
     let l = a .before .before .queue-test .taken in
@@ -118,7 +139,9 @@ at-requires-3 : tie.Need-at-requires-3 Inv-column μ-column Inv-queue μ-queue
 at-requires-3 c κs = in-rows c
 
 mul-l : tie.Need-mul-l Inv-column μ-column Inv-queue μ-queue
-mul-l c = let l = in-values (c .before) in search needs
+mul-l c =
+    let a = word (c .before .before) in
+    omega (arith, in-column (c .before), queue a .before .before .before .before .before .shared-slice-known .given (columnOf (a .at .result) + 1))
 
 shared-slice-read-l : tie.Need-shared-slice-read-l Inv-column μ-column Inv-queue μ-queue
 shared-slice-read-l c = in-values (c .before .before)
@@ -196,11 +219,15 @@ queue-again c =
     let s = begin q in
     let K = k .column .inv in
     let h = c .column-test .left in
-    let U = serving-next (nonzero (now (s .args .values))) (s .pre) (q .queue .inv .2) (K .1) (k .before .before .column-end .ensures) (omega arith) in
-    (K .0 ∙ q .queue .inv .0, K .1 .low, U)
+    let f = found k .find-stop .ensures in
+    let U = serving-next (nonzero (now (s .args .values))) (s .pre) (q .queue .inv .2) (K .1) (f .stop) (k .before .before .column-end .ensures) (omega arith) in
+    (K .0 ∙ q .queue .inv .0, K .1 .low, U, f .long ∙ q .queue .inv .3, f .listed)
 
 same-length : tie.Need-same-length Inv-column μ-column Inv-queue μ-queue
-same-length c = c .before .queue .inv .0
+same-length c = c .before .queue .inv .3
+
+same-length-2 : tie.Need-same-length-2 Inv-column μ-column Inv-queue μ-queue
+same-length-2 c = c .before .queue .inv .0
 
 returns : tie.Need-returns Inv-column μ-column Inv-queue μ-queue
 returns c =
@@ -208,8 +235,13 @@ returns c =
     let s = begin q in
     finished (nonzero (now (s .args .values))) (s .pre) (q .queue .inv .2) (c .queue-test .left)
 
-same-length-2 : tie.Need-same-length-2 Inv-column μ-column Inv-queue μ-queue
-same-length-2 c =
+same-length-3 : tie.Need-same-length-3 Inv-column μ-column Inv-queue μ-queue
+same-length-3 c =
+    let k = entry (c .before .before .before) .before .before in
+    found k .find-stop .ensures .long ∙ queue (word k) .queue .inv .3
+
+same-length-4 : tie.Need-same-length-4 Inv-column μ-column Inv-queue μ-queue
+same-length-4 c =
     let i = c .before .before .before in
     let k = entry i .before .before in
     i .insert-closure-pair .ensures .also .gained .long ∙ k .column .inv .0 ∙ queue (word k) .queue .inv .0
@@ -237,6 +269,7 @@ close-queue-spec =
     queue-holds
     add-at
     at-requires
+    find-stop-requires
     column-end-requires
     at-requires-2
     column-holds
@@ -255,6 +288,8 @@ close-queue-spec =
     queue-less
     queue-again
     same-length
-    returns
     same-length-2
+    returns
+    same-length-3
+    same-length-4
     returns-2)

@@ -1,22 +1,15 @@
 use Rattle.closure.proofs.Answer.{closes, requests-past, queue-past, queue-complete}
 use Rattle.columns.specs.Kept.{nonzero}
+use Rattle.nested_columns.specs.Covered.{stops-none}
 use denote.Ref.{now}
 use borrow.Author.Needs.{needs}
 use native.Mathlib.Omega.{arith}
-use Prim.Native.Nat.{ℕ, _≤_, _<_, _-_, _+_}
-use mathlib.Core.Path.{_≡_, refl, ap, sym, _∙_}
-use lib.ListN.{length, getD}
 use Rattle.closure.proofs.takahashi_dependency_closure.Statement.{statement}
 use Rattle.closure.proofs.takahashi_dependency_closure.Tie as tie
-use Rattle.closure.proofs.takahashi_dependency_closure.Reads as reads
-use Rattle.closure.proofs.takahashi_dependency_closure.Lts as lts
-use Rattle.closure.proofs.close_queue.Reads as close-queue-reads
-use Rattle.nested_columns.proofs.list_stops.Reads as list-stops-reads
-use Rattle.pair_marks.proofs.pair_total.Reads as pair-total-reads
 
 -- where the call begins
 abbrev begin : tie.After-close-queue → tie.Start
-begin q = q .before .before .before .before .before .before .before .before .before .before .before .before
+begin q = q .before .before .before .before .before .before .before .before .before
 
 add-t12 : tie.Need-add-t12
 add-t12 c = search needs
@@ -26,12 +19,6 @@ returns c =
     let s = c .before .before .before .before .before in
     closes (λ req R. requests-past (nonzero (now (s .args .values))) (s .args .limit) (s .pre) req R (c .if1 .taken))
 
-slice-aggregate-list-stops : tie.Need-slice-aggregate-list-stops
-slice-aggregate-list-stops c = search needs
-
-list-stops-requires : tie.Need-list-stops-requires
-list-stops-requires c κs = search needs
-
 pair-total-requires : tie.Need-pair-total-requires
 pair-total-requires c κs = search needs
 
@@ -39,14 +26,23 @@ slice-aggregate-close-queue : tie.Need-slice-aggregate-close-queue
 slice-aggregate-close-queue c = search needs
 
 close-queue-requires : tie.Need-close-queue-requires
-close-queue-requires c κs = search needs
+close-queue-requires c κs =
+    let s = c .before .before .before .before .before .before .before .before in
+    record {
+      small = s .pre .small;
+      all = c .before .before .pair-total .ensures .0;
+      factor = s .pre .factor;
+      stopped = stops-none (s .pre .small);
+      marked = s .pre .marked;
+      low = c .before .before .before .if1 .left;
+    }
 
 same-length : tie.Need-same-length
 same-length c = search needs
 
 returns-2 : tie.Need-returns-2
 returns-2 c =
-    let q = c .before .before .before in
+    let q = c .before .before .before .before in
     let s = begin q in
     closes (λ req R. queue-past (nonzero (now (s .args .values))) (s .args .limit) (s .pre) req R (q .close-queue .ensures) (c .if2 .taken))
 
@@ -55,7 +51,7 @@ same-length-2 c = search needs
 
 returns-3 : tie.Need-returns-3
 returns-3 c =
-    let q = c .before .before .before in
+    let q = c .before .before .before .before in
     let s = begin q in
     closes (λ req R. queue-complete (nonzero (now (s .args .values))) (s .args .limit) (s .pre) req R (q .close-queue .ensures) (c .if2 .left))
 
@@ -65,8 +61,6 @@ takahashi-dependency-closure-spec =
     (tie.spec
     add-t12
     returns
-    slice-aggregate-list-stops
-    list-stops-requires
     pair-total-requires
     slice-aggregate-close-queue
     close-queue-requires

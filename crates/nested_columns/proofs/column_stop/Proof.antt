@@ -1,7 +1,7 @@
 use denote.Ref.{now}
 use Rattle.columns.specs.Kept.{nonzero}
 use Rattle.columns.specs.Factor.{factor-column}
-use Rattle.nested_columns.specs.Covered.{entry-inside, cover-input, cover-nested, stop-at, stop-none}
+use Rattle.nested_columns.specs.Covered.{entry-inside, cover-input, cover-nested, stop-at, stop-end}
 use borrow.Author.Needs.{needs}
 use native.Mathlib.Omega.{arith}
 use Prim.Native.Nat.{_+_}
@@ -59,11 +59,6 @@ covered-requires c κs =
 add-result : tie.Need-add-result
 add-result c = search needs
 
-cast-result : tie.Need-cast-result
-cast-result c =
-    let z = c .before .before .before .before .before .before .before .before .before .before .before .before in
-    omega (arith, c .before .before .before .before .before .before .before .before .at .ensures, c .before .before .before .before .before .before .before .before .before .before .before .shared-slice-known .given (z .args .c + 1))
-
 returns : tie.Need-returns
 returns c =
     let z = c .before .before .before .before .before .before .before .before .before .before .before .before in
@@ -77,10 +72,10 @@ returns c =
     (rw (c .before .before .at5 .ensures, c .before .before .before .at4 .ensures, c .before .before .before .before .at3 .ensures, e) at (c .before .covered .ensures (c .if2 .taken))))
 
 returns-2 : tie.Need-returns-2
-returns-2 c = stop-none
+returns-2 c = stop-end (c .before .before .before .before .before .before .before .before .at .ensures)
 
 returns-3 : tie.Need-returns-3
-returns-3 c = stop-none
+returns-3 c = stop-end (c .before .before .before .at .ensures)
 
 pub column-stop-spec : {M : Type 1} → statement M
 column-stop-spec =
@@ -97,7 +92,6 @@ column-stop-spec =
     at-requires-5
     covered-requires
     add-result
-    cast-result
     returns
     returns-2
     returns-3)
