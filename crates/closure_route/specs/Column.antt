@@ -3,6 +3,7 @@
 use Prim.Native.Nat.{ℕ, suc, _+_, _≤_, _<_, min, max}
 use native.Mathlib.Omega.{arith}
 use native.Mathlib.Nat.{eq-or-lt-of-le}
+use native.Mathlib.Decide.{decLe}
 use mathlib.Core.Path.{_≡_, refl, sym, ap, ap₂, subst, subst₂, _∙_}
 use mathlib.Core.Bool.{Bool, true, false}
 use mathlib.Core.Logic.{⊎-elim}
@@ -26,8 +27,9 @@ use Rattle.exact.specs.Exact.{floats, float-off, float-on}
 use Rattle.entries.specs.Entries.{columnCount, position, floatTable}
 use Rattle.entries.specs.Descendants.{float-solves}
 use Rattle.entries.specs.Position.{columnCount-mono, position-first, position-in, position-below, position-rises, position-found}
-use Rattle.route_sums.specs.Sums.{positionWord, inverseAt, sumBetween, sumBetween-cong, Summing}
-use Rattle.route_sums.specs.Stored.{putIf, putIf-length, putIf-other, entrySum, Storing, SumsStored}
+use Rattle.route_products.specs.Part.{putIf, putIf-length, putIf-other}
+use Rattle.route_sums.specs.Sums.{positionWord, inverseAt, sumBetween, sumBetween-cong, entrySum, Summing}
+use Rattle.column_sums.specs.Stored.{Storing, SumsStored}
 use Rattle.route_finish.specs.Finish.{PartDivided, DiagonalRoom}
 use Rattle.closure_route.specs.Route.{ClosureRoute, SolvedFrom, Solved}
 
@@ -118,13 +120,39 @@ module _ {n : ℕ} {starts rows : List ℕ} {values : List Float} {firsts listed
   column-storing pairs j all jn =
       let most = column-most j jn in
       record {
+        small = G .small;
+        inside = jn;
         ordered = columnCount-mono n S j (j + 1) (omega arith);
         fits = omega (arith, G .values-fit);
         listed = omega (arith, G .rows-fit);
+        column = column j jn;
+        ascends = λ q q′ lo l hi.
+            let w = place j q jn lo (omega arith) in
+            let v = place j q′ jn (omega arith) hi in
+            omega (arith, w .5, v .5, placed-rise w v l);
         sums = λ q lo hi b. let w = place j q jn lo hi in rw (w .5) (column-summing pairs (w .0) j all (w .1) (w .2) (w .3));
         behind = λ q p lo hi b a e k. let w = place j q jn lo hi in rw (w .5) (later (w .0) p (omega (arith, w .5)) (w .2) (w .3) (a, e, k));
+        rises = λ q q′ p lo l hi b a e k up.
+            let w = place j q jn lo (omega arith) in
+            let v = place j q′ jn (omega arith) hi in
+            rw (w .5, v .5) (down (w .0) (v .0) p (omega (arith, w .5)) (placed-rise w v l) (v .2) (w .3) (v .3) (a, e, k) (omega (arith, w .5)));
+        follows = λ q p p′ lo hi b a l e k k′ less.
+            let w = place j q jn lo hi in
+            rw (w .5) (along (w .0) p p′ (omega (arith, w .5)) (w .2) (w .3) (a, omega arith, k) (omega arith, e, k′) l (omega (arith, w .5)));
       }
     where
+      -- the rows of the column's entries rise
+      placed-rise : {q q′ : ℕ} (w : Place j q) (v : Place j q′) → q < q′ → w .0 < v .0
+      placed-rise {q} {q′} w v l =
+          elim (decLe (v .0) (w .0)) [
+            | yes h ↦
+                elim (decLe (w .0) (v .0)) [
+                  | yes m ↦ (let x : w .0 ≡ v .0 = omega arith in absurd (omega (arith, w .4, v .4, ap (λ (r : ℕ). position n S r j) x)))
+                  | no m ↦ absurd (omega (arith, w .4, v .4, position-rises n S (v .0) (w .0) j (v .1) (omega arith) (v .3)))
+                ]
+            | no h ↦ omega arith
+          ]
+
       later : (r p : ℕ) → j < r → r < n → S r j ≡ true → Kept j p → columnCount n S (j + 1) ≤ positionWord n scratch r (row rows p)
       later r p h l t k =
           let b = row-inside j p jn (k .0) (k .1) in
@@ -132,6 +160,45 @@ module _ {n : ℕ} {starts rows : List ℕ} {values : List Float} {firsts listed
           let w = word-is r (row rows p) l b (dependency r j p (omega arith) l t k) in
           let m = columnCount-mono n S (j + 1) (min r (row rows p)) (omega arith) in
           omega arith
+
+      -- down the column of a descendant
+      down : (r r′ p : ℕ) → j < r → r < r′ → r′ < n → S r j ≡ true → S r′ j ≡ true → Kept j p → row rows p ≤ r
+          → positionWord n scratch r (row rows p) < positionWord n scratch r′ (row rows p)
+      down r r′ p h less l t t′ k up =
+          let x = row rows p in
+          let b = row-inside j p jn (k .0) (k .1) in
+          let m = dependency r j p (omega arith) (omega arith) t k in
+          let e₁ : max r x ≡ r = omega arith in
+          let e₂ : min r x ≡ x = omega arith in
+          let e₃ : max r′ x ≡ r′ = omega arith in
+          let e₄ : min r′ x ≡ x = omega arith in
+          omega (
+            arith,
+            word-is r x (omega arith) b m ∙ ap₂ (position n S) e₁ e₂,
+            word-is r′ x l b (dependency r′ j p (omega arith) l t′ k) ∙ ap₂ (position n S) e₃ e₄,
+            position-rises n S r r′ x up less (subst₂ (λ (a c : ℕ). S a c ≡ true) e₁ e₂ m),
+          )
+
+      -- along the column of the row
+      along : (r p p′ : ℕ) → j < r → r < n → S r j ≡ true → Kept j p → Kept j p′ → p < p′ → r < row rows p
+          → positionWord n scratch r (row rows p) < positionWord n scratch r (row rows p′)
+      along r p p′ h l t k k′ less up =
+          let x = row rows p in
+          let x′ = row rows p′ in
+          let b = row-inside j p jn (k .0) (k .1) in
+          let b′ = row-inside j p′ jn (k′ .0) (k′ .1) in
+          let more = column j jn .ascends p p′ (k .0) less (k′ .1) in
+          let m = dependency r j p (omega arith) l t k in
+          let e₁ : max r x ≡ x = omega arith in
+          let e₂ : min r x ≡ r = omega arith in
+          let e₃ : max r x′ ≡ x′ = omega arith in
+          let e₄ : min r x′ ≡ r = omega arith in
+          omega (
+            arith,
+            word-is r x l b m ∙ ap₂ (position n S) e₁ e₂,
+            word-is r x′ l b′ (dependency r j p′ (omega arith) l t k′) ∙ ap₂ (position n S) e₃ e₄,
+            position-rises n S x x′ r (omega arith) more (subst₂ (λ (a c : ℕ). S a c ≡ true) e₁ e₂ m),
+          )
 
   -- what the diagonal's entry asks
   column-diagonal : (pairs j : ℕ) → pairs ≡ pairTotal n → j < n

@@ -7,11 +7,11 @@ ghost use Rattle.lists.specs.Overwrite.{overwrite};
 ghost use Rattle.pairs.specs.ColumnOrder.{columnMarking};
 ghost use Rattle.entries.specs.Entries.{entryValues, floatTable};
 ghost use Rattle.closure_route.specs.Route.{ClosureRoute, ColumnStep, Solved};
+use column_sums::store_sums;
 use kept_diagonal::diagonal;
 use pair_marks::pair_total;
 use route_finish::divide_part;
 use route_finish::store_diagonal;
-use route_sums::store_sums;
 use words::at;
 
 // The entries of column j, once those of the later columns are there: the sums, their division, and last the diagonal's entry.

@@ -1,2 +1,3 @@
--- Where an entry of the inverse is read.
+-- Where an entry of the inverse is read, and entries that stand one after the other.
 pub mod Position
+pub mod Run

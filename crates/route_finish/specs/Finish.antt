@@ -19,7 +19,7 @@ use Rattle.pairs.specs.ColumnOrder.{columnMarking}
 use Rattle.columns.specs.Columns.{row}
 use Rattle.exact.specs.Exact.{float-off}
 use Rattle.route_sums.specs.Sums.{Summing}
-use Rattle.route_sums.specs.Stored.{putIf, putIf-length, putIf-other}
+use Rattle.route_products.specs.Part.{putIf, putIf-length, putIf-other}
 
 -- the first k places of a column's own part are divided where their row is below j, and the later ones as they were
 pub record Divided (j : ℕ) (d : Float) (rows : List ℕ) (k : ℕ) (part₀ part : List Float) : Type 0 where

@@ -1,4 +1,3 @@
--- The sums of the recurrence, over a column's stored entries, and a column's sums while they are stored.
+-- Sums of the recurrence over a column's stored entries.
 pub mod Sums
-pub mod Stored
-pub mod Column
+pub mod Rest

@@ -31,6 +31,14 @@ withProduct rows values j r p sum = run floats r sum (entriesAt rows values (one
 unfoldable pub sumBetween : List ℕ → List Float → ℕ → (ℕ → Float) → ℕ → ℕ → Float
 sumBetween rows values j r s e = dot floats r (entriesAt rows values (select (keptBelow rows (nonzero values) j) s e))
 
+-- x is the sum up to e, where `sum` is that up to `first`
+abbrev pub Continued : List ℕ → List Float → ℕ → (ℕ → Float) → ℕ → ℕ → Float → Float → Type 0
+Continued rows values j r first e sum x = (s : ℕ) → s ≤ first → sum ≡ sumBetween rows values j r s first → x ≡ sumBetween rows values j r s e
+
+-- the sum for row i of column j, whose entries are stored from s to e
+abbrev pub entrySum : ℕ → ℕ → ℕ → ℕ → List ℕ → List Float → List ℕ → List Float → ℕ → Float
+entrySum n j s e rows values scratch inverse i = sumBetween rows values j (inverseAt n scratch inverse i) s e
+
 -- a stored entry whose product can be taken
 pub record Adding (n pairs i j p : ℕ) (rows : List ℕ) (values : List Float) (scratch : List ℕ) (size : ℕ) : Type 0 where
   pub small : n ≤ maxDimension
@@ -64,6 +72,24 @@ summing-entry S p lo hi = record {
   inside = S .inside p lo hi;
   room = S .room;
   known = S .known p lo hi;
+}
+
+-- those from m on
+pub summing-from : {n pairs i j s e : ℕ} {rows : List ℕ} {values : List Float} {scratch : List ℕ} {size : ℕ}
+    → Summing n pairs i j s e rows values scratch size → (m : ℕ) → s ≤ m → m ≤ e → Summing n pairs i j m e rows values scratch size
+summing-from S m lo hi = record {
+  small = S .small;
+  all = S .all;
+  left = S .left;
+  column = record {
+    ordered = hi;
+    stored = S .column .stored;
+    weighed = S .column .weighed;
+    ascends = λ q p a. S .column .ascends q p (omega arith);
+  };
+  inside = λ p a. S .inside p (omega arith);
+  room = S .room;
+  known = λ p a. S .known p (omega arith);
 }
 
 -- the inverse's entry for it
@@ -115,8 +141,9 @@ module _ (rows : List ℕ) (values : List Float) (j : ℕ) (r : ℕ → Float) (
       ∙ ap (dot floats r) (map-append (entry rows values) (select test s p) (one (test p) p))
       ∙ run-append floats r zero-float (entriesAt rows values (select test s p)) _
 
-module _ (rows : List ℕ) (values : List Float) (j : ℕ) (r r′ : ℕ → Float) (s : ℕ) where
-  product-same : (p : ℕ) (sum : Float) → (keptBelow rows (nonzero values) j p ≡ true → r (row rows p) ≡ r′ (row rows p))
+module _ (rows : List ℕ) (values : List Float) (j : ℕ) (r r′ : ℕ → Float) where
+  -- a product needs the inverse's entry at its row alone, if it is kept
+  pub product-same : (p : ℕ) (sum : Float) → (keptBelow rows (nonzero values) j p ≡ true → r (row rows p) ≡ r′ (row rows p))
       → withProduct rows values j r p sum ≡ withProduct rows values j r′ p sum
   product-same p sum h = go (keptBelow rows (nonzero values) j p) refl
     where
@@ -125,6 +152,7 @@ module _ (rows : List ℕ) (values : List Float) (j : ℕ) (r r′ : ℕ → Flo
       go true t = ap (λ (x : Float). add binary64 sum (mul binary64 (value values p) x)) (h t)
       go false t = refl
 
+module _ (rows : List ℕ) (values : List Float) (j : ℕ) (r r′ : ℕ → Float) (s : ℕ) where
   same-to : (m : ℕ) → ((p : ℕ) → s ≤ p → p < s + m → keptBelow rows (nonzero values) j p ≡ true → r (row rows p) ≡ r′ (row rows p))
       → sumBetween rows values j r s (s + m) ≡ sumBetween rows values j r′ s (s + m)
   unfolding sumBetween
@@ -144,7 +172,7 @@ module _ (rows : List ℕ) (values : List Float) (j : ℕ) (r r′ : ℕ → Flo
       other before =
           ap (λ (e : ℕ). sumBetween rows values j r s e) q ∙ sumBetween-next rows values j r s (s + m) (omega arith)
           ∙ ap (withProduct rows values j r (s + m)) before
-          ∙ product-same (s + m) (sumBetween rows values j r′ s (s + m)) (h (s + m) (omega arith) (omega arith))
+          ∙ product-same rows values j r r′ (s + m) (sumBetween rows values j r′ s (s + m)) (h (s + m) (omega arith) (omega arith))
           ∙ sym (ap (λ (e : ℕ). sumBetween rows values j r′ s e) q ∙ sumBetween-next rows values j r′ s (s + m) (omega arith))
 
   -- the sum needs the inverse's entries at the kept rows alone

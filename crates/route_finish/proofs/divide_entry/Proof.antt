@@ -6,7 +6,7 @@ use denote.Ref.{now}
 use borrow.Author.Needs.{needs}
 use borrow.Author.Tests.{lt-ltb, le-ltb}
 use Rattle.exact.specs.Exact.{float-off}
-use Rattle.route_sums.specs.Stored.{putIf}
+use Rattle.route_products.specs.Part.{putIf}
 use Rattle.route_finish.proofs.divide_entry.Statement.{statement}
 use Rattle.route_finish.proofs.divide_entry.Tie as tie
 

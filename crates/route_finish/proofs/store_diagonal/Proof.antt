@@ -10,7 +10,8 @@ use Rattle.bits.specs.Bits.{bitAt}
 use Rattle.pairs.specs.ColumnOrder.{columnMarking}
 use Rattle.pair_queue.specs.Marking.{place-word}
 use Rattle.exact.specs.Exact.{float-on}
-use Rattle.route_sums.specs.Stored.{putIf, entrySum}
+use Rattle.route_products.specs.Part.{putIf}
+use Rattle.route_sums.specs.Sums.{entrySum}
 use Rattle.route_finish.proofs.store_diagonal.Statement.{statement}
 use Rattle.route_finish.proofs.store_diagonal.Tie as tie
 

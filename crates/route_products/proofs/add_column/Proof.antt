@@ -1,93 +1,151 @@
-use Prim.Native.Nat.{ℕ, _+_, _≤_, _-_}
+use borrow.Author.Needs.{needs}
 use native.Mathlib.Omega.{arith}
-use mathlib.Core.Path.{_≡_, refl, subst, _∙_}
-use mathlib.Core.List.{List}
-use lib.Ieee.{Float}
+use Prim.Native.Nat.{ℕ, _<_, _-_, _+_}
+use mathlib.Core.Path.{_≡_, _∙_}
 use lib.ListN.{length}
 use denote.Ref.{now}
-use borrow.Author.Needs.{needs}
 use Rattle.pairs.specs.ColumnOrder.{colStart}
-use Rattle.route_products.specs.Part.{PartSet, below, part-none}
-use Rattle.route_products.specs.Products.{columnTerms, column-base, column-entry, column-more}
+use Rattle.route_products.specs.Products.{columnPosition, column-base, column-inside, column-holds}
+use Rattle.route_products.specs.Products.{column-rows, rows-column, column-ordered, column-run, run-column}
 use Rattle.route_products.proofs.add_column.Statement.{statement}
 use Rattle.route_products.proofs.add_column.Tie as tie
 
-abbrev Inv-loop : tie.InvT-loop
-Inv-loop n pairs j k l first last entry-rows scratch inverse₀ base q₀ inverse q =
-    (length inverse ≡ length inverse₀) × (first ≤ q) × (q ≤ last) × (base + k ≡ pairs + colStart n k)
-    × PartSet (below j entry-rows) first q (columnTerms n k l entry-rows scratch inverse₀) inverse₀ inverse
+abbrev start : tie.After-column-shift → tie.Start
+start c = c .before .before .before .before
 
-abbrev μ-loop : tie.MeasureT-loop
-μ-loop n pairs j k l first last entry-rows scratch inverse₀ base q₀ inverse q = last - q
+abbrev based : tie.After-column-shift → ℕ
+based c = start c .args .pairs + c .column-shift .result
 
-abbrev start : tie.At-loop Inv-loop μ-loop → tie.Start Inv-loop μ-loop
-start q = q .before .before .before .before .before
+shifted : (c : tie.After-column-shift) → based c + start c .args .k ≡ start c .args .pairs + colStart (start c .args .n) (start c .args .k)
+shifted c = omega (arith, c .column-shift .ensures)
 
--- what is known of the column up to q
-abbrev Added-to : tie.Start Inv-loop μ-loop → ℕ → List Float → Type 0
-Added-to s q z =
-    let a = s .args in
-    let z₀ = now (a .inverse) in
-    PartSet (below (a .j) (now (a .entry-rows))) (a .first) q (columnTerms (a .n) (a .k) (a .l) (now (a .entry-rows)) (now (a .scratch)) z₀) z₀ z
+abbrev positionAt : tie.After-column-shift → ℕ → ℕ
+positionAt c q =
+    let a = start c .args in
+    columnPosition (a .n) (a .k) (now (a .entry-rows)) (now (a .scratch)) q
 
-column-shift-requires : tie.Need-column-shift-requires Inv-loop μ-loop
+-- the word and the position of the first row
+first-inside : (c : tie.After-at) → based (c .before) + c .at .result < length (now (start (c .before) .args .scratch))
+first-inside c =
+    let s = start (c .before) in
+    column-inside (s .pre) _ (shifted (c .before)) (s .args .from) (omega arith) (s .pre .some) (c .at .result) (c .at .ensures)
+
+first-is : (c : tie.After-at2) → c .at2 .result ≡ positionAt (c .before .before) (start (c .before .before) .args .from)
+first-is c =
+    let r = c .before in
+    let s = start (r .before) in
+    c .at2 .ensures
+    ∙ column-holds (s .pre) _ (shifted (r .before)) (s .args .from) (omega arith) (s .pre .some) (r .at .result) (r .at .ensures)
+
+-- and of the last one
+last-inside : (c : tie.After-at3) →
+    let d = c .before .before .before in
+    based d + c .at3 .result < length (now (start d .args .scratch))
+last-inside c =
+    let d = c .before .before .before in
+    let p = start d .pre in
+    column-inside p _ (shifted d) (start d .args .last - 1) (omega (arith, p .some)) (omega (arith, p .some)) (c .at3 .result) (c .at3 .ensures)
+
+last-is : (c : tie.After-at4) →
+    let d = c .before .before .before .before in
+    c .at4 .result ≡ positionAt d (start d .args .last - 1)
+last-is c =
+    let r = c .before in
+    let d = r .before .before .before in
+    let p = start d .pre in
+    c .at4 .ensures
+    ∙ column-holds p _ (shifted d) (start d .args .last - 1) (omega (arith, p .some)) (omega (arith, p .some)) (r .at3 .result) (r .at3 .ensures)
+
+column-shift-requires : tie.Need-column-shift-requires
 column-shift-requires c κs = search needs
 
-add-base : tie.Need-add-base Inv-loop μ-loop
-add-base c = omega (arith, column-base (c .before .before .before .before .pre) _ (c .column-shift .ensures))
+add-base : tie.Need-add-base
+add-base c =
+    omega (arith, column-base (start c .pre) _ (c .column-shift .ensures))
 
-loop-holds : tie.Need-loop-holds Inv-loop μ-loop
-loop-holds c =
-    let p = c .before .before .before .before .pre in
-    (refl, omega arith, p .ordered, omega (arith, c .column-shift .ensures), part-none _ _ _ _)
+at-requires : tie.Need-at-requires
+at-requires c κs = search needs
 
-add-entry-requires : tie.Need-add-entry-requires Inv-loop μ-loop
-add-entry-requires c κs =
-    let t = c .before in
-    let l = t .before .loop in
-    rw (l .inv .0) (column-entry (start (t .before) .pre) (l .q) (l .inv .1) (t .loop-test .taken) _ (l .inv .3))
+add-at : tie.Need-add-at
+add-at c = omega (arith, first-inside c)
 
-add-q : tie.Need-add-q Inv-loop μ-loop
-add-q c = search needs
+at-requires-2 : tie.Need-at-requires-2
+at-requires-2 c κs = first-inside c
 
-loop-less : tie.Need-loop-less Inv-loop μ-loop
-loop-less c = search needs
+sub-at : tie.Need-sub-at
+sub-at c = search needs
 
-loop-again : tie.Need-loop-again Inv-loop μ-loop
-loop-again c =
-    let v = c .before .before in
-    let t = v .before .before in
-    let l = t .before .loop in
-    let s = start (t .before) in (
-      v .add-entry .kept .1 .1 .1 .1 .1 .1 .1 .1 .1 .0 ∙ l .inv .0,
-      omega (arith, l .inv .1),
-      omega (arith, t .loop-test .taken),
-      l .inv .3,
-      rw (v .add-entry .ensures) (column-more (s .pre) (l .q) (l .inv .1) (t .loop-test .taken) (s .args .l) (l .inv .4) refl),
-    )
+at-requires-3 : tie.Need-at-requires-3
+at-requires-3 c κs = search needs
 
-same-length : tie.Need-same-length Inv-loop μ-loop
+add-at-2 : tie.Need-add-at-2
+add-at-2 c = omega (arith, last-inside c)
+
+at-requires-4 : tie.Need-at-requires-4
+at-requires-4 c κs = last-inside c
+
+sub-if1 : tie.Need-sub-if1
+sub-if1 c =
+    let d = c .before .before in
+    column-ordered (start (d .before .before) .pre) _ _ (first-is d) (last-is c)
+
+sub-if1-2 : tie.Need-sub-if1-2
+sub-if1-2 c = search needs
+
+sub-if1-3 : tie.Need-sub-if1-3
+sub-if1-3 c = search needs
+
+add-run-requires : tie.Need-add-run-requires
+add-run-requires c κs =
+    let e = c .before .before in
+    let d = e .before .before in
+    column-run (start (d .before .before) .pre) _ _ (first-is d) (last-is e) (c .before .if1 .taken)
+
+add-rows-requires : tie.Need-add-rows-requires
+add-rows-requires c κs =
+    let d = c .before .before .before .before .before .before in
+    column-rows (start d .pre) _ (shifted d)
+
+same-length : tie.Need-same-length
 same-length c = search needs
 
-returns : tie.Need-returns Inv-loop μ-loop
+returns : tie.Need-returns
 returns c =
-    let l = c .before .loop in
-    let s = start (c .before) in
-    let e : l .q ≡ s .args .last = omega (arith, c .loop-test .left, l .inv .2) in
-    subst (λ (q : ℕ). Added-to s q (l .inverse)) e (l .inv .4)
+    let r = c .before .before in
+    let t = r .before .before in
+    let e = t .before in
+    let d = e .before .before in
+    let s = start (d .before .before) in
+    run-column (s .pre) _ _ (first-is d) (last-is e) (t .if1 .taken) (s .args .l) (r .add-run .ensures)
+
+same-length-2 : tie.Need-same-length-2
+same-length-2 c = search needs
+
+returns-2 : tie.Need-returns-2
+returns-2 c =
+    let r = c .before .before in
+    let d = r .before .before .before .before .before .before .before in
+    rows-column (start d .pre) _ (shifted d) (start d .args .l) (r .add-rows .ensures)
 
 pub add-column-spec : {M : Type 1} → statement M
 add-column-spec =
     tie.close
     (tie.spec
-    Inv-loop
-    μ-loop
     column-shift-requires
     add-base
-    loop-holds
-    add-entry-requires
-    add-q
-    loop-less
-    loop-again
+    at-requires
+    add-at
+    at-requires-2
+    sub-at
+    at-requires-3
+    add-at-2
+    at-requires-4
+    sub-if1
+    sub-if1-2
+    sub-if1-3
+    add-run-requires
+    add-rows-requires
     same-length
-    returns)
+    returns
+    same-length-2
+    returns-2)

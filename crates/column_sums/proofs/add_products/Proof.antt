@@ -1,0 +1,85 @@
+use Prim.Native.Nat.{ℕ, _≤_, _-_}
+use native.Mathlib.Omega.{arith}
+use mathlib.Core.Path.{_≡_, refl, subst, _∙_}
+use lib.ListN.{length}
+use denote.Ref.{now}
+use borrow.Author.Needs.{needs}
+use Rattle.column_sums.specs.Lower.{Passed, Lowered, lower-entry, lowered-none, passed-more, lowered-more}
+use Rattle.column_sums.proofs.add_products.Statement.{statement}
+use Rattle.column_sums.proofs.add_products.Tie as tie
+
+abbrev Inv-loop : tie.InvT-loop
+Inv-loop n pairs j first last s e rows values entry-rows scratch inverse₀ q₀ p₀ inverse q p =
+    (length inverse ≡ length inverse₀)
+    × (s ≤ p)
+    × (p ≤ e)
+    × (first ≤ q)
+    × (q ≤ last)
+    × Passed first q p e rows entry-rows
+    × Lowered n j first last s p rows values entry-rows scratch inverse₀ inverse
+
+abbrev μ-loop : tie.MeasureT-loop
+μ-loop n pairs j first last s e rows values entry-rows scratch inverse₀ q₀ p₀ inverse q p = e - p
+
+abbrev begin : tie.At-loop Inv-loop μ-loop → tie.Start Inv-loop μ-loop
+begin c = c .before .before .before .before .before .before
+
+loop-holds : tie.Need-loop-holds Inv-loop μ-loop
+loop-holds c =
+    let s = c .before .before .before .before .before in
+    let S = s .pre .sums .storing in
+    (refl, omega arith, S .column .ordered, omega arith, S .ordered, λ i t a b. absurd (omega arith), lowered-none (s .pre .sums) (now (s .args .inverse)) (s .pre .cleared))
+
+add-stored-requires : tie.Need-add-stored-requires Inv-loop μ-loop
+add-stored-requires c κs =
+    let t = c .before in
+    let l = t .before .loop in
+    rw (l .inv .0) (lower-entry (begin (t .before) .pre .sums) (l .p) (l .q) (l .inv .1) (t .loop-test .taken) (l .inv .3) (l .inv .4))
+
+add-p : tie.Need-add-p Inv-loop μ-loop
+add-p c = search needs
+
+loop-less : tie.Need-loop-less Inv-loop μ-loop
+loop-less c = let t = c .before .before .before .before in let h = t .loop-test .taken in omega arith
+
+loop-again : tie.Need-loop-again Inv-loop μ-loop
+loop-again c =
+    let d = c .before .before in
+    let t = d .before .before in
+    let l = t .before .loop in
+    let R = begin (t .before) .pre .sums in
+    let A = d .add-stored .ensures in
+    let h = t .loop-test .taken in (
+      A .long ∙ l .inv .0,
+      omega (arith, l .inv .1),
+      omega arith,
+      omega (arith, A .from, l .inv .3),
+      A .upto,
+      passed-more R (l .inv .1) h (l .inv .5) (l .inv .6) A,
+      lowered-more R (l .inv .1) h (l .inv .5) (l .inv .6) A,
+    )
+
+same-length : tie.Need-same-length Inv-loop μ-loop
+same-length c = c .before .loop .inv .0
+
+returns : tie.Need-returns Inv-loop μ-loop
+returns c =
+    let l = c .before .loop in
+    let a = begin (c .before) .args in
+    let e : l .p ≡ a .e = omega (arith, c .loop-test .left, l .inv .2) in
+    subst (λ (k : ℕ). Lowered (a .n) (a .j) (a .first) (a .last) (a .s) k (now (a .rows)) (now (a .values)) (now (a .entry-rows)) (now (a .scratch)) (now (a .inverse)) (l .inverse)) e
+    (l .inv .6)
+
+pub add-products-spec : {M : Type 1} → statement M
+add-products-spec =
+    tie.close
+    (tie.spec
+    Inv-loop
+    μ-loop
+    loop-holds
+    add-stored-requires
+    add-p
+    loop-less
+    loop-again
+    same-length
+    returns)

@@ -1,0 +1,80 @@
+use native.Mathlib.Omega.{arith}
+use mathlib.Core.Path.{_∙_}
+use lib.ListN.{length}
+use denote.Ref.{now}
+use borrow.Author.Needs.{needs}
+use Rattle.column_sums.specs.Stored.{Sums, from-sums, from-stored, none-stored}
+use Rattle.column_sums.specs.Upper.{sums-stored}
+use Rattle.column_sums.proofs.store_sums.Statement.{statement}
+use Rattle.column_sums.proofs.store_sums.Tie as tie
+
+abbrev begin : tie.After-first-from → tie.Start
+begin f = f .before .before .before .before .before .before
+
+-- the sums from the first row below the diagonal on
+sums : (t : tie.Then1) →
+    let f = t .before in
+    let a = begin f .args in
+    Sums (a .n) (a .pairs) (a .j) (f .first-from .result) (a .last) (a .s) (a .e) (now (a .rows)) (now (a .values)) (now (a .entry-rows)) (now (a .scratch))
+    (length (now (a .inverse)))
+sums t = let f = t .before in from-sums (f .first-from .ensures) (begin f .pre) (t .if1 .taken)
+
+add-first-from : tie.Need-add-first-from
+add-first-from c = let P = c .before .before .before .before .before .pre in omega (arith, P .inside, P .small)
+
+first-from-requires : tie.Need-first-from-requires
+first-from-requires c κs = search needs
+
+clear-part-requires : tie.Need-clear-part-requires
+clear-part-requires c κs = let S = sums (c .before) .storing in (S .ordered, S .fits)
+
+add-products-requires : tie.Need-add-products-requires
+add-products-requires c κs =
+    let d = c .before .before .before in
+    let C = d .clear-part .ensures in
+    record { sums = rw (C .long) (sums (d .before .before)); cleared = C .holds }
+
+has-zero-requires : tie.Need-has-zero-requires
+has-zero-requires c κs =
+    let d = c .before .before .before .before .before .before in
+    let K = sums (d .before .before) .storing .column in
+    (K .ordered, K .weighed)
+
+add-rests-requires : tie.Need-add-rests-requires
+add-rests-requires c κs =
+    let h = c .before in
+    let p = h .before .before .before in
+    let d = p .before .before .before .before in
+    record { sums = rw (p .add-products .ensures .long ∙ d .clear-part .ensures .long) (sums (d .before .before)); zero-is = h .has-zero .ensures }
+
+same-length : tie.Need-same-length
+same-length c =
+    let r = c .before .before in
+    let p = r .before .before .before .before .before in
+    let d = p .before .before .before .before in
+    r .add-rests .ensures .long ∙ p .add-products .ensures .long ∙ d .clear-part .ensures .long
+
+returns : tie.Need-returns
+returns c =
+    let r = c .before .before in
+    let p = r .before .before .before .before .before in
+    let d = p .before .before .before .before in
+    let t = d .before .before in
+    from-stored (t .before .first-from .ensures) (sums-stored (sums t) (d .clear-part .ensures) (p .add-products .ensures) (r .add-rests .ensures))
+
+returns-2 : tie.Need-returns-2
+returns-2 c = let f = c .before in none-stored (f .first-from .ensures) (now (begin f .args .inverse)) (c .if1 .left)
+
+pub store-sums-spec : {M : Type 1} → statement M
+store-sums-spec =
+    tie.close
+    (tie.spec
+    add-first-from
+    first-from-requires
+    clear-part-requires
+    add-products-requires
+    has-zero-requires
+    add-rests-requires
+    same-length
+    returns
+    returns-2)

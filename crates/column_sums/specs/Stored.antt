@@ -1,0 +1,118 @@
+-- The sums of a column, stored at the places of its entries below the diagonal.
+-- Assumes nothing.
+use Prim.Native.Nat.{ℕ, _+_, _≤_, _<_}
+use native.Mathlib.Omega.{arith}
+use native.Mathlib.Decide.{decLe}
+use mathlib.Core.Path.{_≡_, refl}
+use mathlib.Core.Bool.{true}
+use mathlib.Core.List.{List}
+use lib.ListN.{length, getD}
+use lib.Ieee.{Float, nan}
+use borrow.Author.Tests.{leb-false}
+use Rattle.lists.specs.Test.{anyIn-below}
+use Rattle.refusal.specs.Bounds.{maxDimension}
+use Rattle.columns.specs.Columns.{row, outsideAt}
+use Rattle.columns.specs.Kept.{nonzero, keptBelow}
+use Rattle.columns.specs.Factor.{Column, FirstFrom}
+use Rattle.route_sums.specs.Sums.{positionWord, inverseAt, entrySum, sumBetween-cong, Summing}
+
+-- the result's entries from first to below last of column j, whose factor entries are stored from s to below e: their sums can be taken from
+-- entries behind them, whose positions rise with either row of a pair along a column
+pub record Storing (n pairs j first last s e : ℕ) (rows : List ℕ) (values : List Float) (entryRows scratch : List ℕ) (size : ℕ) : Type 0 where
+  pub small : n ≤ maxDimension
+  pub inside : j < n
+  pub ordered : first ≤ last
+  pub fits : last ≤ size
+  pub listed : last ≤ length entryRows
+  pub column : Column rows (length values) s e
+  pub ascends : (q q′ : ℕ) → first ≤ q → q < q′ → q′ < last → row entryRows q < row entryRows q′
+  pub sums : (q : ℕ) → first ≤ q → q < last → j < row entryRows q → Summing n pairs (row entryRows q) j s e rows values scratch size
+  pub behind : (q p : ℕ) → first ≤ q → q < last → j < row entryRows q → s ≤ p → p < e → keptBelow rows (nonzero values) j p ≡ true
+      → last ≤ positionWord n scratch (row entryRows q) (row rows p)
+  pub rises : (q q′ p : ℕ) → first ≤ q → q < q′ → q′ < last → j < row entryRows q → s ≤ p → p < e → keptBelow rows (nonzero values) j p ≡ true
+      → row rows p ≤ row entryRows q → positionWord n scratch (row entryRows q) (row rows p) < positionWord n scratch (row entryRows q′) (row rows p)
+  pub follows : (q p p′ : ℕ) → first ≤ q → q < last → j < row entryRows q → s ≤ p → p < p′ → p′ < e → keptBelow rows (nonzero values) j p ≡ true
+      → keptBelow rows (nonzero values) j p′ ≡ true → row entryRows q < row rows p
+      → positionWord n scratch (row entryRows q) (row rows p) < positionWord n scratch (row entryRows q) (row rows p′)
+
+-- the sums of the entries from first to below q are stored, and the entries from q on are as they were
+pub record SumsStored (n j first q s e : ℕ) (rows : List ℕ) (values : List Float) (entryRows scratch : List ℕ) (z₀ z : List Float) : Type 0 where
+  pub long : length z ≡ length z₀
+  pub sums : (p : ℕ) → first ≤ p → p < q → j < row entryRows p → getD z p nan ≡ entrySum n j s e rows values scratch z₀ (row entryRows p)
+  pub after : (p : ℕ) → q ≤ p → getD z p nan ≡ getD z₀ p nan
+
+-- the same entries, where every row is below j
+pub record Sums (n pairs j first last s e : ℕ) (rows : List ℕ) (values : List Float) (entryRows scratch : List ℕ) (size : ℕ) : Type 0 where
+  pub storing : Storing n pairs j first last s e rows values entryRows scratch size
+  pub below : (q : ℕ) → first ≤ q → q < last → j < row entryRows q
+
+-- ---- a first place
+
+module _ {c : ℕ} {rows : List ℕ} {s e r : ℕ} (F : FirstFrom c rows s e r) where
+  -- the rows before it
+  pub first-less : (q : ℕ) → s ≤ q → q < r → row rows q < c
+  first-less q lo hi = leb-false c (row rows q) (anyIn-below (outsideAt c rows) s r q (F .before) lo hi)
+
+  -- there is one only
+  pub first-only : {t : ℕ} → FirstFrom c rows s e t → r ≡ t
+  first-only {t} G =
+      elim (decLe r t) [
+        | yes h ↦
+            elim (decLe t r) [
+              | yes l ↦ omega arith
+              | no l ↦ absurd (omega (arith, F .stops (omega (arith, G .upto)), leb-false c (row rows r) (anyIn-below (outsideAt c rows) s t r (G .before) (F .from) (omega arith))))
+            ]
+        | no h ↦ absurd (omega (arith, G .stops (omega (arith, F .upto)), first-less t (G .from) (omega arith)))
+      ]
+
+-- ---- what is written is not read
+
+module _ {n pairs j first last s e : ℕ} {rows : List ℕ} {values : List Float} {entryRows scratch : List ℕ} {size : ℕ}
+    (R : Sums n pairs j first last s e rows values entryRows scratch size) where
+  pub unread : (z₀ z : List Float) (p q : ℕ) → s ≤ p → p ≤ e → first ≤ q → q < last → ((i : ℕ) → last ≤ i → getD z i nan ≡ getD z₀ i nan)
+      → entrySum n j s p rows values scratch z (row entryRows q) ≡ entrySum n j s p rows values scratch z₀ (row entryRows q)
+  unread z₀ z p q lo hi a b after =
+      sumBetween-cong rows values j (inverseAt n scratch z (row entryRows q)) (inverseAt n scratch z₀ (row entryRows q)) s p lo
+      (λ i c d k. after _ (R .storing .behind q i a b (R .below q a b) c (omega arith) k))
+
+-- ---- from the first entry below the diagonal on
+
+module _ {n j first last s e : ℕ} {rows : List ℕ} {values : List Float} {entryRows scratch : List ℕ} {from : ℕ}
+    (F : FirstFrom (j + 1) entryRows first last from) where
+  pub from-sums : {pairs size : ℕ} → Storing n pairs j first last s e rows values entryRows scratch size → from < last
+      → Sums n pairs j from last s e rows values entryRows scratch size
+  from-sums R h = record {
+    storing = record {
+      small = R .small;
+      inside = R .inside;
+      ordered = F .upto;
+      fits = R .fits;
+      listed = R .listed;
+      column = R .column;
+      ascends = λ q q′ lo. R .ascends q q′ (omega (arith, F .from));
+      sums = λ q lo. R .sums q (omega (arith, F .from));
+      behind = λ q p lo. R .behind q p (omega (arith, F .from));
+      rises = λ q q′ p lo. R .rises q q′ p (omega (arith, F .from));
+      follows = λ q p p′ lo. R .follows q p p′ (omega (arith, F .from));
+    };
+    below = λ q lo hi.
+        elim (decLe q from) [
+          | yes l ↦ (let w : q ≡ from = omega arith in rw w (omega (arith, F .stops h)))
+          | no l ↦ omega (arith, F .stops h, R .ascends from q (F .from) (omega arith) hi)
+        ];
+  }
+
+  pub from-stored : {z₀ z : List Float} → SumsStored n j from last s e rows values entryRows scratch z₀ z
+      → SumsStored n j first last s e rows values entryRows scratch z₀ z
+  from-stored D = record {
+    long = D .long;
+    sums = λ q lo hi h. elim (decLe from q) [ yes p ↦ D .sums q p hi h | no p ↦ absurd (omega (arith, first-less F q lo (omega arith))) ];
+    after = D .after;
+  }
+
+  pub none-stored : (z : List Float) → last ≤ from → SumsStored n j first last s e rows values entryRows scratch z z
+  none-stored z l = record {
+    long = refl;
+    sums = λ q lo hi h. absurd (omega (arith, first-less F q lo (omega arith)));
+    after = λ q h. refl;
+  }
