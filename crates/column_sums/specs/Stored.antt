@@ -1,15 +1,16 @@
 -- The sums of a column, stored at the places of its entries below the diagonal.
 -- Assumes nothing.
-use Prim.Native.Nat.{ℕ, _+_, _≤_, _<_}
+use Prim.Native.Nat.{ℕ, _+_, _-_, _≤_, _<_}
 use native.Mathlib.Omega.{arith}
 use native.Mathlib.Decide.{decLe}
-use mathlib.Core.Path.{_≡_, refl}
-use mathlib.Core.Bool.{true}
+use mathlib.Core.Path.{_≡_, refl, sym, ap}
+use mathlib.Core.Bool.{true, false}
 use mathlib.Core.List.{List}
 use lib.ListN.{length, getD}
 use lib.Ieee.{Float, nan}
-use borrow.Author.Tests.{leb-false}
-use Rattle.lists.specs.Test.{anyIn-below}
+use lib.Dec.{ltb}
+use borrow.Author.Tests.{leb-true, leb-false, le-leb, ltb-true, lt-ltb}
+use Rattle.lists.specs.Test.{anyIn, anyIn-below, anyIn-all, anyIn-hit, anyIn-found, same-truth}
 use Rattle.refusal.specs.Bounds.{maxDimension}
 use Rattle.columns.specs.Columns.{row, outsideAt}
 use Rattle.columns.specs.Kept.{nonzero, keptBelow}
@@ -64,6 +65,25 @@ module _ {c : ℕ} {rows : List ℕ} {s e r : ℕ} (F : FirstFrom c rows s e r) 
             ]
         | no h ↦ absurd (omega (arith, G .stops (omega (arith, F .upto)), first-less t (G .from) (omega arith)))
       ]
+
+-- ---- a greater row: rows ascend, so the last decides
+
+module _ {rows : List ℕ} {s e : ℕ} (C : Column rows e s e) (i : ℕ) where
+  pub greater-none : e ≤ s → false ≡ anyIn (outsideAt (i + 1) rows) s e
+  greater-none h = sym (anyIn-all (outsideAt (i + 1) rows) s e (λ k lo hi. absurd (omega arith)))
+
+  pub greater-last : {k : ℕ} → s < e → k ≡ row rows (e - 1) → ltb i k ≡ anyIn (outsideAt (i + 1) rows) s e
+  greater-last {k} h w =
+      same-truth (ltb i k) (anyIn (outsideAt (i + 1) rows) s e)
+      (λ t. anyIn-hit (outsideAt (i + 1) rows) s e (e - 1) (omega arith) (omega arith) (le-leb (i + 1) (row rows (e - 1)) (omega (arith, ltb-true i k t))))
+      (λ t.
+      let f = anyIn-found (outsideAt (i + 1) rows) s e t in
+      let up : row rows (f .0) ≤ row rows (e - 1) =
+      elim (decLe (e - 1) (f .0)) [
+        | yes l ↦ (let q : f .0 ≡ e - 1 = omega (arith, f .2) in omega (arith, ap (row rows) q))
+        | no l ↦ omega (arith, C .ascends (f .0) (e - 1) (f .1) (omega arith) (omega arith))
+      ] in
+      lt-ltb i k (omega (arith, leb-true (i + 1) (row rows (f .0)) (f .3))))
 
 -- ---- what is written is not read
 

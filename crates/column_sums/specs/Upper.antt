@@ -10,8 +10,8 @@ use mathlib.Core.List.{List}
 use lib.ListN.{length, getD, set, length-set}
 use lib.Seq.{getD-set-same, getD-set-other}
 use lib.Ieee.{Float, nan}
-use borrow.Author.Tests.{lt-leb}
-use Rattle.lists.specs.Test.{anyIn, anyIn-all}
+use borrow.Author.Tests.{lt-leb, leb-false}
+use Rattle.lists.specs.Test.{anyIn, anyIn-all, anyIn-below}
 use Rattle.refusal.specs.Bounds.{maxDimension}
 use Rattle.columns.specs.Columns.{row, outsideAt}
 use Rattle.columns.specs.Factor.{FirstFrom}
@@ -156,6 +156,30 @@ module _ {n pairs j first last s e : ℕ} {zero : Bool} {rows : List ℕ} {value
       where
         other : (i : ℕ) → (q ≡ i → ⊥) → i < q + 1 → i < q
         other i k b = elim (decLe q i) [ yes l ↦ absurd (k (omega arith)) | no l ↦ omega arith ]
+
+-- no stored row is greater than one of the sums' rows
+module _ {n pairs j first last s e : ℕ} {rows : List ℕ} {values : List Float} {entryRows scratch : List ℕ} {size : ℕ}
+    (R : Sums n pairs j first last s e rows values entryRows scratch size) where
+  pub rests-idle : (z : List Float) → anyIn (outsideAt (row entryRows first + 1) rows) s e ≡ false → RestsAdded n j first last s e rows values entryRows scratch z z
+  rests-idle z h = record {
+    long = refl;
+    added = λ i f lo hi F w. w ∙ ap (λ (k : ℕ). entrySum n j s k rows values scratch z (row entryRows i)) (whole i f lo hi F);
+    after = λ i l. refl;
+  }
+    where
+      whole : (i f : ℕ) → first ≤ i → i < last → FirstFrom (row entryRows i + 1) rows s e f → f ≡ e
+      whole i f lo hi F =
+          elim (decLe e f) [
+            | yes l ↦ omega (arith, F .upto)
+            | no l ↦
+                (let least = leb-false (row entryRows first + 1) (row rows f) (anyIn-below (outsideAt (row entryRows first + 1) rows) s e f h (F .from) (omega arith)) in
+                let up : row entryRows first ≤ row entryRows i =
+                elim (decLe i first) [
+                  | yes x ↦ (let k : first ≡ i = omega arith in omega (arith, ap (row entryRows) k))
+                  | no x ↦ omega (arith, R .storing .ascends first i (omega arith) (omega arith) hi)
+                ] in
+                absurd (omega (arith, F .stops (omega arith))))
+          ]
 
 -- both passes, once the entries are cleared
 pub sums-stored : {n pairs j first last s e : ℕ} {rows : List ℕ} {values : List Float} {entryRows scratch : List ℕ} {size : ℕ}

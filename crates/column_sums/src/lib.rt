@@ -1,7 +1,11 @@
 // The sums of a column of the recurrence over a closed set, stored at the places of its entries below the diagonal. Of each sum the descendants
 // up to its row are added first, a descendant at a time to all sums; then the greater ones, a sum at a time. The order within a sum is ascending.
-ghost use Prim.Native.Nat.{_≤_};
+ghost use mathlib.Core.Path.{_≡_};
+ghost use Prim.Native.Nat.{_+_, _≤_};
 ghost use lib.ListN.{length};
+ghost use Rattle.lists.specs.Test.{anyIn};
+ghost use Rattle.columns.specs.Columns.{outsideAt};
+ghost use Rattle.columns.specs.Factor.{Column};
 ghost use Rattle.route_products.specs.Part.{PartSet, zeros};
 ghost use Rattle.column_sums.specs.Stored.{Storing, SumsStored};
 ghost use Rattle.column_sums.specs.Lower.{StoredRoom, Stepped, SumsRoom, Lowered};
@@ -180,6 +184,17 @@ fn add_rests(
     }
 }
 
+// Whether a row from s to e is greater than i. Rows ascend, so the last decides.
+fn has_greater(i: usize, s: usize, e: usize, rows: &[u32]) -> bool
+    requires { ⌜ Column (now rows) e s e ⌝ }
+    ensures { λ b. ⌜ b ≡ anyIn (outsideAt (i + 1) (now (rows .entry))) s e ⌝ }
+{
+    if e <= s {
+        return false;
+    }
+    i < at(rows, e - 1)
+}
+
 // Stores the sums of column j, whose entries in the result are those from first to last: each row below j.
 pub fn store_sums(
     n: usize,
@@ -216,21 +231,23 @@ pub fn store_sums(
             scratch,
             inverse,
         );
-        let zeros = has_zero(s, e, values);
-        add_rests(
-            n,
-            pairs,
-            j,
-            from,
-            last,
-            s,
-            e,
-            zeros,
-            rows,
-            values,
-            entry_rows,
-            scratch,
-            inverse,
-        );
+        if has_greater(at(entry_rows, from), s, e, rows) {
+            let zeros = has_zero(s, e, values);
+            add_rests(
+                n,
+                pairs,
+                j,
+                from,
+                last,
+                s,
+                e,
+                zeros,
+                rows,
+                values,
+                entry_rows,
+                scratch,
+                inverse,
+            );
+        }
     }
 }

@@ -51,7 +51,11 @@ fn add_rows(
     }
 }
 
-// Adds to each sum from `from` to last the product of the descendant k, whose factor entry is l.
+// A run shorter than this is not looked for.
+const SHORT: usize = 4;
+
+// Adds to each sum from `from` to last the product of the descendant k, whose factor entry is l. Where the positions of the first and the
+// last row differ by as much as their places, those between follow one another.
 pub fn add_column(
     n: usize,
     pairs: usize,
@@ -68,6 +72,10 @@ pub fn add_column(
         (now (inverse .entry)) (now (inverse .exit)) ⌝ }
 {
     let base = pairs + column_shift(n, k);
+    if last - from < SHORT {
+        add_rows(base, from, last, l, entry_rows, scratch, inverse);
+        return;
+    }
     let a = at(scratch, base + at(entry_rows, from));
     let b = at(scratch, base + at(entry_rows, last - 1));
     // Positions rise with the row, so here each is one past the position before it.

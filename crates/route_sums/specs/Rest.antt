@@ -37,11 +37,26 @@ pub record RunRoom (first e position values size : ℕ) : Type 0 where
   pub weighed : e ≤ values
   pub fits : position + (e - first) ≤ size
 
--- x is the sum after their products: whatever numbers f start with `sum` and go on by one product each, x is the last
-abbrev pub RunSummed : List Float → List Float → ℕ → ℕ → ℕ → Float → Float → Type 0
-RunSummed values z first e position sum x =
+-- a word for the row of each value from `first` to below e, `shift` words past it, with a position of the inverse
+pub record RowsRoom (shift first e : ℕ) (rows : List ℕ) (values : ℕ) (scratch : List ℕ) (size : ℕ) : Type 0 where
+  pub ordered : first ≤ e
+  pub stored : e ≤ length rows
+  pub weighed : e ≤ values
+  pub words : (p : ℕ) → first ≤ p → p < e → (shift + row rows p < length scratch) × (getD scratch (shift + row rows p) 0 < size)
+
+-- the positions of a run, and those of rows
+abbrev pub runPositions : ℕ → ℕ → ℕ → ℕ
+runPositions first position p = position + (p - first)
+
+abbrev pub rowPositions : ℕ → List ℕ → List ℕ → ℕ → ℕ
+rowPositions shift rows scratch p = getD scratch (shift + row rows p) 0
+
+-- x is the sum after the products of the values from `first` to below e and the entries at their positions: whatever numbers f start with `sum`
+-- and go on by one product each, x is the last
+abbrev pub Summed : List Float → List Float → ℕ → ℕ → (ℕ → ℕ) → Float → Float → Type 0
+Summed values z first e position sum x =
     (f : ℕ → Float) → sum ≡ f first
-    → ((p : ℕ) → first ≤ p → p < e → add binary64 (f p) (mul binary64 (value values p) (getD z (position + (p - first)) nan)) ≡ f (p + 1))
+    → ((p : ℕ) → first ≤ p → p < e → add binary64 (f p) (mul binary64 (value values p) (getD z (position p) nan)) ≡ f (p + 1))
     → x ≡ f e
 
 -- the entries from `first` to below e of column j, whose rows are all greater than i; where `zeros` is false none is 0.0
@@ -85,25 +100,40 @@ module _ {n pairs i j first e : ℕ} {zeros : Bool} {rows : List ℕ} {values : 
   pub rest-order : at first ≤ at (e - 1)
   rest-order = omega (arith, run-apart at first e rises first (e - 1) (omega arith) (omega (arith, R .some)) (omega (arith, R .some)))
 
-  -- where they are as far apart as their places, all follow one another
-  module _ (ends : at (e - 1) ≡ at first + (e - 1 - first)) where
-    run : (p : ℕ) → first ≤ p → p < e → at p ≡ at first + (p - first)
-    run = run-is at first e rises ends
+  -- the sum over the entries at their positions is the sum
+  rest-summed : (z : List Float) (sum x : Float) (position : ℕ → ℕ) → ((p : ℕ) → first ≤ p → p < e → position p ≡ at p)
+      → Summed values z first e position sum x → Continued rows values j (inverseAt n scratch z i) first e sum x
+  rest-summed z sum x position same S s h q =
+      let r = inverseAt n scratch z i in
+      S (λ p. sumBetween rows values j r s p) q
+      (λ p lo hi.
+      ap (λ (k : ℕ). add binary64 (sumBetween rows values j r s p) (mul binary64 (value values p) (getD z k nan))) (same p lo hi)
+      ∙ withProduct-kept rows values j p r (sumBetween rows values j r s p) (rest-kept p lo hi)
+      ∙ sym (sumBetween-next rows values j r s p (omega arith)))
 
-    pub rest-room : RunRoom first e (at first) (length values) size
-    rest-room = record {
+  -- read from the words
+  module _ (shift : ℕ) (w : shift + i ≡ pairs + colStart n i) where
+    pub rows-room : RowsRoom shift first e rows (length values) scratch size
+    rows-room = record {
+      ordered = omega (arith, R .some);
+      stored = R .summing .column .stored;
+      weighed = R .summing .column .weighed;
+      words = rest-word shift w;
+    }
+
+    pub rows-summed : (z : List Float) (sum x : Float) → Summed values z first e (rowPositions shift rows scratch) sum x
+        → Continued rows values j (inverseAt n scratch z i) first e sum x
+    rows-summed z sum x = rest-summed z sum x (rowPositions shift rows scratch) (rest-position shift w)
+
+  -- read from a run: where the first position and the last are as far apart as their places, all follow one another
+  module _ (ends : at (e - 1) ≡ at first + (e - 1 - first)) where
+    pub run-room : RunRoom first e (at first) (length values) size
+    run-room = record {
       ordered = omega (arith, R .some);
       weighed = R .summing .column .weighed;
       fits = omega (arith, ends, R .some, rest-read (e - 1) (omega (arith, R .some)) (omega (arith, R .some)) .known);
     }
 
-    -- and the run's sum is the sum
-    pub rest-summed : (z : List Float) (sum x : Float) → RunSummed values z first e (at first) sum x
+    pub run-summed : (z : List Float) (sum x : Float) → Summed values z first e (runPositions first (at first)) sum x
         → Continued rows values j (inverseAt n scratch z i) first e sum x
-    rest-summed z sum x S s h q =
-        let r = inverseAt n scratch z i in
-        S (λ p. sumBetween rows values j r s p) q
-        (λ p lo hi.
-        ap (λ (k : ℕ). add binary64 (sumBetween rows values j r s p) (mul binary64 (value values p) (getD z k nan))) (sym (run p lo hi))
-        ∙ withProduct-kept rows values j p r (sumBetween rows values j r s p) (rest-kept p lo hi)
-        ∙ sym (sumBetween-next rows values j r s p (omega arith)))
+    run-summed z sum x = rest-summed z sum x (runPositions first (at first)) (λ p lo hi. sym (run-is at first e rises ends p lo hi))

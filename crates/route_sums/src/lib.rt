@@ -5,7 +5,7 @@ ghost use Prim.Native.Nat.{_+_, _≤_, _<_};
 ghost use lib.ListN.{length};
 ghost use Rattle.lists.specs.Test.{anyIn};
 ghost use Rattle.route_sums.specs.Sums.{inverseAt, Adding, Summing, withProduct, sumBetween, Continued};
-ghost use Rattle.route_sums.specs.Rest.{zeroAt, RunRoom, RunSummed, Rest};
+ghost use Rattle.route_sums.specs.Rest.{zeroAt, Summed, runPositions, rowPositions, RunRoom, RowsRoom, Rest};
 use positions::column_shift;
 use positions::read_entry;
 use words::at;
@@ -82,19 +82,20 @@ pub fn entry_sum(
     sum_from(n, pairs, i, j, s, e, 0.0, rows, values, scratch, inverse)
 }
 
-// Whether one of the values from s to e is 0.0.
+// Whether one of the values from s to e is 0.0. The loop has one exit, so that it is compiled to vector instructions.
 pub fn has_zero(s: usize, e: usize, values: &[f64]) -> bool
     requires { ⌜ (s ≤ e) × (e ≤ length (now values)) ⌝ }
     ensures { λ b. ⌜ b ≡ anyIn (zeroAt (now (values .entry))) s e ⌝ }
 {
+    let mut found = false;
     let mut p = s;
     while p < e {
         if values[p] == 0.0 {
-            return true;
+            found = true;
         }
         p += 1;
     }
-    false
+    found
 }
 
 // The sum, continued by the products of the values from `first` to e and the entries of the inverse from `position` on.
@@ -107,7 +108,7 @@ fn sum_run(
     inverse: &[f64],
 ) -> f64
     requires { ⌜ RunRoom first e position (length (now values)) (length (now inverse)) ⌝ }
-    ensures { λ x. ⌜ RunSummed (now (values .entry)) (now (inverse .entry)) first e position start x ⌝ }
+    ensures { λ x. ⌜ Summed (now (values .entry)) (now (inverse .entry)) first e (runPositions first position) start x ⌝ }
 {
     let mut sum = start;
     let mut p = first;
@@ -120,8 +121,32 @@ fn sum_run(
     sum
 }
 
-// The sum, continued by l(k) Z(i, k) over the descendants k of column j that are stored from `first` to e, all greater than i: read from a run of
-// the inverse where their positions are consecutive and no value is 0.0.
+// The sum, continued by the products of the values from `first` to e and the entries of the inverse whose positions stand `shift` words past the rows.
+fn sum_rows(
+    shift: usize,
+    first: usize,
+    e: usize,
+    start: f64,
+    rows: &[u32],
+    values: &[f64],
+    scratch: &[u32],
+    inverse: &[f64],
+) -> f64
+    requires { ⌜ RowsRoom shift first e (now rows) (length (now values)) (now scratch) (length (now inverse)) ⌝ }
+    ensures { λ x. ⌜ Summed (now (values .entry)) (now (inverse .entry)) first e (rowPositions shift (now (rows .entry)) (now (scratch .entry))) start x ⌝ }
+{
+    let mut sum = start;
+    let mut p = first;
+    while p < e {
+        let position = at(scratch, shift + at(rows, p));
+        sum = sum + values[p] * inverse[position];
+        p += 1;
+    }
+    sum
+}
+
+// The sum, continued by l(k) Z(i, k) over the descendants k of column j that are stored from `first` to e, all greater than i. Where no value is 0.0
+// their entries of the inverse are read from column i, and from a run of it where the positions follow one another.
 pub fn sum_rest(
     n: usize,
     pairs: usize,
@@ -146,6 +171,7 @@ pub fn sum_rest(
         if last - position == e - 1 - first {
             return sum_run(first, e, position, start, values, inverse);
         }
+        return sum_rows(shift, first, e, start, rows, values, scratch, inverse);
     }
     sum_from(
         n,

@@ -1,10 +1,13 @@
 use native.Mathlib.Omega.{arith}
-use mathlib.Core.Path.{_∙_}
+use Prim.Native.Nat.{ℕ, _+_}
+use mathlib.Core.Path.{sym, ap, _∙_}
+use Rattle.lists.specs.Test.{anyIn}
+use Rattle.columns.specs.Columns.{outsideAt}
 use lib.ListN.{length}
 use denote.Ref.{now}
 use borrow.Author.Needs.{needs}
 use Rattle.column_sums.specs.Stored.{Sums, from-sums, from-stored, none-stored}
-use Rattle.column_sums.specs.Upper.{sums-stored}
+use Rattle.column_sums.specs.Upper.{rests-idle, sums-stored}
 use Rattle.column_sums.proofs.store_sums.Statement.{statement}
 use Rattle.column_sums.proofs.store_sums.Tie as tie
 
@@ -34,36 +37,67 @@ add-products-requires c κs =
     let C = d .clear-part .ensures in
     record { sums = rw (C .long) (sums (d .before .before)); cleared = C .holds }
 
+at-requires : tie.Need-at-requires
+at-requires c κs =
+    let t = c .before .before .before .before .before .before .before .before in
+    omega (arith, sums t .storing .listed, t .if1 .taken)
+
+has-greater-requires : tie.Need-has-greater-requires
+has-greater-requires c κs =
+    let t = c .before .before .before .before .before .before .before .before .before in
+    let K = sums t .storing .column in
+    record { ordered = K .ordered; stored = K .stored; weighed = omega arith; ascends = K .ascends }
+
 has-zero-requires : tie.Need-has-zero-requires
 has-zero-requires c κs =
-    let d = c .before .before .before .before .before .before in
-    let K = sums (d .before .before) .storing .column in
+    let t = c .before .before .before .before .before .before .before .before .before .before .before in
+    let K = sums t .storing .column in
     (K .ordered, K .weighed)
+
+-- the first pass
+abbrev lowered : tie.After-has-greater → tie.After-add-products
+lowered g = g .before .before .before .before
+
+abbrev cleared : tie.After-add-products → tie.After-clear-part
+cleared p = p .before .before .before .before
 
 add-rests-requires : tie.Need-add-rests-requires
 add-rests-requires c κs =
     let h = c .before in
-    let p = h .before .before .before in
-    let d = p .before .before .before .before in
+    let p = lowered (h .before .before) in
+    let d = cleared p in
     record { sums = rw (p .add-products .ensures .long ∙ d .clear-part .ensures .long) (sums (d .before .before)); zero-is = h .has-zero .ensures }
 
 same-length : tie.Need-same-length
 same-length c =
     let r = c .before .before in
-    let p = r .before .before .before .before .before in
-    let d = p .before .before .before .before in
-    r .add-rests .ensures .long ∙ p .add-products .ensures .long ∙ d .clear-part .ensures .long
+    let p = lowered (r .before .before .before .before) in
+    r .add-rests .ensures .long ∙ p .add-products .ensures .long ∙ cleared p .clear-part .ensures .long
 
 returns : tie.Need-returns
 returns c =
     let r = c .before .before in
-    let p = r .before .before .before .before .before in
-    let d = p .before .before .before .before in
+    let p = lowered (r .before .before .before .before) in
+    let d = cleared p in
     let t = d .before .before in
     from-stored (t .before .first-from .ensures) (sums-stored (sums t) (d .clear-part .ensures) (p .add-products .ensures) (r .add-rests .ensures))
 
+same-length-2 : tie.Need-same-length-2
+same-length-2 c = let p = lowered (c .before) in p .add-products .ensures .long ∙ cleared p .clear-part .ensures .long
+
 returns-2 : tie.Need-returns-2
-returns-2 c = let f = c .before in none-stored (f .first-from .ensures) (now (begin f .args .inverse)) (c .if1 .left)
+returns-2 c =
+    let g = c .before in
+    let p = lowered g in
+    let d = cleared p in
+    let t = d .before .before in
+    let a = begin (t .before) .args in
+    from-stored (t .before .first-from .ensures)
+    (sums-stored (sums t) (d .clear-part .ensures) (p .add-products .ensures)
+    (rests-idle (sums t) _ (ap (λ (i : ℕ). anyIn (outsideAt (i + 1) (now (a .rows))) (a .s) (a .e)) (sym (g .before .at .ensures)) ∙ sym (g .has-greater .ensures) ∙ c .if2 .left)))
+
+returns-3 : tie.Need-returns-3
+returns-3 c = let f = c .before in none-stored (f .first-from .ensures) (now (begin f .args .inverse)) (c .if1 .left)
 
 pub store-sums-spec : {M : Type 1} → statement M
 store-sums-spec =
@@ -73,8 +107,12 @@ store-sums-spec =
     first-from-requires
     clear-part-requires
     add-products-requires
+    at-requires
+    has-greater-requires
     has-zero-requires
     add-rests-requires
     same-length
     returns
-    returns-2)
+    same-length-2
+    returns-2
+    returns-3)

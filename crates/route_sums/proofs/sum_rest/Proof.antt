@@ -9,7 +9,7 @@ use native.Mathlib.Omega.{arith}
 use Rattle.pairs.specs.ColumnOrder.{colStart}
 use Rattle.columns.specs.Columns.{row}
 use Rattle.positions.specs.Position.{positionWord, shift-fits}
-use Rattle.route_sums.specs.Rest.{RunRoom, RunSummed, rest-word, rest-position, rest-order, rest-room, rest-summed}
+use Rattle.route_sums.specs.Rest.{RunRoom, Summed, runPositions, rest-word, rest-position, rest-order, rows-room, rows-summed, run-room, run-summed}
 use Rattle.route_sums.proofs.sum_rest.Statement.{statement}
 use Rattle.route_sums.proofs.sum_rest.Tie as tie
 
@@ -114,7 +114,7 @@ sum-run-requires c κs =
     let t = c .before .before .before .before .before .before in
     let s = begin t in
     subst (λ (k : ℕ). RunRoom (s .args .first) (s .args .e) k (length (now (s .args .values))) (length (now (s .args .inverse)))) (sym (first-is (c .before)))
-    (rest-room (s .pre) (none t) (ends c))
+    (run-room (s .pre) (none t) (ends c))
 
 returns : tie.Need-returns
 returns c =
@@ -122,14 +122,27 @@ returns c =
     let t = u .before .before .before .before .before .before in
     let s = begin t in
     let a = s .args in
-    rest-summed (s .pre) (none t) (ends u) (now (a .inverse)) (a .start) (c .sum-run .result)
-    (subst (λ (k : ℕ). RunSummed (now (a .values)) (now (a .inverse)) (a .first) (a .e) k (a .start) (c .sum-run .result)) (first-is (u .before)) (c .sum-run .ensures))
+    run-summed (s .pre) (none t) (ends u) (now (a .inverse)) (a .start) (c .sum-run .result)
+    (subst (λ (k : ℕ). Summed (now (a .values)) (now (a .inverse)) (a .first) (a .e) (runPositions (a .first) k) (a .start) (c .sum-run .result)) (first-is (u .before)) (c .sum-run .ensures))
+
+sum-rows-requires : tie.Need-sum-rows-requires
+sum-rows-requires c κs =
+    let d = c .before .before .before .before .before in
+    let t = d .before in
+    rows-room (begin t .pre) (none t) (shift d) (shifted d)
+
+returns-2 : tie.Need-returns-2
+returns-2 c =
+    let d = c .before .before .before .before .before .before in
+    let t = d .before in
+    let s = begin t in
+    rows-summed (s .pre) (none t) (shift d) (shifted d) (now (s .args .inverse)) (s .args .start) (c .sum-rows .result) (c .sum-rows .ensures)
 
 sum-from-requires : tie.Need-sum-from-requires
 sum-from-requires c κs = c .before .before .before .before .before .pre .summing
 
-returns-2 : tie.Need-returns-2
-returns-2 c = c .sum-from .ensures
+returns-3 : tie.Need-returns-3
+returns-3 c = c .sum-from .ensures
 
 pub sum-rest-spec : {M : Type 1} → statement M
 sum-rest-spec =
@@ -149,5 +162,7 @@ sum-rest-spec =
     sub-if2-3
     sum-run-requires
     returns
+    sum-rows-requires
+    returns-2
     sum-from-requires
-    returns-2)
+    returns-3)
