@@ -7,7 +7,6 @@ use native.Mathlib.Nat.{eq-or-lt-of-le}
 use native.Mathlib.Omega.{arith}
 use Prim.Native.Nat.{ℕ, _≤_, _<_}
 use borrow.Author.Needs.{needs}
-use lib.ListN.{length}
 use Rattle.lists.specs.Test.{anyIn-below}
 use Rattle.lists.specs.Select.{select, select-none, select-join, select-gap, select-cong, tally}
 use Rattle.columns.specs.Columns.{row, outsideAt}
