@@ -61,7 +61,7 @@ at-requires c κs = search needs
 last-outside-requires : tie.Need-last-outside-requires Inv-loop μ-loop
 last-outside-requires c κs =
     let i = c .before .before in
-    rw (c .at .ensures) (starts-end (i .before .before .before .pre .0) (i .loop .c + 1) (omega arith))
+    rw (c .at .ensures) (starts-end (i .before .before .before .pre .0) _ (omega arith))
 
 returns : tie.Need-returns Inv-loop μ-loop
 returns c =
@@ -70,8 +70,8 @@ returns c =
     let e = c .before .before .at .result in
     let t : (ltb 0 e && outsideAt (s .args .n) (s .args .rows .now) (e - 1)) ≡ true = sym (c .before .last-outside .ensures) ∙ c .if1 .taken in
     let l : 0 < e = ltb-true _ _ (and-left _ _ t) in
-    let m = starts-end (s .pre .0) (i .loop .c + 1) (omega arith) in
-    sym (any-hit (outsideAt (s .args .n) (s .args .rows .now)) (length (s .args .rows .now)) (e - 1) (omega (arith, c .before .before .at .ensures)) (and-right (ltb 0 e) _ t))
+    let m : e ≤ length (s .args .rows .now) = rw (c .before .before .at .ensures) (starts-end (s .pre .0) _ (omega arith)) in
+    sym (any-hit (outsideAt (s .args .n) (s .args .rows .now)) (length (s .args .rows .now)) (e - 1) (omega arith) (and-right (ltb 0 e) _ t))
 
 add-c : tie.Need-add-c Inv-loop μ-loop
 add-c c = search needs
