@@ -1,6 +1,6 @@
 -- Bits of a list of 32-bit words: bit p stands in the word p / 32.
 -- Assumes nothing.
-use Prim.Native.Nat.{ℕ, zero, suc, _+_, _-_, _*_, _/_, _%_, _^_, _≤_, _<_}
+use Prim.Native.Nat.{ℕ, zero, suc, _+_, _-_, _/_, _%_, _^_, _≤_, _<_}
 use native.Mathlib.Omega.{arith}
 use native.Mathlib.Nat.{div-eq-of-lt, div-one, one-mul, not-suc-le-zero, le-of-suc-le-suc}
 use native.Mathlib.Numerals.{one-add, add-one}
@@ -135,10 +135,6 @@ word-below p t l = omega arith
 pub bitWords-most : (t : ℕ) → bitWords t ≤ t
 unfolding bitWords
 bitWords-most t = omega arith
-
-pub bitWords-enough : (t : ℕ) → t ≤ 32 * bitWords t
-unfolding bitWords
-bitWords-enough t = omega arith
 
 -- the bits of words in which bit p is set
 pub bit-set : (s : List ℕ) (p : ℕ) → p / 32 < length s → (q : ℕ) → bitAt (withBit s p) q ≡ (bitAt s q || eqb p q)

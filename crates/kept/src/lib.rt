@@ -1,39 +1,36 @@
 // How many entries of a factor that passes 1, 2 and 3 are kept.
 ghost use mathlib.Core.Path.{_≡_};
-ghost use Prim.Native.Nat.{_<_};
+ghost use Prim.Native.Nat.{_≤_};
 ghost use lib.ListN.{length};
 ghost use Rattle.lists.specs.Select.{tally};
-ghost use Rattle.lists.specs.Sum.{bit};
 ghost use Rattle.columns.specs.Factor.{Factor, Column};
 ghost use Rattle.columns.specs.Kept.{nonzero, kept, factorPairs};
+use kept_diagonal::first_from;
 use words::at;
 
-// 1 where the entry at p is kept in column c, else 0.
-fn kept_bit(c: usize, rows: &[u32], values: &[f64], p: usize) -> usize
-    requires { ⌜ (p < length (now rows)) × (p < length (now values)) ⌝ }
-    ensures { λ r. ⌜ r ≡ bit (kept (now (rows .entry)) (nonzero (now (values .entry))) c p) ⌝ }
-{
-    if at(rows, p) < c {
-        return 0;
-    }
-    if values[p] != 0.0 {
-        return 1;
-    }
-    0
-}
-
-// How many entries from s to e are kept in column c.
-fn kept_between(c: usize, rows: &[u32], values: &[f64], s: usize, e: usize) -> usize
-    requires { ⌜ Column (now rows) (length (now values)) s e ⌝ }
-    ensures { λ r. ⌜ r ≡ tally (kept (now (rows .entry)) (nonzero (now (values .entry))) c) s e ⌝ }
+// How many values from s to e are not 0.0. The loop has one exit, so that it is compiled to vector instructions.
+fn nonzero_between(values: &[f64], s: usize, e: usize) -> usize
+    requires { ⌜ (s ≤ e) × (e ≤ length (now values)) ⌝ }
+    ensures { λ r. ⌜ r ≡ tally (nonzero (now (values .entry))) s e ⌝ }
 {
     let mut count = 0;
     let mut p = s;
     while p < e {
-        count += kept_bit(c, rows, values, p);
+        if values[p] != 0.0 {
+            count += 1;
+        }
         p += 1;
     }
     count
+}
+
+// How many entries from s to e are kept in column c. Rows ascend, so none is above the diagonal from the first place on whose row is c or more.
+fn kept_between(c: usize, rows: &[u32], values: &[f64], s: usize, e: usize) -> usize
+    requires { ⌜ Column (now rows) (length (now values)) s e ⌝ }
+    ensures { λ r. ⌜ r ≡ tally (kept (now (rows .entry)) (nonzero (now (values .entry))) c) s e ⌝ }
+{
+    let first = first_from(c, rows, s, e);
+    nonzero_between(values, first, e)
 }
 
 // How many entries are kept.

@@ -7,7 +7,7 @@ use mathlib.Core.Path.{_≡_, refl, sym, ap, ap₂, _∙_}
 use mathlib.Core.Bool.{Bool}
 use mathlib.Core.List.{List, [], _∷_, _++_, map}
 use lib.ListN.{length, length-append, length-map}
-use Rattle.lists.specs.Sum.{sumTo, sumTo-eq, sumTo-mono, sumTo-none, sumTo-next}
+use Rattle.lists.specs.Sum.{sumTo, sumTo-eq, sumTo-mono, sumTo-next}
 use Rattle.lists.specs.Select.{select, select-cong, tally}
 
 module _ (S : ℕ → ℕ → Bool) (lo hi : ℕ → ℕ) where
@@ -27,10 +27,6 @@ module _ (S : ℕ → ℕ → Bool) (lo hi : ℕ → ℕ) where
   pub cells-next : {A : Type 0} (f : ℕ → ℕ → A) (o : ℕ) → cells f (o + 1) ≡ cells f o ++ map (f o) (select (S o) (lo o) (hi o))
   unfolding cells
   cells-next f o = rw add-one
-
-  pub cellCount-none : cellCount 0 ≡ 0
-  unfolding cellCount
-  cellCount-none = sumTo-none _
 
   pub cellCount-next : (o : ℕ) → cellCount (o + 1) ≡ cellCount o + tally (S o) (lo o) (hi o)
   unfolding cellCount

@@ -1,25 +1,96 @@
 // The rows of a factor's columns: refusal 3.
 ghost use mathlib.Core.Path.{_≡_};
-ghost use Prim.Native.Nat.{_+_};
+ghost use mathlib.Core.Bool.{false, _&&_};
+ghost use Prim.Native.Nat.{_+_, _-_, _≤_};
+ghost use lib.Dec.{ltb};
+ghost use lib.ListN.{length};
+ghost use Rattle.lists.specs.Select.{tally};
 ghost use Rattle.lists.specs.Test.{any};
 ghost use Rattle.refusal.specs.Steps.{verdict};
 ghost use Rattle.refusal.specs.Refusal.{replyOf};
-ghost use Rattle.columns.specs.Columns.{unsorted, rowsSteps};
+ghost use Rattle.columns.specs.Columns.{start, outsideAt, outside, notAbove, unsorted, rowsSteps};
 ghost use Rattle.columns.specs.Factor.{Starts};
-use index_check::index_outside;
-use order::not_rising;
 use refusal::Checked;
 use refusal::Refusal;
 use words::at;
+
+// How many rows below e are not above the one before them, the first left out.
+// The loop has one exit and a 32-bit count, so that it is compiled to vector instructions on four rows.
+fn descents(rows: &[u32], e: u32) -> usize
+    requires { ⌜ e ≤ length (now rows) ⌝ }
+    ensures { λ r. ⌜ r ≡ tally (notAbove (now (rows .entry))) 1 e ⌝ }
+{
+    let end = e as usize;
+    let mut count: u32 = 0;
+    let mut p = 1;
+    while p < end {
+        if rows[p] <= rows[p - 1] {
+            count += 1;
+        }
+        p += 1;
+    }
+    count as usize
+}
+
+// 1 where the column from s to e has a first row that is not above the row stored before it, else 0.
+// That is what the descents below e have besides those below s and the column's own.
+fn start_descent(rows: &[u32], s: usize, e: usize) -> usize
+    requires { ⌜ (s ≤ e) × (e ≤ length (now rows)) ⌝ }
+    ensures { λ r. ⌜ tally (notAbove (now (rows .entry))) 1 e ≡ tally (notAbove (now (rows .entry))) 1 s + r + tally (notAbove (now (rows .entry))) (s + 1) e ⌝ }
+{
+    if s == 0 {
+        return 0;
+    }
+    if s == e {
+        return 0;
+    }
+    if rows[s] <= rows[s - 1] {
+        return 1;
+    }
+    0
+}
+
+// How many of the first n columns have such a first row. Where all columns ascend, these are all descents, else fewer.
+fn start_descents(n: usize, starts: &[u32], rows: &[u32]) -> usize
+    requires { ⌜ Starts n (now starts) (now rows) ⌝ }
+    ensures { λ r. ⌜ any (unsorted (now (starts .entry)) (now (rows .entry))) n ≡ ltb r (tally (notAbove (now (rows .entry))) 1 (start (now (starts .entry)) n)) ⌝ }
+{
+    let mut count = 0;
+    let mut c = 0;
+    while c < n {
+        count += start_descent(rows, at(starts, c), at(starts, c + 1));
+        c += 1;
+    }
+    count
+}
 
 // Whether one of the first n columns does not ascend.
 fn column_unsorted(n: usize, starts: &[u32], rows: &[u32]) -> bool
     requires { ⌜ Starts n (now starts) (now rows) ⌝ }
     ensures { λ r. ⌜ r ≡ any (unsorted (now (starts .entry)) (now (rows .entry))) n ⌝ }
 {
+    start_descents(n, starts, rows) < descents(rows, starts[n])
+}
+
+// Whether the row before e is n or more.
+fn last_outside(n: usize, rows: &[u32], e: usize) -> bool
+    requires { ⌜ e ≤ length (now rows) ⌝ }
+    ensures { λ r. ⌜ r ≡ (ltb 0 e && outsideAt n (now (rows .entry)) (e - 1)) ⌝ }
+{
+    if e == 0 {
+        return false;
+    }
+    n <= at(rows, e - 1)
+}
+
+// Whether a row is n or more. Columns ascend, so the last row of each decides.
+fn row_outside(n: usize, starts: &[u32], rows: &[u32]) -> bool
+    requires { ⌜ Starts n (now starts) (now rows) × (any (unsorted (now starts) (now rows)) n ≡ false) ⌝ }
+    ensures { λ r. ⌜ r ≡ outside n (now (rows .entry)) ⌝ }
+{
     let mut c = 0;
     while c < n {
-        if not_rising(rows, at(starts, c), at(starts, c + 1)) {
+        if last_outside(n, rows, at(starts, c + 1)) {
             return true;
         }
         c += 1;
@@ -32,10 +103,10 @@ pub fn check_rows(n: usize, starts: &[u32], rows: &[u32]) -> Checked
     requires { ⌜ Starts n (now starts) (now rows) ⌝ }
     ensures { λ r. ⌜ replyOf r ≡ verdict (rowsSteps n (now (starts .entry)) (now (rows .entry))) ⌝ }
 {
-    if index_outside(n, rows) {
+    if column_unsorted(n, starts, rows) {
         return Checked::Refused(Refusal::BrokenRows);
     }
-    if column_unsorted(n, starts, rows) {
+    if row_outside(n, starts, rows) {
         return Checked::Refused(Refusal::BrokenRows);
     }
     Checked::Accepted

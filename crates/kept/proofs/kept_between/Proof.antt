@@ -1,64 +1,51 @@
-use Rattle.columns.specs.Kept.{kept, nonzero}
-use Rattle.lists.specs.Select.{tally, tally-none, tally-next, tally-most}
-use borrow.Author.Needs.{needs}
-use native.Mathlib.Omega.{arith}
-use Prim.Native.Nat.{ℕ, _≤_, _-_, _+_}
+use borrow.Author.Tests.{le-leb}
+use mathlib.Core.Bool.{Bool, false}
+use mathlib.Core.List.{List, []}
+use mathlib.Core.Logic.{⊎-elim}
 use mathlib.Core.Path.{_≡_, ap, sym, _∙_}
+use native.Mathlib.Nat.{eq-or-lt-of-le}
+use native.Mathlib.Omega.{arith}
+use Prim.Native.Nat.{ℕ, _≤_, _<_}
+use borrow.Author.Needs.{needs}
+use Rattle.lists.specs.Test.{anyIn-below}
+use Rattle.lists.specs.Select.{select, select-none, select-join, select-gap, select-cong, tally}
+use Rattle.columns.specs.Columns.{row, outsideAt}
+use Rattle.columns.specs.Kept.{kept, nonzero}
+use Rattle.columns.specs.Factor.{Column, FirstFrom}
+use Rattle.columns.specs.Diagonal.{firstFrom-below}
 use Rattle.kept.proofs.kept_between.Statement.{statement}
 use Rattle.kept.proofs.kept_between.Tie as tie
 
-abbrev Inv-loop : tie.InvT-loop
-Inv-loop c rows values s e count₀ p₀ count p = (s ≤ p) × (p ≤ e) × (count ≡ tally (kept rows (nonzero values) c) s p)
+module _ {c : ℕ} {rows : List ℕ} {count s e p : ℕ} (C : Column rows count s e) (F : FirstFrom c rows s e p) (nz : ℕ → Bool) where
+  -- before the first place from row c on no entry is kept
+  above : (k : ℕ) → s ≤ k → k < p → kept rows nz c k ≡ false
+  above k lo hi = rw (anyIn-below (outsideAt c rows) s p k (F .before) lo hi)
 
-abbrev μ-loop : tie.MeasureT-loop
-μ-loop c rows values s e count₀ p₀ count p = e - p
+  -- from it on no row is above the diagonal
+  below : (k : ℕ) → p ≤ k → k < e → c ≤ row rows k
+  below k lo hi =
+      ⊎-elim
+      (λ q. let y = F .stops (omega arith) in omega (arith, ap (row rows) q))
+      (λ l. let y = firstFrom-below C F k l hi in omega arith)
+      (eq-or-lt-of-le lo)
 
--- one entry more
-next : (c : tie.After-kept-bit Inv-loop μ-loop) →
-    let s = c .before .before .before .before .before in
-    c .before .before .loop .count + c .kept-bit .result
-    ≡ tally (kept (s .args .rows .now) (nonzero (s .args .values .now)) (s .args .c)) (s .args .s) (c .before .before .loop .p + 1)
-next c =
-    let i = c .before .before .loop in
-    cc (tally-next _ _ _ (i .inv .0), i .inv .2, c .kept-bit .ensures)
+  -- so the kept entries are those from it on that are not 0
+  kept-from : tally (kept rows nz c) s e ≡ tally nz p e
+  kept-from =
+      let a : select (kept rows nz c) s p ≡ [] = select-gap (kept rows nz c) s s p (omega arith) (F .from) above ∙ select-none (kept rows nz c) s in
+      let b = select-cong (kept rows nz c) nz p e (λ k lo hi. rw (le-leb _ _ (below k lo hi))) in
+      rw (select-join (kept rows nz c) s p e (F .from) (F .upto), a, b)
 
-loop-holds : tie.Need-loop-holds Inv-loop μ-loop
-loop-holds c = (search needs, search needs, sym (tally-none _ _))
+first-from-requires : tie.Need-first-from-requires
+first-from-requires c κs = search needs
 
-kept-bit-requires : tie.Need-kept-bit-requires Inv-loop μ-loop
-kept-bit-requires c κs = search needs
+nonzero-between-requires : tie.Need-nonzero-between-requires
+nonzero-between-requires c κs = search needs
 
-add-count : tie.Need-add-count Inv-loop μ-loop
-add-count c =
-    let s = c .before .before .before .before .before in
-    omega (arith, next c, tally-most (kept (s .args .rows .now) (nonzero (s .args .values .now)) (s .args .c)) (s .args .s) (c .before .before .loop .p + 1))
-
-add-p : tie.Need-add-p Inv-loop μ-loop
-add-p c = search needs
-
-loop-less : tie.Need-loop-less Inv-loop μ-loop
-loop-less c = search needs
-
-loop-again : tie.Need-loop-again Inv-loop μ-loop
-loop-again c = (search needs, search needs, next c)
-
-returns : tie.Need-returns Inv-loop μ-loop
+returns : tie.Need-returns
 returns c =
-    let i = c .before .loop in
     let s = c .before .before .before .before in
-    let q : i .p ≡ s .args .e = omega arith in
-    i .inv .2 ∙ ap (λ (k : ℕ). tally (kept (s .args .rows .now) (nonzero (s .args .values .now)) (s .args .c)) (s .args .s) k) q
+    c .nonzero-between .ensures ∙ sym (kept-from (s .pre) (c .before .first-from .ensures) (nonzero (s .args .values .now)))
 
 pub kept-between-spec : {M : Type 1} → statement M
-kept-between-spec =
-    tie.close
-    (tie.spec
-    Inv-loop
-    μ-loop
-    loop-holds
-    kept-bit-requires
-    add-count
-    add-p
-    loop-less
-    loop-again
-    returns)
+kept-between-spec = tie.close (tie.spec first-from-requires nonzero-between-requires returns)
