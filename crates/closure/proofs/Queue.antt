@@ -11,15 +11,14 @@ use mathlib.Core.Logic.{_⊎_, inl, inr, ⊎-elim}
 use mathlib.Core.List.{List}
 use lib.Dec.{ltb}
 use lib.ListN.{length, getD, length-map}
-use lib.Ieee.{Float, eq, ne}
 use borrow.Author.Tests.{le-ltb, lt-ltb, eq-eqb}
 use Rattle.lists.specs.Test.{and-left, and-right, and-both, or-cases, or-left, or-right}
 use Rattle.lists.specs.Select.{select-at, select-holds}
 use Rattle.refusal.specs.Bounds.{maxDimension}
 use Rattle.pairs.specs.Pair.{ordered, ordered-is, is-ordered}
 use Rattle.pairs.specs.ColumnOrder.{columnMarking}
-use Rattle.columns.specs.Columns.{start, row, value}
-use Rattle.columns.specs.Kept.{f0, nonzero, keptBelow, descPlaces, pattern}
+use Rattle.columns.specs.Columns.{start, row}
+use Rattle.columns.specs.Kept.{keptBelow, descPlaces, pattern}
 use Rattle.columns.specs.Factor.{Factor, starts-end}
 use Rattle.columns.specs.Pattern.{pattern-at, pattern-above, pattern-inside}
 use Rattle.closed_set.specs.ClosedSet.{Closed, Pattern, descends, descends-at, descends-found}
@@ -397,8 +396,3 @@ zero-dropped rows nz c p e = go (ltb c (row rows p))
 
 pub entry-kept : (rows : List ℕ) (nz : ℕ → Bool) (c p : ℕ) {k : ℕ} → k ≡ row rows p → c < k → nz p ≡ true → keptBelow rows nz c p ≡ true
 entry-kept rows nz c p e h t = and-both (ltb c (row rows p)) (nz p) (lt-ltb c (row rows p) (omega arith)) t
-
--- the code's test of a value
-pub nonzero-not : (values : List Float) (p : ℕ) {b : Bool} → eq (value values p) f0 ≡ b → nonzero values p ≡ not b
-unfolding ne eq
-nonzero-not values p e = ap not e

@@ -2,12 +2,12 @@
 -- Which values are not 0 is a test `nz` of the place, so that all but `diag` and `desc` serve values of any type.
 -- Assumes nothing.
 use Prim.Native.Nat.{ℕ, _+_}
-use mathlib.Core.Bool.{Bool, _&&_}
+use mathlib.Core.Bool.{Bool, not, _&&_}
 use mathlib.Core.List.{List, map}
-use mathlib.Core.Path.{_≡_}
+use mathlib.Core.Path.{_≡_, ap}
 use lib.Dec.{ltb, leb, eqb}
 use lib.ListN.{getD}
-use lib.Ieee.{Float, binary64, ne, ofBits}
+use lib.Ieee.{Float, binary64, ne, eq, ofBits}
 use Rattle.lists.specs.Test.{anyIn}
 use Rattle.lists.specs.Select.{select, tally}
 use Rattle.lists.specs.Sum.{sumTo, sumTo-none, sumTo-next}
@@ -21,6 +21,11 @@ f0 = ofBits binary64 0
 -- the value at p is not 0.0 of either sign
 abbrev pub nonzero : List Float → ℕ → Bool
 nonzero values p = ne (value values p) f0
+
+-- as code tests it by ==
+pub nonzero-not : (values : List Float) (p : ℕ) {b : Bool} → eq (value values p) f0 ≡ b → nonzero values p ≡ not b
+unfolding ne eq
+nonzero-not values p e = ap not e
 
 -- the stored entry at p
 abbrev pub entry : List ℕ → List Float → ℕ → Entry Float

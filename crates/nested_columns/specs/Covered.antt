@@ -14,7 +14,7 @@ use borrow.Author.Tests.{lt-ltb}
 use Rattle.lists.specs.Test.{anyIn, anyIn-below, and-right, and-both}
 use Rattle.refusal.specs.Bounds.{maxDimension}
 use Rattle.columns.specs.Columns.{start, row, value}
-use Rattle.columns.specs.Kept.{f0, nonzero, keptBelow, pattern}
+use Rattle.columns.specs.Kept.{f0, nonzero, nonzero-not, keptBelow, pattern}
 use Rattle.columns.specs.Factor.{Factor, factor-column}
 use Rattle.closed_set.specs.ClosedSet.{descends}
 use Rattle.descendants.specs.FactorPattern.{entry-descends, descends-entry}
@@ -59,12 +59,11 @@ pub record Covered (rows : List ℕ) (nz : ℕ → Bool) (a b s e : ℕ) : Type 
 
 -- it is 0, and there is nothing to find
 pub place-zero : {rows : List ℕ} (values : List Float) (i j : ℕ) {e : ℕ} → j ≤ e → eq (value values i) f0 ≡ true → Place rows (nonzero values) i j e j
-unfolding ne eq
 place-zero values i j h z = record {
   from = omega arith;
   upto = h;
-  kept = λ l t. absurd (false≢true (ap not (sym z) ∙ t));
-  same = λ l t. absurd (false≢true (ap not (sym z) ∙ t));
+  kept = λ l t. absurd (false≢true (sym (nonzero-not values i z) ∙ t));
+  same = λ l t. absurd (false≢true (sym (nonzero-not values i z) ∙ t));
 }
 
 -- its row is not there

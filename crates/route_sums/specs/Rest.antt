@@ -13,7 +13,7 @@ use Rattle.lists.specs.Test.{and-both, anyIn, anyIn-below}
 use Rattle.pairs.specs.Pair.{pairTotal}
 use Rattle.pairs.specs.ColumnOrder.{colStart, columnPlace}
 use Rattle.columns.specs.Columns.{row, value}
-use Rattle.columns.specs.Kept.{f0, nonzero, keptBelow}
+use Rattle.columns.specs.Kept.{f0, nonzero, nonzero-not, keptBelow}
 use Rattle.positions.specs.Position.{word-left, word-position, word-reads}
 use Rattle.positions.specs.Run.{run-apart, run-is}
 use Rattle.route_sums.specs.Sums.{positionWord, inverseAt, Reading, Summing, summing-entry, adding-read, Continued, sumBetween, sumBetween-next, withProduct-kept}
@@ -22,14 +22,9 @@ use Rattle.route_sums.specs.Sums.{positionWord, inverseAt, Reading, Summ
 abbrev pub zeroAt : List Float → ℕ → Bool
 zeroAt values p = eq (value values p) f0
 
--- as the code tests it
-pub zero-not : (values : List Float) (p : ℕ) {b : Bool} → zeroAt values p ≡ b → nonzero values p ≡ not b
-unfolding ne eq
-zero-not values p e = ap not e
-
 -- none from s to below e is
 pub none-zero : (values : List Float) (s e : ℕ) → anyIn (zeroAt values) s e ≡ false → (p : ℕ) → s ≤ p → p < e → nonzero values p ≡ true
-none-zero values s e h p lo hi = zero-not values p (anyIn-below (zeroAt values) s e p h lo hi)
+none-zero values s e h p lo hi = nonzero-not values p (anyIn-below (zeroAt values) s e p h lo hi)
 
 -- as many entries of the inverse, from `position` on, as values from `first` to below e
 pub record RunRoom (first e position values size : ℕ) : Type 0 where

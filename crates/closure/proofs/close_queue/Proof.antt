@@ -1,8 +1,8 @@
 use mathlib.Core.Bool.{true}
 use Rattle.closure.proofs.Queue.{Serving, Column, serving-none, serving-next, serving-more, head-words, head-pairs, word-starts, word-inside, word-end, word-most}
-use Rattle.closure.proofs.Queue.{column-none, column-skip, column-more, entry-rows, entry-values, entry-insert, finished, finished-past, above-dropped, zero-dropped, entry-kept, nonzero-not}
+use Rattle.closure.proofs.Queue.{column-none, column-skip, column-more, entry-rows, entry-values, entry-insert, finished, finished-past, above-dropped, zero-dropped, entry-kept}
 use Rattle.pair_queue.specs.Marking.{columnOf}
-use Rattle.columns.specs.Kept.{nonzero, keptBelow}
+use Rattle.columns.specs.Kept.{nonzero, nonzero-not, keptBelow}
 use Rattle.columns.specs.Columns.{start}
 use Rattle.nested_columns.specs.Nested.{Stops}
 use denote.Ref.{now}

@@ -8,11 +8,10 @@ use borrow.Author.Needs.{needs}
 use borrow.Author.Tests.{lt-ltb}
 use Rattle.lists.specs.Test.{and-both}
 use Rattle.columns.specs.Columns.{row, value}
-use Rattle.columns.specs.Kept.{nonzero, keptBelow}
+use Rattle.columns.specs.Kept.{nonzero, nonzero-not, keptBelow}
 use Rattle.columns.specs.Factor.{FirstFrom}
 use Rattle.route_products.specs.Part.{PartSet}
 use Rattle.route_products.specs.Products.{columnTerms, ColumnRoom}
-use Rattle.route_sums.specs.Rest.{zero-not}
 use Rattle.column_sums.specs.Lower.{step-above, step-zero, step-none, step-added, step-room}
 use Rattle.column_sums.proofs.add_stored.Statement.{statement}
 use Rattle.column_sums.proofs.add_stored.Tie as tie
@@ -41,7 +40,7 @@ kept c =
     let t = c .before .before .before in
     let a = begin (t .before) .args in
     let k = row (now (a .rows)) (a .p) in
-    and-both (ltb (a .j) k) (nonzero (now (a .values)) (a .p)) (lt-ltb (a .j) k (under t)) (zero-not (now (a .values)) (a .p) (c .if2 .left))
+    and-both (ltb (a .j) k) (nonzero (now (a .values)) (a .p)) (lt-ltb (a .j) k (under t)) (nonzero-not (now (a .values)) (a .p) (c .if2 .left))
 
 at-requires : tie.Need-at-requires
 at-requires c κs = search needs
@@ -64,7 +63,7 @@ returns-2 : tie.Need-returns-2
 returns-2 c =
     let f = c .before .before in
     let s = begin (f .before .before) in
-    step-zero (s .pre) (from f) (now (s .args .inverse)) (under (f .before)) (zero-not (now (s .args .values)) (s .args .p) (c .if2 .taken))
+    step-zero (s .pre) (from f) (now (s .args .inverse)) (under (f .before)) (nonzero-not (now (s .args .values)) (s .args .p) (c .if2 .taken))
 
 add-column-requires : tie.Need-add-column-requires
 add-column-requires c κs =
