@@ -10,18 +10,16 @@ use mathlib.Core.Bool.{Bool, true, false, not, _&&_, true≢false}
 use mathlib.Core.Logic.{_⊎_, inl, inr, ⊎-elim}
 use mathlib.Core.List.{List}
 use lib.Dec.{ltb}
-use lib.ListN.{length, getD, length-map}
-use borrow.Author.Tests.{le-ltb, lt-ltb, eq-eqb}
-use Rattle.lists.specs.Test.{and-left, and-right, and-both, or-cases, or-left, or-right}
-use Rattle.lists.specs.Select.{select-at, select-holds}
+use lib.ListN.{length, getD}
+use borrow.Author.Tests.{le-ltb, lt-ltb}
+use Rattle.lists.specs.Test.{and-both, or-cases, or-left, or-right}
 use Rattle.refusal.specs.Bounds.{maxDimension}
 use Rattle.pairs.specs.Pair.{ordered, ordered-is, is-ordered}
 use Rattle.pairs.specs.ColumnOrder.{columnMarking}
 use Rattle.columns.specs.Columns.{start, row}
-use Rattle.columns.specs.Kept.{keptBelow, descPlaces, pattern}
+use Rattle.columns.specs.Kept.{keptBelow, pattern}
 use Rattle.columns.specs.Factor.{Factor, starts-end}
-use Rattle.columns.specs.Pattern.{pattern-at, pattern-above, pattern-inside}
-use Rattle.closed_set.specs.ClosedSet.{Closed, Pattern, descends, descends-at, descends-found}
+use Rattle.closed_set.specs.ClosedSet.{Closed, Pattern, descends}
 use Rattle.nested_columns.specs.Nested.{Nested, Stop}
 use Rattle.pair_queue.specs.Marking.{rowOf, columnOf, queueWord, Queued, Marked, Insert, Inserted, count-most}
 use Rattle.closure.specs.Queue.{Within, Grown, Waiting, EndRoom, EndOf, Finished}

@@ -1,6 +1,6 @@
 -- One column of the recurrence over a closed set: what its steps ask of the later columns, and that they leave the table's entries.
 -- Assumes nothing.
-use Prim.Native.Nat.{ℕ, suc, _+_, _≤_, _<_, min, max}
+use Prim.Native.Nat.{ℕ, _+_, _≤_, _<_, min, max}
 use native.Mathlib.Omega.{arith}
 use native.Mathlib.Nat.{eq-or-lt-of-le}
 use native.Mathlib.Decide.{decLe}
@@ -19,7 +19,7 @@ use Rattle.pairs.specs.Pair.{pairTotal}
 use Rattle.pairs.specs.ColumnOrder.{columnMarking, setSize}
 use Rattle.closed_set.specs.ClosedSet.{descends, descends-at}
 use Rattle.columns.specs.Columns.{start, row}
-use Rattle.columns.specs.Kept.{nonzero, keptBelow, entry, descPlaces, desc, diag, pattern}
+use Rattle.columns.specs.Kept.{nonzero, keptBelow, entry, desc, diag, pattern}
 use Rattle.columns.specs.Factor.{Column, factor-column}
 use Rattle.columns.specs.Pattern.{pattern-at}
 use Rattle.takahashi.specs.Recurrence.{Lower, Solves, at}
@@ -323,6 +323,20 @@ module _ {n : ℕ} {starts rows : List ℕ} {values : List Float} {firsts listed
 
     pub diagonal-at : (k : ℕ) → k ≡ size → DiagonalRoom n pairs j first s e rows values scratch k
     diagonal-at k q = rw (q, E .first-is, E .start-is, E .end-is) (column-diagonal pairs j all jn)
+
+    -- a column without entries
+    pub solved-empty : (z : List Float) → first ≡ last → SolvedFrom n S Z (j + 1) z → Solved n S Z j z z
+    solved-empty z q D = record {
+      long = refl;
+      rest = λ p l. refl;
+      entries = λ r c h p l t.
+          ⊎-elim
+          (λ w.
+          let v : S r j ≡ true = subst (λ (x : ℕ). S r x ≡ true) (sym w) t in
+          absurd (omega (arith, position-in n S r j (omega arith) l v, E .first-is, E .last-is)))
+          (λ w. D r c (omega arith) p l t)
+          (eq-or-lt-of-le h);
+    }
 
     pub solved-at : {d : Float} {z₀ z₁ z₂ z₃ : List Float} → d ≡ diag starts rows values j → length z₀ ≡ size → SolvedFrom n S Z (j + 1) z₀
         → SumsStored n j first last s e rows values listed scratch z₀ z₁

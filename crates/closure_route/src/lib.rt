@@ -14,7 +14,8 @@ use route_finish::divide_part;
 use route_finish::store_diagonal;
 use words::at;
 
-// The entries of column j, once those of the later columns are there: the sums, their division, and last the diagonal's entry.
+// The entries of column j, once those of the later columns are there: the sums, their division, and last the diagonal's entry. A column without
+// entries is passed over.
 fn takahashi_column(
     n: usize,
     pairs: usize,
@@ -31,10 +32,13 @@ fn takahashi_column(
     ensures { λ _. ⌜ Solved n (columnMarking n (now (scratch .entry))) (floatTable n (now (starts .entry)) (now (rows .entry)) (now (values .entry))) j
         (now («entry_values» .entry)) (now («entry_values» .exit)) ⌝ }
 {
-    let s = at(starts, j);
-    let e = at(starts, j + 1);
     let first = at(entry_starts, j);
     let last = at(entry_starts, j + 1);
+    if first == last {
+        return;
+    }
+    let s = at(starts, j);
+    let e = at(starts, j + 1);
     let d = diagonal(n, starts, rows, values, j);
     store_sums(
         n,

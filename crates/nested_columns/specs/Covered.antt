@@ -9,7 +9,7 @@ use mathlib.Core.List.{List}
 use lib.Dec.{ltb}
 use lib.ListN.{length, getD, set, replicate, length-set, length-replicate, getD-replicate}
 use lib.Seq.{getD-set-same, getD-set-other}
-use lib.Ieee.{Float, ne, eq}
+use lib.Ieee.{Float, eq}
 use borrow.Author.Tests.{lt-ltb}
 use Rattle.lists.specs.Test.{anyIn, anyIn-below, and-right, and-both}
 use Rattle.refusal.specs.Bounds.{maxDimension}

@@ -3,7 +3,6 @@ use Rattle.columns.specs.Kept.{nonzero}
 use Rattle.nested_columns.specs.Covered.{stops-none}
 use denote.Ref.{now}
 use borrow.Author.Needs.{needs}
-use native.Mathlib.Omega.{arith}
 use Rattle.closure.proofs.takahashi_dependency_closure.Statement.{statement}
 use Rattle.closure.proofs.takahashi_dependency_closure.Tie as tie
 

@@ -1,30 +1,40 @@
 use Prim.Native.Nat.{_+_}
 use native.Mathlib.Omega.{arith}
-use mathlib.Core.Path.{refl, _∙_}
+use mathlib.Core.Path.{_≡_, refl, _∙_}
+use Rattle.pairs.specs.ColumnOrder.{columnMarking}
+use Rattle.entries.specs.Entries.{columnCount}
 use denote.Ref.{now}
 use borrow.Author.Needs.{needs}
-use Rattle.closure_route.specs.Column.{Ends, storing-at, part-at, diagonal-at, solved-at}
+use Rattle.closure_route.specs.Column.{Ends, storing-at, part-at, diagonal-at, solved-empty, solved-at}
 use Rattle.closure_route.proofs.takahashi_column.Statement.{statement}
 use Rattle.closure_route.proofs.takahashi_column.Tie as tie
 
+abbrev begin : tie.After-at2 → tie.Start
+begin f = f .before .before .before .before .before .before .before .before .before
+
+abbrev bounds : tie.After-diagonal → tie.After-at2
+bounds d = d .before .before .before .before
+
 abbrev start : tie.After-diagonal → tie.Start
-start c = c .before .before .before .before .before .before .before .before .before .before .before .before
+start d = begin (bounds d)
 
 -- where the column starts and ends
-ends : (c : tie.After-diagonal) →
-    let a = start c .args in
-    Ends (a .n) (now (a .starts)) (now (a .scratch)) (a .j) (c .before .before .at3 .result) (c .before .at4 .result)
-    (c .before .before .before .before .at .result) (c .before .before .before .at2 .result)
-ends c =
-    let s = start c in
-    let G = s .pre .route in
-    let j = s .args .j in
-    record {
-      first-is = c .before .before .at3 .ensures ∙ G .starts-are j (omega (arith, s .pre .inside));
-      last-is = c .before .at4 .ensures ∙ G .starts-are (j + 1) (omega (arith, s .pre .inside));
-      start-is = c .before .before .before .before .at .ensures;
-      end-is = c .before .before .before .at2 .ensures;
-    }
+first-is : (f : tie.After-at2) → let a = begin f .args in f .before .at .result ≡ columnCount (a .n) (columnMarking (a .n) (now (a .scratch))) (a .j)
+first-is f = let s = begin f in f .before .at .ensures ∙ s .pre .route .starts-are (s .args .j) (omega (arith, s .pre .inside))
+
+last-is : (f : tie.After-at2) → let a = begin f .args in f .at2 .result ≡ columnCount (a .n) (columnMarking (a .n) (now (a .scratch))) (a .j + 1)
+last-is f = let s = begin f in f .at2 .ensures ∙ s .pre .route .starts-are (s .args .j + 1) (omega (arith, s .pre .inside))
+
+ends : (d : tie.After-diagonal) →
+    let a = start d .args in
+    Ends (a .n) (now (a .starts)) (now (a .scratch)) (a .j) (bounds d .before .at .result) (bounds d .at2 .result)
+    (d .before .before .at3 .result) (d .before .at4 .result)
+ends d = record {
+  first-is = first-is (bounds d);
+  last-is = last-is (bounds d);
+  start-is = d .before .before .at3 .ensures;
+  end-is = d .before .at4 .ensures;
+}
 
 at-requires : tie.Need-at-requires
 at-requires c κs = search needs
@@ -34,6 +44,13 @@ add-at c = search needs
 
 at-requires-2 : tie.Need-at-requires-2
 at-requires-2 c κs = search needs
+
+returns : tie.Need-returns
+returns c =
+    let f = c .before in
+    let s = begin f in
+    solved-empty (s .pre .route) (s .pre .all) (s .pre .inside) (record { first-is = first-is f; last-is = last-is f; start-is = refl; end-is = refl })
+    (now (s .args .entry-values)) (c .if1 .taken) (s .pre .later)
 
 at-requires-3 : tie.Need-at-requires-3
 at-requires-3 c κs = search needs
@@ -68,8 +85,8 @@ store-diagonal-requires c κs =
 same-length : tie.Need-same-length
 same-length c = search needs
 
-returns : tie.Need-returns
-returns c =
+returns-2 : tie.Need-returns-2
+returns-2 c =
     let x = c .before .before in
     let w = x .before .before .before .before in
     let v = w .before .before .before .before in
@@ -85,6 +102,7 @@ takahashi-column-spec =
     at-requires
     add-at
     at-requires-2
+    returns
     at-requires-3
     add-at-2
     at-requires-4
@@ -93,4 +111,4 @@ takahashi-column-spec =
     divide-part-requires
     store-diagonal-requires
     same-length
-    returns)
+    returns-2)

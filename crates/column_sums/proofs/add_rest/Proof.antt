@@ -1,6 +1,6 @@
 use Prim.Native.Nat.{ℕ, _+_}
 use native.Mathlib.Omega.{arith}
-use mathlib.Core.Path.{_≡_, ap, subst}
+use mathlib.Core.Path.{subst}
 use lib.ListN.{getD}
 use lib.Ieee.{nan}
 use denote.Ref.{now}

@@ -7,11 +7,9 @@ use denote.Ref.{now}
 use borrow.Author.Needs.{needs}
 use borrow.Author.Tests.{lt-ltb}
 use Rattle.lists.specs.Test.{and-both}
-use Rattle.columns.specs.Columns.{row, value}
+use Rattle.columns.specs.Columns.{row}
 use Rattle.columns.specs.Kept.{nonzero, nonzero-not, keptBelow}
 use Rattle.columns.specs.Factor.{FirstFrom}
-use Rattle.route_products.specs.Part.{PartSet}
-use Rattle.route_products.specs.Products.{columnTerms, ColumnRoom}
 use Rattle.column_sums.specs.Lower.{step-above, step-zero, step-none, step-added, step-room}
 use Rattle.column_sums.proofs.add_stored.Statement.{statement}
 use Rattle.column_sums.proofs.add_stored.Tie as tie

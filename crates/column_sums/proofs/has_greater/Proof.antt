@@ -1,5 +1,4 @@
 use borrow.Author.Needs.{needs}
-use native.Mathlib.Omega.{arith}
 use Rattle.column_sums.specs.Stored.{greater-none, greater-last}
 use Rattle.column_sums.proofs.has_greater.Statement.{statement}
 use Rattle.column_sums.proofs.has_greater.Tie as tie

@@ -4,7 +4,6 @@ use Rattle.columns.specs.Factor.{factor-column}
 use Rattle.nested_columns.specs.Covered.{entry-inside, cover-input, cover-nested, stop-at, stop-end}
 use borrow.Author.Needs.{needs}
 use native.Mathlib.Omega.{arith}
-use Prim.Native.Nat.{_+_}
 use Rattle.nested_columns.proofs.column_stop.Statement.{statement}
 use Rattle.nested_columns.proofs.column_stop.Tie as tie
 

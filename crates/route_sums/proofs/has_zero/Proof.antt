@@ -1,10 +1,10 @@
-use mathlib.Core.Bool.{Bool, true, false, _||_, or-false}
+use mathlib.Core.Bool.{Bool, _||_, or-false}
 use mathlib.Core.Logic.{⊎-elim}
 use Rattle.lists.specs.Test.{anyIn, anyIn-none, anyIn-next, or-right}
 use Rattle.route_sums.specs.Rest.{zeroAt}
 use borrow.Author.Needs.{needs}
 use native.Mathlib.Omega.{arith}
-use Prim.Native.Nat.{ℕ, _≤_, _-_}
+use Prim.Native.Nat.{_≤_, _-_}
 use mathlib.Core.Path.{_≡_, sym, ap, _∙_}
 use denote.Ref.{now}
 use Rattle.route_sums.proofs.has_zero.Statement.{statement}

@@ -1,9 +1,9 @@
-use Rattle.columns.specs.Columns.{row, value}
+use Rattle.columns.specs.Columns.{value}
 use Rattle.route_sums.specs.Rest.{Summed, rowPositions}
 use borrow.Author.Needs.{needs}
 use native.Mathlib.Omega.{arith}
 use Prim.Native.Nat.{ℕ, _+_, _≤_, _<_, _-_}
-use mathlib.Core.Path.{_≡_, refl, sym, ap, ap₂, subst, _∙_}
+use mathlib.Core.Path.{_≡_, ap, ap₂, subst, _∙_}
 use lib.ListN.{length, getD}
 use lib.Ieee.{Float, binary64, nan, add, mul}
 use denote.Ref.{now}

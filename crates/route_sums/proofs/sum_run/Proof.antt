@@ -3,7 +3,7 @@ use Rattle.route_sums.specs.Rest.{Summed, runPositions}
 use borrow.Author.Needs.{needs}
 use native.Mathlib.Omega.{arith}
 use Prim.Native.Nat.{ℕ, _+_, _≤_, _-_}
-use mathlib.Core.Path.{_≡_, refl, sym, ap, ap₂, subst, _∙_}
+use mathlib.Core.Path.{_≡_, ap₂, subst, _∙_}
 use lib.ListN.{getD}
 use lib.Ieee.{Float, binary64, nan, add, mul}
 use denote.Ref.{now}
