@@ -15,7 +15,7 @@ use Rattle.closed_set.specs.Size.{closureSize, requestedPairs, requestedPairs-w
 use Rattle.diagnostics.specs.Diagnosis.{statusOf}
 use Rattle.descendants.specs.FactorPattern.{factor-pattern}
 use Rattle.closure.specs.declared.Closure.{Closure}
-use Rattle.closure.specs.Queue.{Within, Finished}
+use Rattle.queue_closing.specs.Queue.{Within, Finished}
 use Rattle.closure.specs.Closure.{ClosureInput, Requested, closureOf, Closing, Closes}
 
 -- the answer with these counts

@@ -1,5 +1,4 @@
 -- The closure of requested pairs under their dependencies, and its diagnosis.
-pub mod Queue
 pub mod Closure
 pub mod KeptSet
 pub mod Diagnosis

@@ -1,80 +1,15 @@
-// The closure of requested pairs under the dependencies of a factor, with marks and a queue in scratch, after
-// `takahashi_dependency_closure` of uncertainty.rs.
+// The closure of requested pairs under the dependencies of a factor, after `takahashi_dependency_closure` of uncertainty.rs, and its diagnosis.
 ghost use lib.ListN.{length};
 ghost use Rattle.columns.specs.Kept.{nonzero, pattern};
-ghost use Rattle.closure.specs.Queue.{Waiting, EndRoom, EndOf, Finished};
 ghost use Rattle.closure.specs.Closure.{ClosureInput, Closes};
 ghost use Rattle.closure.specs.Diagnosis.{Diagnoses};
 use diagnostics::SelectedInverseDiagnostics;
 use diagnostics::SelectedInverseStatus;
 use diagnostics::selected_inverse_diagnostics;
 use kept::factor_pairs;
-use nested_columns::find_stop;
 use pair_marks::pair_total;
-use pair_queue::PACKING;
-use pair_queue::insert_closure_pair;
+use queue_closing::close_queue;
 use refusal::MAX_DIMENSION;
-use words::at;
-
-// Where closing (r, c) ends among the entries of column c: at its stop, if the row there is at most r, else with the column.
-fn column_end(r: usize, c: usize, stop: usize, starts: &[u32], rows: &[u32]) -> usize
-    requires { ⌜ EndRoom c stop (now starts) (now rows) ⌝ }
-    ensures { λ e. ⌜ EndOf (now (starts .entry)) (now (rows .entry)) stop r c e ⌝ }
-{
-    let end = at(starts, c + 1);
-    if stop < end {
-        if at(rows, stop - 1) <= r {
-            return stop;
-        }
-    }
-    end
-}
-
-// Takes each pair of the queue and inserts its dependencies, up to the first pair past the limit. Entries not kept, and diagonals, are passed over.
-// At a column's stop the rest are dependencies of the pair inserted last, and follow when its turn comes.
-fn close_queue(
-    n: usize,
-    pairs: usize,
-    starts: &[u32],
-    rows: &[u32],
-    values: &[f64],
-    limit: usize,
-    first: usize,
-    stops: &mut [u32],
-    scratch: &mut [u32],
-) -> usize
-    requires { ⌜ Waiting n pairs (now starts) (now rows) (length (now values)) (nonzero (now values)) (now stops) limit (now scratch) first ⌝ }
-    ensures { λ m. ⌜ Finished n (now (starts .entry)) (now (rows .entry)) (nonzero (now (values .entry))) limit
-        (now (scratch .entry)) first (now (scratch .exit)) m ⌝ }
-{
-    let mut count = first;
-    let mut head = 0;
-    'queue: while head < count {
-        let w = at(scratch, pairs + head);
-        let r = w / PACKING;
-        let c = w % PACKING;
-        let stop = find_stop(n, c, starts, rows, values, stops);
-        let end = column_end(r, c, stop, starts, rows);
-        let mut p = at(starts, c);
-        'column: while p < end {
-            let k = at(rows, p);
-            let l = values[p];
-            p += 1;
-            if k <= c {
-                continue 'column;
-            }
-            if l == 0.0 {
-                continue 'column;
-            }
-            count = insert_closure_pair(n, r, k, count, scratch);
-            if limit < count {
-                break 'queue;
-            }
-        }
-        head += 1;
-    }
-    count
-}
 
 // The counts of a closure: requested pairs; the closed set's pairs, or limit + 1 where it has more; and which of the two.
 pub struct Closure {

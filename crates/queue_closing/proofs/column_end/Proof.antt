@@ -3,8 +3,8 @@ use borrow.Author.Needs.{needs}
 use native.Mathlib.Omega.{arith}
 use Prim.Native.Nat.{_-_}
 use mathlib.Core.Path.{refl}
-use Rattle.closure.proofs.column_end.Statement.{statement}
-use Rattle.closure.proofs.column_end.Tie as tie
+use Rattle.queue_closing.proofs.column_end.Statement.{statement}
+use Rattle.queue_closing.proofs.column_end.Tie as tie
 
 add-at : tie.Need-add-at
 add-at c = search needs

@@ -22,7 +22,7 @@ use Rattle.columns.specs.Factor.{Factor, starts-end}
 use Rattle.closed_set.specs.ClosedSet.{Closed, Pattern, descends}
 use Rattle.nested_columns.specs.Nested.{Nested, Stop}
 use Rattle.pair_queue.specs.Marking.{rowOf, columnOf, queueWord, Queued, Marked, Insert, Inserted, count-most}
-use Rattle.closure.specs.Queue.{Within, Grown, Waiting, EndRoom, EndOf, Finished}
+use Rattle.queue_closing.specs.Queue.{Within, Grown, Waiting, EndRoom, EndOf, Finished}
 use Rattle.descendants.specs.FactorPattern.{factor-pattern, entry-descends, descends-entry}
 
 -- ---- words that grow

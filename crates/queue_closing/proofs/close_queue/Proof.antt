@@ -1,6 +1,6 @@
 use mathlib.Core.Bool.{true}
-use Rattle.closure.proofs.Queue.{Serving, Column, serving-none, serving-next, serving-more, head-words, head-pairs, word-starts, word-inside, word-end, word-most}
-use Rattle.closure.proofs.Queue.{column-none, column-skip, column-more, entry-rows, entry-values, entry-insert, finished, finished-past, above-dropped, zero-dropped, entry-kept}
+use Rattle.queue_closing.proofs.Queue.{Serving, Column, serving-none, serving-next, serving-more, head-words, head-pairs, word-starts, word-inside, word-end, word-most}
+use Rattle.queue_closing.proofs.Queue.{column-none, column-skip, column-more, entry-rows, entry-values, entry-insert, finished, finished-past, above-dropped, zero-dropped, entry-kept}
 use Rattle.pair_queue.specs.Marking.{columnOf}
 use Rattle.columns.specs.Kept.{nonzero, nonzero-not, keptBelow}
 use Rattle.columns.specs.Columns.{start}
@@ -11,8 +11,8 @@ use native.Mathlib.Omega.{arith}
 use Prim.Native.Nat.{_≤_, _<_, _-_, _+_}
 use mathlib.Core.Path.{_≡_, refl, _∙_}
 use lib.ListN.{length}
-use Rattle.closure.proofs.close_queue.Statement.{statement}
-use Rattle.closure.proofs.close_queue.Tie as tie
+use Rattle.queue_closing.proofs.close_queue.Statement.{statement}
+use Rattle.queue_closing.proofs.close_queue.Tie as tie
 
 abbrev Inv-column : tie.InvT-column
 Inv-column n pairs starts rows values limit first stops scratch₀ count₀ head w r c stop end p₀ scratch count p =

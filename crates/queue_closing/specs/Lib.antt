@@ -1,0 +1,2 @@
+-- Closing the queue's pairs under their dependencies.
+pub mod Queue
