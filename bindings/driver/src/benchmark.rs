@@ -2,8 +2,9 @@
 //!
 //! Both are timed in the same way, each in a process of its own, in rounds one after the other, case by case: processor
 //! time of the bare call, one run before the clock starts, the median of the runs; then the median of the rounds, and
-//! that of their ratios. The library's lists are allocated before and reused, and its scratch is 0 from the run before;
-//! the Rust allocates in each run. Tables are in Markdown.
+//! that of their ratios. Clearing the scratch, which every answer must do, is timed alone beside it. The library's lists
+//! are allocated before and reused, and its scratch is 0 from the run before; the Rust allocates in each run. Tables are
+//! in Markdown.
 
 use crate::call::{Call, Function};
 use crate::compare::{call_of, differences};
@@ -11,6 +12,7 @@ use crate::grid::grid;
 use crate::lend::lend;
 use crate::list::List;
 use crate::random::Random;
+use crate::rules;
 use crate::text::{Block, Blocks};
 use std::fs::File;
 use std::io::{self, BufRead, BufReader, Write};
@@ -41,15 +43,28 @@ fn median(mut times: Vec<f64>) -> f64 {
     times[times.len() / 2]
 }
 
-/// The median time of a call that has been lent its lists.
-fn median_ms(call: &mut Call, runs: usize) -> f64 {
-    call.make();
+/// The median time of a piece of work, done once before the clock starts.
+fn median_of(runs: usize, mut work: impl FnMut()) -> f64 {
+    work();
     let time = |_| {
         let start = processor_ms();
-        std::hint::black_box(call.make());
+        work();
         processor_ms() - start
     };
     median((0..runs).map(time).collect())
+}
+
+/// The median time of a call that has been lent its lists.
+fn median_ms(call: &mut Call, runs: usize) -> f64 {
+    median_of(runs, || {
+        std::hint::black_box(call.make());
+    })
+}
+
+/// The median time of setting to 0 the scratch words that every answer leaves 0: no call can take less.
+fn clearing_ms(call: &mut Call, runs: usize) -> f64 {
+    let used = rules::scratch_words(call.n);
+    median_of(runs, || std::hint::black_box(&mut call.scratch[..used]).fill(0))
 }
 
 fn lent(mut call: Call) -> Call {
@@ -69,8 +84,11 @@ struct Row {
     route: String,
     closure: usize,
     ours: f64,
+    clearing: f64,
     rust: f64,
     ratio: f64,
+    /// The clearing's part of the Rust's time.
+    least: f64,
 }
 
 /// Compares a case's answers, then times it both ways.
@@ -81,18 +99,21 @@ fn row(folder: &Path, case: &Block, runs: usize) -> io::Result<Row> {
     if differences(case, &answer) > 0 {
         return Err(io::Error::other(format!("{}: the answers differ", case.name)));
     }
-    let (mut ours, mut rust) = (Vec::new(), Vec::new());
+    let (mut ours, mut clearing, mut rust) = (Vec::new(), Vec::new(), Vec::new());
     for _ in 0..ROUNDS {
         // id kind status closure route median least
         let timed = String::from_utf8_lossy(&oracle(folder, &["timecases", &runs.to_string()], &text)?).into_owned();
         let line = timed.lines().find(|l| l.starts_with(&case.name)).unwrap_or("");
         let time = line.split(' ').nth(5).and_then(|x| x.parse().ok());
         rust.push(time.ok_or_else(|| io::Error::other(format!("{}: no time in {timed}", case.name)))?);
-        ours.push(median_ms(&mut lent(call_of(case)), runs));
+        let mut call = lent(call_of(case));
+        ours.push(median_ms(&mut call, runs));
+        clearing.push(clearing_ms(&mut call, runs));
     }
-    let ratio = median(ours.iter().zip(&rust).map(|(ours, rust)| ours / rust).collect());
+    let part = |times: &[f64]| median(times.iter().zip(&rust).map(|(time, rust)| time / rust).collect());
+    let (ratio, least) = (part(&ours), part(&clearing));
     let (route, closure) = (answer.field("route").to_string(), answer.number("closure"));
-    Ok(Row { route, closure, ours: median(ours), rust: median(rust), ratio })
+    Ok(Row { route, closure, ours: median(ours), clearing: median(clearing), rust: median(rust), ratio, least })
 }
 
 pub fn benchmark(folder: &Path, runs: usize) -> io::Result<()> {
@@ -132,8 +153,8 @@ fn machine() -> String {
 }
 
 fn rows_of_the_timing_set(folder: &Path, runs: usize) -> io::Result<()> {
-    println!("| case | Rust's route | pairs | ours | Rust | ours / Rust | target | |");
-    println!("|---|---|---|---|---|---|---|---|");
+    println!("| case | Rust's route | pairs | ours | clearing | Rust | ours / Rust | clearing / Rust | target | |");
+    println!("|---|---|---|---|---|---|---|---|---|---|");
     let mut generate = Command::new(folder.join("generate")).arg("timing").stdout(Stdio::piped()).spawn()?;
     let mut cases = Blocks::new(BufReader::new(generate.stdout.take().expect("piped")));
     while let Some(case) = cases.next()? {
@@ -145,8 +166,8 @@ fn rows_of_the_timing_set(folder: &Path, runs: usize) -> io::Result<()> {
         let target = if row.route.starts_with("factor") { FACTOR_TARGET } else { CLOSURE_TARGET };
         let met = if row.ratio <= target { "met" } else { "missed" };
         println!(
-            "| {name} | {} | {} | {:.3} | {:.3} | {:.3} | {target} | {met} |",
-            row.route, row.closure, row.ours, row.rust, row.ratio
+            "| {name} | {} | {} | {:.3} | {:.3} | {:.3} | {:.3} | {:.3} | {target} | {met} |",
+            row.route, row.closure, row.ours, row.clearing, row.rust, row.ratio, row.least
         );
     }
     generate.wait()?;
