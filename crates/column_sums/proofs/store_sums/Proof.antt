@@ -52,7 +52,7 @@ has-zero-requires : tie.Need-has-zero-requires
 has-zero-requires c κs =
     let t = c .before .before .before .before .before .before .before .before .before .before .before in
     let K = sums t .storing .column in
-    (K .ordered, K .weighed)
+    (omega (arith, K .ordered), omega (arith, K .ordered, K .weighed))
 
 -- the first pass
 abbrev lowered : tie.After-has-greater → tie.After-add-products
