@@ -8,7 +8,7 @@ use mathlib.Core.List.{List}
 use lib.Dec.{leb}
 use borrow.Author.Tests.{le-leb, lt-leb}
 use Rattle.lists.specs.Test.{same-truth}
-use Rattle.pairs.specs.ColumnOrder.{columnMarking, setSize, setSize-cong, setSize-le}
+use Rattle.pairs.specs.ColumnOrder.{columnMarking, setSize-cong, setSize-le}
 use Rattle.columns.specs.Kept.{pattern}
 use Rattle.closed_set.specs.ClosedSet.{member, member-holds, member-closed, member-least, Pattern, Holds}
 use Rattle.closed_set.specs.Size.{closureSize, requestedPairs, requestedPairs-within}

@@ -16,7 +16,7 @@ use Rattle.columns.specs.Factor.{FirstFrom}
 use Rattle.route_products.specs.Part.{PartSet}
 use Rattle.route_products.specs.Products.{columnTerms, ColumnRoom}
 use Rattle.route_sums.specs.Sums.{inverseAt, entrySum, withProduct, withProduct-above, withProduct-zero, withProduct-kept, sumBetween, sumBetween-none, sumBetween-next, product-same, Summing, summing-entry, adding-read}
-use Rattle.column_sums.specs.Stored.{Sums, first-less}
+use Rattle.column_sums.specs.Stored.{Ascends, Sums, first-less, later-row}
 
 -- the stored entry at p, and the sums from q to below last, to which its product can be added
 pub record StoredRoom (n pairs j p q last : ℕ) (rows : List ℕ) (values : List Float) (entryRows scratch : List ℕ) (size : ℕ) : Type 0 where
@@ -25,7 +25,7 @@ pub record StoredRoom (n pairs j p q last : ℕ) (rows : List ℕ) (values : Lis
   pub ordered : q ≤ last
   pub listed : last ≤ length entryRows
   pub below : (i : ℕ) → q ≤ i → i < last → j < row entryRows i
-  pub ascends : (i i′ : ℕ) → q ≤ i → i < i′ → i′ < last → row entryRows i < row entryRows i′
+  pub ascends : Ascends entryRows q last
   pub column : (from : ℕ) → q ≤ from → from < last → row rows p ≤ row entryRows from → keptBelow rows (nonzero values) j p ≡ true
       → ColumnRoom n pairs (row rows p) from last entryRows scratch size
 
@@ -76,10 +76,7 @@ module _ {n pairs j p q last : ℕ} {rows : List ℕ} {values : List Float} {ent
   module _ {m : ℕ} (F : FirstFrom (row rows p) entryRows q last m) where
     reached : (i : ℕ) → m ≤ i → i < last → row rows p ≤ row entryRows i
     reached i lo hi =
-        elim (decLe i m) [
-          | yes l ↦ (let w : m ≡ i = omega arith in subst (λ (k : ℕ). row rows p ≤ row entryRows k) w (F .stops (omega arith)))
-          | no l ↦ omega (arith, F .stops (omega arith), R .ascends m i (F .from) (omega arith) hi)
-        ]
+        omega (arith, F .stops (omega arith), later-row entryRows q last (R .ascends) m i (F .from) lo hi)
 
     -- it adds nothing
     none-added : (z : List Float) → ((i : ℕ) → m ≤ i → i < last → getD z i nan ≡ withProduct rows values j (inverseAt n scratch z (row entryRows i)) p (getD z i nan))
@@ -153,10 +150,7 @@ module _ {n pairs j first last s e : ℕ} {rows : List ℕ} {values : List Float
 
       up : (m : ℕ) → first ≤ m → row rows p ≤ row entryRows m → (i : ℕ) → m ≤ i → i < last → row rows p ≤ row entryRows i
       up m a h i c d =
-          elim (decLe i m) [
-            | yes l ↦ (let w : m ≡ i = omega arith in subst (λ (x : ℕ). row rows p ≤ row entryRows x) w h)
-            | no l ↦ omega (arith, h, R .storing .ascends m i a (omega arith) d)
-          ]
+          omega (arith, h, later-row entryRows first last (R .storing .ascends) m i a c d)
 
   -- before the first
   pub lowered-none : (z : List Float) → ((q : ℕ) → first ≤ q → q < last → getD z q nan ≡ f0) → Lowered n j first last s s rows values entryRows scratch z z

@@ -17,6 +17,10 @@ use Rattle.columns.specs.Kept.{nonzero, keptBelow}
 use Rattle.columns.specs.Factor.{Column, FirstFrom}
 use Rattle.route_sums.specs.Sums.{positionWord, inverseAt, entrySum, sumBetween-cong, Summing}
 
+-- from s to below e each row is less than every later one
+abbrev pub Ascends : List ℕ → ℕ → ℕ → Type 0
+Ascends rows s e = (q p : ℕ) → s ≤ q → q < p → p < e → row rows q < row rows p
+
 -- the result's entries from first to below last of column j, whose factor entries are stored from s to below e: their sums can be taken from
 -- entries behind them, whose positions rise with either row of a pair along a column
 pub record Storing (n pairs j first last s e : ℕ) (rows : List ℕ) (values : List Float) (entryRows scratch : List ℕ) (size : ℕ) : Type 0 where
@@ -26,7 +30,7 @@ pub record Storing (n pairs j first last s e : ℕ) (rows : List ℕ) (values : 
   pub fits : last ≤ size
   pub listed : last ≤ length entryRows
   pub column : Column rows (length values) s e
-  pub ascends : (q q′ : ℕ) → first ≤ q → q < q′ → q′ < last → row entryRows q < row entryRows q′
+  pub ascends : Ascends entryRows first last
   pub sums : (q : ℕ) → first ≤ q → q < last → j < row entryRows q → Summing n pairs (row entryRows q) j s e rows values scratch size
   pub behind : (q p : ℕ) → first ≤ q → q < last → j < row entryRows q → s ≤ p → p < e → keptBelow rows (nonzero values) j p ≡ true
       → last ≤ positionWord n scratch (row entryRows q) (row rows p)
@@ -46,6 +50,16 @@ pub record SumsStored (n j first q s e : ℕ) (rows : List ℕ) (values : List F
 pub record Sums (n pairs j first last s e : ℕ) (rows : List ℕ) (values : List Float) (entryRows scratch : List ℕ) (size : ℕ) : Type 0 where
   pub storing : Storing n pairs j first last s e rows values entryRows scratch size
   pub below : (q : ℕ) → first ≤ q → q < last → j < row entryRows q
+
+-- ---- rows that ascend
+
+-- so no later row is less
+pub later-row : (rows : List ℕ) (s e : ℕ) → Ascends rows s e → (q p : ℕ) → s ≤ q → q ≤ p → p < e → row rows q ≤ row rows p
+later-row rows s e A q p lo h hi =
+    elim (decLe p q) [
+      | yes l ↦ (let w : q ≡ p = omega arith in omega (arith, ap (row rows) w))
+      | no l ↦ omega (arith, A q p lo (omega arith) hi)
+    ]
 
 -- ---- a first place
 
@@ -78,11 +92,7 @@ module _ {rows : List ℕ} {s e : ℕ} (C : Column rows e s e) (i : ℕ) where
       (λ t. anyIn-hit (outsideAt (i + 1) rows) s e (e - 1) (omega arith) (omega arith) (le-leb (i + 1) (row rows (e - 1)) (omega (arith, ltb-true i k t))))
       (λ t.
       let f = anyIn-found (outsideAt (i + 1) rows) s e t in
-      let up : row rows (f .0) ≤ row rows (e - 1) =
-      elim (decLe (e - 1) (f .0)) [
-        | yes l ↦ (let q : f .0 ≡ e - 1 = omega (arith, f .2) in omega (arith, ap (row rows) q))
-        | no l ↦ omega (arith, C .ascends (f .0) (e - 1) (f .1) (omega arith) (omega arith))
-      ] in
+      let up = later-row rows s e (C .ascends) (f .0) (e - 1) (f .1) (omega (arith, f .2)) (omega arith) in
       lt-ltb i k (omega (arith, leb-true (i + 1) (row rows (f .0)) (f .3))))
 
 -- ---- what is written is not read
@@ -115,11 +125,7 @@ module _ {n j first last s e : ℕ} {rows : List ℕ} {values : List Float} {ent
       rises = λ q q′ p lo. R .rises q q′ p (omega (arith, F .from));
       follows = λ q p p′ lo. R .follows q p p′ (omega (arith, F .from));
     };
-    below = λ q lo hi.
-        elim (decLe q from) [
-          | yes l ↦ (let w : q ≡ from = omega arith in rw w (omega (arith, F .stops h)))
-          | no l ↦ omega (arith, F .stops h, R .ascends from q (F .from) (omega arith) hi)
-        ];
+    below = λ q lo hi. omega (arith, F .stops h, later-row entryRows first last (R .ascends) from q (F .from) lo hi);
   }
 
   pub from-stored : {z₀ z : List Float} → SumsStored n j from last s e rows values entryRows scratch z₀ z

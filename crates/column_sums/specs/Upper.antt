@@ -18,7 +18,7 @@ use Rattle.columns.specs.Factor.{FirstFrom}
 use Rattle.route_products.specs.Part.{PartSet, zeros}
 use Rattle.route_sums.specs.Sums.{inverseAt, entrySum, sumBetween, Continued, summing-from}
 use Rattle.route_sums.specs.Rest.{zeroAt, none-zero, Rest}
-use Rattle.column_sums.specs.Stored.{Sums, SumsStored, first-less, first-only, unread}
+use Rattle.column_sums.specs.Stored.{Sums, SumsStored, first-less, first-only, unread, later-row}
 use Rattle.column_sums.specs.Lower.{Lowered}
 
 -- the sum at q, and the stored entries from p to below e, whose greater rows can be added
@@ -105,10 +105,7 @@ module _ {n pairs j first last s e : ℕ} {zero : Bool} {rows : List ℕ} {value
     where
       greater : (m : ℕ) → FirstFrom (row entryRows q + 1) rows p e m → m < e → (t : ℕ) → m ≤ t → t < e → row entryRows q < row rows t
       greater m F h t a c =
-          elim (decLe t m) [
-            | yes l ↦ (let w : m ≡ t = omega arith in subst (λ (k : ℕ). row entryRows q < row rows k) w (omega (arith, F .stops h)))
-            | no l ↦ omega (arith, F .stops h, R .sums .storing .column .ascends m t (omega (arith, F .from)) (omega arith) c)
-          ]
+          omega (arith, F .stops h, later-row rows s e (R .sums .storing .column .ascends) m t (omega (arith, F .from)) a c)
 
   pub rests-none : (z : List Float) → RestsAdded n j first first s e rows values entryRows scratch z z
   rests-none z = record { long = refl; added = λ i f lo hi. absurd (omega arith); after = λ i h. refl }
@@ -157,7 +154,7 @@ module _ {n pairs j first last s e : ℕ} {zero : Bool} {rows : List ℕ} {value
         other : (i : ℕ) → (q ≡ i → ⊥) → i < q + 1 → i < q
         other i k b = elim (decLe q i) [ yes l ↦ absurd (k (omega arith)) | no l ↦ omega arith ]
 
--- no stored row is greater than one of the sums' rows
+-- no stored row is greater than the first sum's row, and so none is greater than any of theirs
 module _ {n pairs j first last s e : ℕ} {rows : List ℕ} {values : List Float} {entryRows scratch : List ℕ} {size : ℕ}
     (R : Sums n pairs j first last s e rows values entryRows scratch size) where
   pub rests-idle : (z : List Float) → anyIn (outsideAt (row entryRows first + 1) rows) s e ≡ false → RestsAdded n j first last s e rows values entryRows scratch z z
@@ -173,11 +170,7 @@ module _ {n pairs j first last s e : ℕ} {rows : List ℕ} {values : List Float
             | yes l ↦ omega (arith, F .upto)
             | no l ↦
                 (let least = leb-false (row entryRows first + 1) (row rows f) (anyIn-below (outsideAt (row entryRows first + 1) rows) s e f h (F .from) (omega arith)) in
-                let up : row entryRows first ≤ row entryRows i =
-                elim (decLe i first) [
-                  | yes x ↦ (let k : first ≡ i = omega arith in omega (arith, ap (row entryRows) k))
-                  | no x ↦ omega (arith, R .storing .ascends first i (omega arith) (omega arith) hi)
-                ] in
+                let up = later-row entryRows first last (R .storing .ascends) first i (omega arith) lo hi in
                 absurd (omega (arith, F .stops (omega arith))))
           ]
 
