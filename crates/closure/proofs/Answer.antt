@@ -23,11 +23,11 @@ abbrev pub counts : ℕ → ℕ → Bool → Closure
 counts a b t = record { «requested_pairs» = a; «closure_pairs» = b; status = statusOf t }
 
 -- the answer and the words are those of the set
-abbrev pub Answered : ℕ → (ℕ → List ℕ) → (ℕ → ℕ → Bool) → ℕ → List ℕ → Closure → List ℕ → Type 0
-Answered n desc req limit s₀ k s = (k ≡ closureOf n desc req limit) × Closing n desc req limit s₀ s
+abbrev pub Answered : ℕ → (ℕ → List ℕ) → (ℕ → ℕ → Bool) → ℕ → List ℕ → Closure → List ℕ → List ℕ → Type 0
+Answered n desc req limit s₀ k stops s = (k ≡ closureOf n desc req limit) × Closing n desc req limit s₀ stops s
 
-pub closes : {n : ℕ} {desc : ℕ → List ℕ} {limit : ℕ} {s₀ : List ℕ} {k : Closure} {s : List ℕ}
-    → ((req : ℕ → ℕ → Bool) → Requested n req s₀ → Answered n desc req limit s₀ k s) → Closes n desc limit s₀ k s
+pub closes : {n : ℕ} {desc : ℕ → List ℕ} {limit : ℕ} {s₀ : List ℕ} {k : Closure} {stops s : List ℕ}
+    → ((req : ℕ → ℕ → Bool) → Requested n req s₀ → Answered n desc req limit s₀ k stops s) → Closes n desc limit s₀ k stops s
 closes h = record { answers = λ req R. h req R .0; leaves = λ req R. h req R .1 }
 
 module _ (n : ℕ) (desc : ℕ → List ℕ) (req : ℕ → ℕ → Bool) (limit : ℕ) where
@@ -36,7 +36,8 @@ module _ (n : ℕ) (desc : ℕ → List ℕ) (req : ℕ → ℕ → Bool) (limit
   unfolding closureOf
   answer a b t p q e = rw (p, q, e)
 
-module _ {n : ℕ} {starts rows : List ℕ} {values : ℕ} {s : List ℕ} {first : ℕ} (nz : ℕ → Bool) (limit : ℕ) (G : ClosureInput n starts rows values first s) where
+module _ {n : ℕ} {starts rows : List ℕ} {values : ℕ} {stops s : List ℕ} {first : ℕ} (nz : ℕ → Bool) (limit : ℕ)
+    (G : ClosureInput n starts rows values nz first stops s) where
   abbrev desc : ℕ → List ℕ
   desc = pattern starts rows nz
 
@@ -54,15 +55,20 @@ module _ {n : ℕ} {starts rows : List ℕ} {values : ℕ} {s : List ℕ} {first
     requested-most = omega (arith, requested-size, requestedPairs-within n desc req P (R .ranged))
 
     -- the requests are past the limit
-    pub requests-past : limit < first → Answered n desc req limit s (counts first (limit + 1) false) s
+    pub requests-past : limit < first → Answered n desc req limit s (counts first (limit + 1) false) stops s
     requests-past l = (
       answer n desc req limit first (limit + 1) false requested-size
           (omega (arith, requested-most))
           (lt-leb (closureSize n desc req) limit (omega (arith, requested-most))),
-      record { long = refl; marks = λ low. absurd (omega (arith, requested-most)); later = refl },
+      record {
+        long = refl;
+        marks = λ low. absurd (omega (arith, requested-most));
+        listed = λ low. absurd (omega (arith, requested-most));
+        later = refl;
+      },
     )
 
-    module _ {t : List ℕ} {count : ℕ} (E : Finished n starts rows nz limit s first t count) where
+    module _ {stops′ t : List ℕ} {count : ℕ} (E : Finished n starts rows nz limit s first stops′ t count) where
       closed-within : Within n (member n desc req) t
       closed-within = E .within (member n desc req) (member-closed n desc req P (R .ranged)) (requested-within (member n desc req) (member-holds n desc req P (R .ranged)))
 
@@ -70,20 +76,25 @@ module _ {n : ℕ} {starts rows : List ℕ} {values : ℕ} {s : List ℕ} {first
       closed-most = omega (arith, E .marked .size, setSize-le n (columnMarking n t) (member n desc req) closed-within)
 
       -- the set is past the limit
-      pub queue-past : limit < count → Answered n desc req limit s (counts first count false) t
+      pub queue-past : limit < count → Answered n desc req limit s (counts first count false) stops′ t
       queue-past l = (
         answer n desc req limit first count false requested-size
             (omega (arith, closed-most, E .most))
             (lt-leb (closureSize n desc req) limit (omega (arith, closed-most))),
-        record { long = E .grown .long; marks = λ low. absurd (omega (arith, closed-most)); later = E .grown .later },
+        record {
+          long = E .grown .long;
+          marks = λ low. absurd (omega (arith, closed-most));
+          listed = λ low. absurd (omega (arith, closed-most));
+          later = E .grown .later;
+        },
       )
 
       -- the set is marked
-      pub queue-complete : count ≤ limit → Answered n desc req limit s (counts first count true) t
+      pub queue-complete : count ≤ limit → Answered n desc req limit s (counts first count true) stops′ t
       queue-complete l =
           let size = E .marked .size ∙ setSize-cong n (columnMarking n t) (member n desc req) same in (
             answer n desc req limit first count true requested-size (omega arith) (le-leb (closureSize n desc req) limit (omega arith)),
-            record { long = E .grown .long; marks = λ low. same; later = E .grown .later },
+            record { long = E .grown .long; marks = λ low. same; listed = λ low. E .listed l; later = E .grown .later },
           )
         where
           holds : Holds req (columnMarking n t)

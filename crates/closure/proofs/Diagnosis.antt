@@ -17,8 +17,8 @@ use Rattle.closure.specs.Closure.{ClosureInput, closureOf}
 use Rattle.closure.specs.KeptSet.{factorPairs-most}
 use Rattle.closure.specs.Diagnosis.{diagnosed, diagnosisOf}
 
-module _ {n : ℕ} {starts rows : List ℕ} (values : List Float) {first : ℕ} {s : List ℕ} (limit : ℕ) (G : ClosureInput n starts rows (length values) first s)
-    (req : ℕ → ℕ → Bool) {k : Closure} {kept : ℕ} (e : k ≡ closureOf n (pattern starts rows (nonzero values)) req limit)
+module _ {n : ℕ} {starts rows : List ℕ} (values : List Float) {first : ℕ} {stops s : List ℕ} (limit : ℕ)
+    (G : ClosureInput n starts rows (length values) (nonzero values) first stops s) (req : ℕ → ℕ → Bool) {k : Closure} {kept : ℕ} (e : k ≡ closureOf n (pattern starts rows (nonzero values)) req limit)
     (f : kept ≡ factorPairs starts rows (nonzero values) n) where
   -- they are floats
   pub counts-small : (k .«closure_pairs» ≤ maxCount) × (kept ≤ maxCount)

@@ -12,18 +12,22 @@ use Rattle.lists.specs.Test.{and-left, and-right}
 use Rattle.refusal.specs.Bounds.{maxDimension}
 use Rattle.pairs.specs.Pair.{pairTotal}
 use Rattle.pairs.specs.ColumnOrder.{columnMarking}
+use Rattle.columns.specs.Columns.{start}
 use Rattle.columns.specs.Factor.{Factor}
+use Rattle.nested_columns.specs.Nested.{Stops}
 use Rattle.closed_set.specs.ClosedSet.{member, Ranged}
 use Rattle.closed_set.specs.Size.{closureSize, requestedPairs}
 use Rattle.diagnostics.specs.Diagnosis.{statusOf}
 use Rattle.diagnostics.specs.declared.SelectedInverseStatus.the-variants.{Complete, ClosureTooLarge}
-use Rattle.pair_queue.specs.Marking.{Marked}
+use Rattle.pair_queue.specs.Marking.{Marked, Listed}
 use Rattle.closure.specs.declared.Closure.{Closure}
 
--- a factor past its checks, and words with `requested` marked pairs
-pub record ClosureInput (n : ℕ) (starts rows : List ℕ) (values requested : ℕ) (s : List ℕ) : Type 0 where
+-- a factor past its checks, a list for the stops of its columns, and words with `requested` marked pairs
+pub record ClosureInput (n : ℕ) (starts rows : List ℕ) (values : ℕ) (nz : ℕ → Bool) (requested : ℕ) (stops s : List ℕ) : Type 0 where
   pub small : n ≤ maxDimension
   pub factor : Factor n starts rows values
+  pub entered : (c : ℕ) → c < n → 0 < start starts (c + 1)
+  pub stopped : Stops n starts rows nz stops
   pub marked : Marked n s requested
 
 -- the marked pairs are those of the set
@@ -52,16 +56,18 @@ closureOf n desc req limit = record {
   status = statusOf (leb (closureSize n desc req) limit);
 }
 
--- the words that closing leaves: where the set is within the limit its marks, and in any case the words behind 2T as they were
-pub record Closing (n : ℕ) (desc : ℕ → List ℕ) (req : ℕ → ℕ → Bool) (limit : ℕ) (s₀ s : List ℕ) : Type 0 where
+-- the words that closing leaves: where the set is within the limit its marks, with the stops of their columns listed, and in any case the words
+-- behind 2T as they were
+pub record Closing (n : ℕ) (desc : ℕ → List ℕ) (req : ℕ → ℕ → Bool) (limit : ℕ) (s₀ stops s : List ℕ) : Type 0 where
   pub long : length s ≡ length s₀
   pub marks : closureSize n desc req ≤ limit → (r c : ℕ) → c ≤ r → r < n → columnMarking n s r c ≡ member n desc req r c
+  pub listed : closureSize n desc req ≤ limit → Listed n s stops
   pub later : drop (pairTotal n + pairTotal n) s ≡ drop (pairTotal n + pairTotal n) s₀
 
 -- the answer and the words of closing the marked pairs of s₀, whatever set they are
-pub record Closes (n : ℕ) (desc : ℕ → List ℕ) (limit : ℕ) (s₀ : List ℕ) (k : Closure) (s : List ℕ) : Type 0 where
+pub record Closes (n : ℕ) (desc : ℕ → List ℕ) (limit : ℕ) (s₀ : List ℕ) (k : Closure) (stops s : List ℕ) : Type 0 where
   pub answers : (req : ℕ → ℕ → Bool) → Requested n req s₀ → k ≡ closureOf n desc req limit
-  pub leaves : (req : ℕ → ℕ → Bool) → Requested n req s₀ → Closing n desc req limit s₀ s
+  pub leaves : (req : ℕ → ℕ → Bool) → Requested n req s₀ → Closing n desc req limit s₀ stops s
 
 -- ---- the status
 

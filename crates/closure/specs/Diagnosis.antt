@@ -27,9 +27,9 @@ diagnosisOf n starts rows values req limit =
     diagnosed (closureOf n (pattern starts rows (nonzero values)) req limit) (factorPairs starts rows (nonzero values) n) limit
 
 -- the diagnosis of the marked pairs of s₀, whatever set they are, and the words that closing leaves
-pub record Diagnoses (n : ℕ) (starts rows : List ℕ) (values : List Float) (limit : ℕ) (s₀ : List ℕ) (d : SelectedInverseDiagnostics) (s : List ℕ) : Type 0 where
+pub record Diagnoses (n : ℕ) (starts rows : List ℕ) (values : List Float) (limit : ℕ) (s₀ : List ℕ) (d : SelectedInverseDiagnostics) (stops s : List ℕ) : Type 0 where
   pub answers : (req : ℕ → ℕ → Bool) → Requested n req s₀ → d ≡ diagnosisOf n starts rows values req limit
-  pub leaves : (req : ℕ → ℕ → Bool) → Requested n req s₀ → Closing n (pattern starts rows (nonzero values)) req limit s₀ s
+  pub leaves : (req : ℕ → ℕ → Bool) → Requested n req s₀ → Closing n (pattern starts rows (nonzero values)) req limit s₀ stops s
 
 -- ---- factors of one dimension with equal kept positions
 

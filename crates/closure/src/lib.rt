@@ -9,7 +9,6 @@ use diagnostics::selected_inverse_diagnostics;
 use kept::factor_pairs;
 use pair_marks::pair_total;
 use queue_closing::close_queue;
-use refusal::MAX_DIMENSION;
 
 // The counts of a closure: requested pairs; the closed set's pairs, or limit + 1 where it has more; and which of the two.
 pub struct Closure {
@@ -18,7 +17,7 @@ pub struct Closure {
     pub status: SelectedInverseStatus,
 }
 
-// Closes the marked pairs under their dependencies. Leaves the closed set's marks where it is within the limit.
+// Closes the marked pairs under their dependencies. Leaves the closed set's marks, and its columns' stops, where it is within the limit.
 pub fn takahashi_dependency_closure(
     n: usize,
     starts: &[u32],
@@ -26,10 +25,12 @@ pub fn takahashi_dependency_closure(
     values: &[f64],
     requested_pairs: usize,
     limit: usize,
+    stops: &mut [u32],
     scratch: &mut [u32],
 ) -> Closure
-    requires { ⌜ ClosureInput n (now starts) (now rows) (length (now values)) «requested_pairs» (now scratch) ⌝ }
-    ensures { λ r. ⌜ Closes n (pattern (now (starts .entry)) (now (rows .entry)) (nonzero (now (values .entry)))) limit (now (scratch .entry)) r (now (scratch .exit)) ⌝ }
+    requires { ⌜ ClosureInput n (now starts) (now rows) (length (now values)) (nonzero (now values)) «requested_pairs» (now stops) (now scratch) ⌝ }
+    ensures { λ r. ⌜ Closes n (pattern (now (starts .entry)) (now (rows .entry)) (nonzero (now (values .entry)))) limit (now (scratch .entry)) r
+        (now (stops .exit)) (now (scratch .exit)) ⌝ }
 {
     if limit < requested_pairs {
         return Closure {
@@ -38,7 +39,6 @@ pub fn takahashi_dependency_closure(
             status: SelectedInverseStatus::ClosureTooLarge,
         };
     }
-    let mut stops = [0; MAX_DIMENSION];
     let pairs = pair_total(n);
     let count = close_queue(
         n,
@@ -48,7 +48,7 @@ pub fn takahashi_dependency_closure(
         values,
         limit,
         requested_pairs,
-        &mut stops,
+        stops,
         scratch,
     );
     if limit < count {
@@ -73,10 +73,12 @@ pub fn diagnose(
     values: &[f64],
     requested_pairs: usize,
     limit: usize,
+    stops: &mut [u32],
     scratch: &mut [u32],
 ) -> SelectedInverseDiagnostics
-    requires { ⌜ ClosureInput n (now starts) (now rows) (length (now values)) «requested_pairs» (now scratch) ⌝ }
-    ensures { λ r. ⌜ Diagnoses n (now (starts .entry)) (now (rows .entry)) (now (values .entry)) limit (now (scratch .entry)) r (now (scratch .exit)) ⌝ }
+    requires { ⌜ ClosureInput n (now starts) (now rows) (length (now values)) (nonzero (now values)) «requested_pairs» (now stops) (now scratch) ⌝ }
+    ensures { λ r. ⌜ Diagnoses n (now (starts .entry)) (now (rows .entry)) (now (values .entry)) limit (now (scratch .entry)) r
+        (now (stops .exit)) (now (scratch .exit)) ⌝ }
 {
     let kept = factor_pairs(n, starts, rows, values);
     let closure = takahashi_dependency_closure(
@@ -86,6 +88,7 @@ pub fn diagnose(
         values,
         requested_pairs,
         limit,
+        stops,
         scratch,
     );
     let status = closure.status;

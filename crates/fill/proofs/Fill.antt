@@ -19,6 +19,7 @@ use Rattle.entries.specs.Position.{position-cong, entryStarts-cong, entryRows-c
 use Rattle.diagnostics.specs.declared.SelectedInverseDiagnostics.{SelectedInverseDiagnostics}
 use Rattle.diagnostics.specs.declared.SelectedInverseStatus.the-variants.{Complete, ClosureTooLarge}
 use Rattle.positions.specs.Position.{Positioned}
+use Rattle.pair_queue.specs.Marking.{Listed}
 use Rattle.closure.specs.Closure.{Closing}
 use Rattle.descendants.specs.FactorPattern.{factor-pattern}
 use Rattle.layout.specs.Layout.{LayOut, LaidOut}
@@ -37,7 +38,8 @@ module _ (x : Selection) (lent : Lent) (A : Accepted x (roomOf lent)) where
   P : Pattern (x .n) (pat x)
   P = factor-pattern (nonzero (x .values)) (A .factor)
 
-  module _ {s₁ : List ℕ} (K : Closing (x .n) (pat x) (x .requests) (x .limit) (lent .scratch) s₁) {d : SelectedInverseDiagnostics} (D : d ≡ selectedAnswer x) where
+  module _ {stops s₁ : List ℕ} (K : Closing (x .n) (pat x) (x .requests) (x .limit) (lent .scratch) stops s₁) {d : SelectedInverseDiagnostics}
+      (D : d ≡ selectedAnswer x) where
     -- ---- within the limit
     module _ (told : d .status ≡ Complete) where
       complete : selectedComplete x ≡ true
@@ -63,6 +65,9 @@ module _ (x : Selection) (lent : Lent) (A : Accepted x (roomOf lent)) where
         starts-fit = A .starts-room;
         rows-fit = omega (arith, size, most, A .rows-room);
       }
+
+      pub fill-listed : Listed (x .n) s₁ stops
+      fill-listed = K .listed within
 
       module _ {rs rr s₂ : List ℕ} {count : ℕ} (L : LaidOut (x .n) (lent .resultStarts) (lent .resultRows) s₁ rs rr s₂ count) where
         laid : (r c : ℕ) → c ≤ r → r < x .n → columnMarking (x .n) s₁ r c ≡ columnMarking (x .n) s₂ r c

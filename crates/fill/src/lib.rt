@@ -11,6 +11,7 @@ use diagnostics::SelectedInverseDiagnostics;
 use diagnostics::SelectedInverseStatus;
 use layout::lay_out;
 use pair_marks::pair_total;
+use refusal::MAX_DIMENSION;
 use routes::takahashi_selected_inverse;
 use words::clear;
 
@@ -34,11 +35,21 @@ pub fn fill_lists(
         (lists (now («result_starts» .entry)) (now («result_rows» .entry)) (now («result_values» .entry)) (now (scratch .entry))) d
         (now («result_starts» .exit)) (now («result_rows» .exit)) (now («result_values» .exit)) (now (scratch .exit)) ⌝ }
 {
-    let diagnosis = diagnose(n, starts, rows, values, requested_pairs, limit, scratch);
+    let mut stops = [0; MAX_DIMENSION];
+    let diagnosis = diagnose(
+        n,
+        starts,
+        rows,
+        values,
+        requested_pairs,
+        limit,
+        &mut stops,
+        scratch,
+    );
     let status = diagnosis.status;
     match status {
         SelectedInverseStatus::Complete => {
-            lay_out(n, result_starts, result_rows, scratch);
+            lay_out(n, &stops, result_starts, result_rows, scratch);
             takahashi_selected_inverse(
                 n,
                 starts,

@@ -7,11 +7,12 @@ use native.Mathlib.Numerals.{add-one}
 use mathlib.Core.Path.{_≡_, refl, sym, ap, ap₂, subst, _∙_}
 use mathlib.Core.Bool.{Bool, true}
 use mathlib.Core.Logic.{⊎-elim}
-use mathlib.Core.List.{List, _++_, map-id}
+use mathlib.Core.List.{List, [], _++_, map-id}
 use lib.ListN.{length, getD, set, drop, length-set, length-drop}
 use lib.Seq.{getD-set-same, getD-set-other, getD-drop, ext-getD}
-use Rattle.lists.specs.Select.{select, tally, select-cong, Picked, select-at}
-use Rattle.lists.specs.Overwrite.{overwrite, overwrite-none, splice, splice-at, splice-length, splice-overwrite}
+use Rattle.lists.specs.Test.{not-so}
+use Rattle.lists.specs.Select.{select, tally, select-none, select-gap, select-cong, Picked, select-at}
+use Rattle.lists.specs.Overwrite.{overwrite, overwrite-none, splice, splice-none, splice-at, splice-length, splice-overwrite}
 use Rattle.lists.specs.Overwrite.{filled, filled-none, filled-more}
 use Rattle.lists.specs.Cells.{cells, cells-none, cells-next, cells-length}
 use Rattle.bits.specs.Bits.{bit-same}
@@ -19,6 +20,7 @@ use Rattle.refusal.specs.Bounds.{maxDimension}
 use Rattle.pairs.specs.Pair.{pairTotal, maxPairs, pairTotal-small}
 use Rattle.pairs.specs.ColumnOrder.{colStart, colStart-next, colStart-mono, colStart-total, colStart-least, columnPlace, columnPlace-column, columnPlace-below}
 use Rattle.pairs.specs.ColumnOrder.{columnMarking, byColumn, columnFirst, columnEnd, setSize, setSize-most}
+use Rattle.pair_queue.specs.Marking.{Listed}
 use Rattle.column_rows.specs.ColumnRows.{columnTest, ColumnRoom, ColumnListed}
 use Rattle.entries.specs.Entries.{columnCount, position, entryStarts, entryRows}
 use Rattle.entries.specs.Position.{columnCount-none, columnCount-next, columnCount-mono, tally-strict, select-tally}
@@ -128,6 +130,30 @@ module _ {n pairs place c first : ℕ} {rows₀ s₀ : List ℕ} (O : LayColumn 
         omega (arith, row-at q h l, word-is (getD listed (q - first) 0) (picked q h l .from), picked q h l .below));
   }
 
+-- a column that is not listed has no marked pair
+abbrev pub ListedColumn : ℕ → ℕ → List ℕ → List ℕ → Type 0
+ListedColumn n c listed s = (r : ℕ) → c ≤ r → r < n → columnMarking n s r c ≡ true → 0 < getD listed c 0
+
+-- and so no row and no position
+pub column-unlisted : (listed : List ℕ) {n c first : ℕ} {rows s : List ℕ} → c < n → ListedColumn n c listed s → getD listed c 0 ≡ 0
+    → ColumnLaid n c first rows s rows s first
+column-unlisted listed {n} {c} {first} {rows} {s} l L e = record {
+  listed = record {
+    count-is = omega (arith, ap length rows-none);
+    rows-is = sym (ap (λ (x : List ℕ). splice first x rows) rows-none ∙ splice-none first rows);
+  };
+  long = refl;
+  positions = λ r h b t. absurd (omega (arith, L r h b t));
+  before = λ q h. refl;
+  after = λ q h. refl;
+}
+  where
+    rows-none : select (columnTest n s c) c n ≡ []
+    rows-none =
+        select-gap (columnTest n s c) c c n (omega arith) (omega arith)
+        (λ r lo hi. not-so (columnMarking n s r c) (λ t. omega (arith, L r lo hi t)))
+        ∙ select-none (columnTest n s c) c
+
 -- ---- all columns
 
 -- marks of n columns with a word for each position, and room for the result
@@ -203,6 +229,10 @@ module _ {n : ℕ} {starts₀ rows₀ s₀ : List ℕ} (M : LayOut n starts₀ r
     };
     few = omega (arith, column-fits l, setSize-most n S, pairTotal-small n (M .small));
   }
+
+  -- a list that has the columns of the set's pairs has that of the column's
+  pub columns-listed : (listed : List ℕ) → Listed n s₀ listed → ListedColumn n c listed s
+  columns-listed listed H r h l t = H r c h l (sym (same-set r c h l) ∙ t)
 
   -- the column's start is written
   start-written : c ≤ n → set starts c count ≡ filled (columnCount n S) (c + 1) starts₀

@@ -1,5 +1,8 @@
 // The result's layout from the marks of a set of pairs: the starts, the rows, and each member's position in them.
-ghost use Rattle.layout.specs.Layout.{PositionsRoom, PositionsLaid, LayColumn, ColumnLaid, LayOut, LaidOut};
+ghost use Prim.Native.Nat.{_≤_, _<_};
+ghost use lib.ListN.{length};
+ghost use Rattle.pair_queue.specs.Marking.{Listed};
+ghost use Rattle.layout.specs.Layout.{PositionsRoom, PositionsLaid, LayColumn, ColumnLaid, ListedColumn, LayOut, LaidOut};
 use column_rows::list_column;
 use pair_marks::pair_total;
 use words::at;
@@ -35,9 +38,36 @@ fn lay_column(
     next
 }
 
+// The same for a column that is listed; one that is not has no marked pair, and is passed over.
+fn lay_listed_column(
+    n: usize,
+    pairs: usize,
+    place: usize,
+    c: usize,
+    first: usize,
+    listed: &[u32],
+    rows: &mut [u32],
+    scratch: &mut [u32],
+) -> usize
+    requires { ⌜ LayColumn n pairs place c first (now rows) (now scratch) × (c < length (now listed)) × ListedColumn n c (now listed) (now scratch) ⌝ }
+    ensures { λ m. ⌜ ColumnLaid n c first (now (rows .entry)) (now (scratch .entry)) (now (rows .exit)) (now (scratch .exit)) m ⌝ }
+{
+    if at(listed, c) == 0 {
+        return first;
+    }
+    lay_column(n, pairs, place, c, first, rows, scratch)
+}
+
 // Writes the starts and rows of the set that the marks say, and each member's position T words past its place; returns how many members it has.
-pub fn lay_out(n: usize, starts: &mut [u32], rows: &mut [u32], scratch: &mut [u32]) -> usize
-    requires { ⌜ LayOut n (now starts) (now rows) (now scratch) ⌝ }
+// Columns that are 0 in the list have no marked pair, and are passed over.
+pub fn lay_out(
+    n: usize,
+    listed: &[u32],
+    starts: &mut [u32],
+    rows: &mut [u32],
+    scratch: &mut [u32],
+) -> usize
+    requires { ⌜ LayOut n (now starts) (now rows) (now scratch) × (n ≤ length (now listed)) × Listed n (now scratch) (now listed) ⌝ }
     ensures { λ m. ⌜ LaidOut n (now (starts .entry)) (now (rows .entry)) (now (scratch .entry))
         (now (starts .exit)) (now (rows .exit)) (now (scratch .exit)) m ⌝ }
 {
@@ -47,7 +77,7 @@ pub fn lay_out(n: usize, starts: &mut [u32], rows: &mut [u32], scratch: &mut [u3
     let mut c = 0;
     while c < n {
         starts[c] = count as u32;
-        count = lay_column(n, pairs, place, c, count, rows, scratch);
+        count = lay_listed_column(n, pairs, place, c, count, listed, rows, scratch);
         place += n - c;
         c += 1;
     }

@@ -175,10 +175,18 @@ module _ {starts rows : List ℕ} {nz : ℕ → Bool} where
   }
 
   -- a column's stop is listed
-  pub stop-found : {n c : ℕ} {stops : List ℕ} {r : ℕ} → c < n → Stops n starts rows nz stops → Stop starts rows nz c r
+  pub stop-found : {n c : ℕ} {stops : List ℕ} {r : ℕ} → c < n → Stops n starts rows nz stops → getD stops c 0 ≡ 0 → Stop starts rows nz c r
       → StopFound n c starts rows nz stops (set stops c r) r
-  stop-found {n} {c} {stops} {r} inside S T = record {
+  stop-found {n} {c} {stops} {r} inside S none T = record {
     long = length-set stops c r;
+    kept = λ a h.
+        elim (ℕ-discrete a c) [
+          | yes q ↦ absurd (omega (arith, ap (λ (y : ℕ). getD stops y 0) q))
+          | no m ↦ omega (arith, getD-set-other stops c a r 0 m)
+        ];
+    here = λ h.
+        let v = getD-set-same stops c r 0 (omega (arith, S .fits)) in
+        elim (decLe (start starts (c + 1)) r) [ yes q ↦ omega arith | no q ↦ omega (arith, T .after (omega arith)) ];
     listed = record {
       fits = rw length-set (S .fits);
       stop = λ x l o.

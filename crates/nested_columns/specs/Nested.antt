@@ -34,8 +34,10 @@ pub record StopInput (n c : ℕ) (starts rows : List ℕ) (nz : ℕ → Bool) (v
   pub inside : c < n
   pub listed : Stops n starts rows nz stops
 
--- the column's stop, and a list of stops after it
+-- the column's stop, and a list of stops after it, which has all that were listed and that of the column, if entries are stored up to its end
 pub record StopFound (n c : ℕ) (starts rows : List ℕ) (nz : ℕ → Bool) (stops₀ stops : List ℕ) (r : ℕ) : Type 0 where
   pub long : length stops ≡ length stops₀
   pub listed : Stops n starts rows nz stops
+  pub kept : (a : ℕ) → 0 < getD stops₀ a 0 → 0 < getD stops a 0
+  pub here : 0 < start starts (c + 1) → 0 < getD stops c 0
   pub stop : Stop starts rows nz c r

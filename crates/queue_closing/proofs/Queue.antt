@@ -20,7 +20,7 @@ use Rattle.columns.specs.Columns.{start, row}
 use Rattle.columns.specs.Kept.{keptBelow, pattern}
 use Rattle.columns.specs.Factor.{Factor, starts-end}
 use Rattle.closed_set.specs.ClosedSet.{Closed, Pattern, descends}
-use Rattle.nested_columns.specs.Nested.{Nested, Stop}
+use Rattle.nested_columns.specs.Nested.{Nested, Stop, StopFound}
 use Rattle.pair_queue.specs.Marking.{rowOf, columnOf, queueWord, Queued, Marked, Insert, Inserted, count-most}
 use Rattle.queue_closing.specs.Queue.{Within, Grown, Waiting, EndRoom, EndOf, Finished}
 use Rattle.descendants.specs.FactorPattern.{factor-pattern, entry-descends, descends-entry}
@@ -167,6 +167,10 @@ pub record Serving (n : ℕ) (starts rows : List ℕ) (nz : ℕ → Bool) (limit
   pub behind : head ≤ count
   pub most : count ≤ limit + 1
 
+-- the columns of the queue's words before head are listed
+abbrev pub ListedTo : ℕ → List ℕ → List ℕ → ℕ → Type 0
+ListedTo n s stops head = (j : ℕ) → j < head → 0 < getD stops (columnOf (queueWord n s j)) 0
+
 -- the word at head is w, and its dependencies by the entries before p are marked
 pub record Taken (n : ℕ) (starts rows : List ℕ) (nz : ℕ → Bool) (s : List ℕ) (head w p : ℕ) : Type 0 where
   pub here : queueWord n s head ≡ w
@@ -274,24 +278,42 @@ module _ {n pairs : ℕ} {starts rows : List ℕ} {values limit : ℕ} (nz : ℕ
               let e₂ : min (rowOf w) (row rows d) ≡ row rows d = omega (arith, q .2) in
               inr (record { place = d; nested = N; above = q .2; marked = subst₂ (λ (x y : ℕ). columnMarking n t x y ≡ true) e₁ e₂ m })
 
+      -- and its column is listed
+      pub listed-next : {stops₀ stops₁ : List ℕ} {stop : ℕ} → StopFound n (columnOf w) starts rows nz stops₀ stops₁ stop → ListedTo n s stops₀ head
+          → ListedTo n t stops₁ (head + 1)
+      listed-next {stops₀} {stops₁} F L j l =
+          ⊎-elim
+          (λ q.
+          let Q = subst (λ (x : ℕ). Queued n t x) (K .taken .here) (K .serving .marked .queued head (K .ahead)) in
+          subst (λ (x : ℕ). 0 < getD stops₁ (columnOf x) 0) (sym (ap (queueWord n t) q ∙ K .taken .here))
+          (F .here (I .entered (columnOf w) (omega (arith, Q .ordered, Q .inside)))))
+          (λ q.
+          subst (λ (x : ℕ). 0 < getD stops₁ (columnOf x) 0) (sym (K .serving .grown .words j (omega (arith, U₀ .behind)))) (F .kept _ (L j q)))
+          (eq-or-lt-of-le (le-of-suc-le-suc (rw add-one at l)))
+
       -- the limit is passed
-      pub finished-past : {t′ : List ℕ} {count″ : ℕ} → limit < count″ → Serving n starts rows nz limit s count t′ head count″
-          → Finished n starts rows nz limit s₀ first t′ count″
+      pub finished-past : {stops₁ t′ : List ℕ} {count″ : ℕ} → limit < count″ → Serving n starts rows nz limit s count t′ head count″
+          → Finished n starts rows nz limit s₀ first stops₁ t′ count″
       finished-past l U = record {
         marked = U .marked;
         grown = grown-trans (U₀ .grown) (U .grown);
         within = λ S C W. U .within S C (U₀ .within S C W);
         closed = λ low. absurd (omega arith);
+        listed = λ low. absurd (omega arith);
         most = U .most;
       }
 
     -- the queue is done
-    pub finished : count ≤ head → Finished n starts rows nz limit s₀ first s count
-    finished h = record {
+    pub finished : {stops₁ : List ℕ} → ListedTo n s stops₁ head → count ≤ head → Finished n starts rows nz limit s₀ first stops₁ s count
+    finished {stops₁} L h = record {
       marked = U₀ .marked;
       grown = U₀ .grown;
       within = U₀ .within;
       closed = λ low. done-closed nz (I .factor) s count (I .small) (U₀ .marked) (λ j l. U₀ .done j (omega arith));
+      listed = λ low r c a b m.
+          let f = U₀ .marked .found r c a b m in
+          let q : columnOf (queueWord n s (f .0)) ≡ c = omega (arith, f .2, I .small) in
+          subst (λ (x : ℕ). 0 < getD stops₁ x 0) q (L (f .0) (omega (arith, f .1)));
       most = U₀ .most;
     }
 

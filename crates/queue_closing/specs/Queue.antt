@@ -14,7 +14,7 @@ use Rattle.columns.specs.Factor.{Factor}
 use Rattle.columns.specs.Kept.{pattern}
 use Rattle.closed_set.specs.ClosedSet.{Closed}
 use Rattle.nested_columns.specs.Nested.{Stops}
-use Rattle.pair_queue.specs.Marking.{queueWord, Marked}
+use Rattle.pair_queue.specs.Marking.{queueWord, Marked, Listed}
 
 -- each marked pair is in the set
 abbrev pub Within : ℕ → (ℕ → ℕ → Bool) → List ℕ → Type 0
@@ -28,11 +28,12 @@ pub record Grown (n : ℕ) (s : List ℕ) (count : ℕ) (s′ : List ℕ) (count
   pub words : (j : ℕ) → j < count → queueWord n s′ j ≡ queueWord n s j
   pub later : drop (pairTotal n + pairTotal n) s′ ≡ drop (pairTotal n + pairTotal n) s
 
--- a factor, stops of its columns, and marked pairs that are within the limit
+-- a factor with entries up to the end of each column, stops of its columns, and marked pairs that are within the limit
 pub record Waiting (n pairs : ℕ) (starts rows : List ℕ) (values : ℕ) (nz : ℕ → Bool) (stops : List ℕ) (limit : ℕ) (s : List ℕ) (count : ℕ) : Type 0 where
   pub small : n ≤ maxDimension
   pub all : pairs ≡ pairTotal n
   pub factor : Factor n starts rows values
+  pub entered : (c : ℕ) → c < n → 0 < start starts (c + 1)
   pub stopped : Stops n starts rows nz stops
   pub marked : Marked n s count
   pub low : count ≤ limit
@@ -48,10 +49,12 @@ abbrev pub EndOf : List ℕ → List ℕ → ℕ → ℕ → ℕ → ℕ → Typ
 EndOf starts rows stop r c e =
     (e ≡ start starts (c + 1)) ⊎ ((stop < start starts (c + 1)) × (e ≡ stop) × (row rows (stop - 1) ≤ r))
 
--- each pair added is in every closed set that holds those marked before; within the limit the marked pairs are closed
-pub record Finished (n : ℕ) (starts rows : List ℕ) (nz : ℕ → Bool) (limit : ℕ) (s₀ : List ℕ) (first : ℕ) (s : List ℕ) (count : ℕ) : Type 0 where
+-- each pair added is in every closed set that holds those marked before; within the limit the marked pairs are closed, and the stops of their
+-- columns are listed
+pub record Finished (n : ℕ) (starts rows : List ℕ) (nz : ℕ → Bool) (limit : ℕ) (s₀ : List ℕ) (first : ℕ) (stops s : List ℕ) (count : ℕ) : Type 0 where
   pub marked : Marked n s count
   pub grown : Grown n s₀ first s count
   pub within : (S : ℕ → ℕ → Bool) → Closed n (pattern starts rows nz) S → Within n S s₀ → Within n S s
   pub closed : count ≤ limit → Closed n (pattern starts rows nz) (columnMarking n s)
+  pub listed : count ≤ limit → Listed n s stops
   pub most : count ≤ limit + 1

@@ -37,7 +37,7 @@ pub fn close_queue(
 ) -> usize
     requires { ⌜ Waiting n pairs (now starts) (now rows) (length (now values)) (nonzero (now values)) (now stops) limit (now scratch) first ⌝ }
     ensures { λ m. ⌜ Finished n (now (starts .entry)) (now (rows .entry)) (nonzero (now (values .entry))) limit
-        (now (scratch .entry)) first (now (scratch .exit)) m ⌝ }
+        (now (scratch .entry)) first (now (stops .exit)) (now (scratch .exit)) m ⌝ }
 {
     let mut count = first;
     let mut head = 0;

@@ -6,35 +6,33 @@ use Rattle.closure.proofs.diagnose.Statement.{statement}
 use Rattle.closure.proofs.diagnose.Tie as tie
 
 abbrev begin : tie.After-takahashi-dependency-closure → tie.Start
-begin k = k .before .before .before .before .before .before .before
+begin k = k .before .before .before .before .before .before .before .before .before
 
--- src/lib.rt:125:9
 factor-pairs-requires : tie.Need-factor-pairs-requires
 factor-pairs-requires c κs = search needs
 
--- src/lib.rt:126:9
 takahashi-dependency-closure-requires : tie.Need-takahashi-dependency-closure-requires
 takahashi-dependency-closure-requires c κs = search needs
 
--- src/lib.rt:136:5
 selected-inverse-diagnostics-requires : tie.Need-selected-inverse-diagnostics-requires
 selected-inverse-diagnostics-requires c κs =
-    let k = c .before .before in
+    let k = c .before .before .before .before in
     let a = begin k .args in
     let S = markedSet (a .n) (now (a .scratch)) in
     counts-small (now (a .values)) (a .limit) (begin k .pre) S
-    (k .takahashi-dependency-closure .ensures .answers S (marked-requested (a .n) (now (a .scratch)))) (k .before .before .factor-pairs .ensures)
+    (k .takahashi-dependency-closure .ensures .answers S (marked-requested (a .n) (now (a .scratch)))) (k .before .before .before .factor-pairs .ensures)
 
--- src/lib.rt:113:1
 same-length : tie.Need-same-length
 same-length c = search needs
 
--- src/lib.rt:113:1
+same-length-2 : tie.Need-same-length-2
+same-length-2 c = search needs
+
 returns : tie.Need-returns
 returns c =
-    let k = c .before .before .before in
+    let k = c .before .before .before .before .before in
     let e = k .takahashi-dependency-closure .ensures in
-    let f = k .before .before .factor-pairs .ensures in
+    let f = k .before .before .before .factor-pairs .ensures in
     let a = begin k .args in
     record {
       answers = λ req R. counts-diagnosis (now (a .values)) (a .limit) (begin k .pre) req (e .answers req R) f (c .selected-inverse-diagnostics .ensures);
@@ -49,4 +47,5 @@ diagnose-spec =
     takahashi-dependency-closure-requires
     selected-inverse-diagnostics-requires
     same-length
+    same-length-2
     returns)

@@ -1,6 +1,5 @@
 use Rattle.closure.proofs.Answer.{closes, requests-past, queue-past, queue-complete}
 use Rattle.columns.specs.Kept.{nonzero}
-use Rattle.nested_columns.specs.Covered.{stops-none}
 use denote.Ref.{now}
 use borrow.Author.Needs.{needs}
 use Rattle.closure.proofs.takahashi_dependency_closure.Statement.{statement}
@@ -8,30 +7,28 @@ use Rattle.closure.proofs.takahashi_dependency_closure.Tie as tie
 
 -- where the call begins
 abbrev begin : tie.After-close-queue → tie.Start
-begin q = q .before .before .before .before .before .before .before .before .before
+begin q = q .before .before .before .before .before .before .before .before .before .before
 
 add-t12 : tie.Need-add-t12
 add-t12 c = search needs
 
 returns : tie.Need-returns
 returns c =
-    let s = c .before .before .before .before .before in
+    let s = c .before .before .before .before .before .before in
     closes (λ req R. requests-past (nonzero (now (s .args .values))) (s .args .limit) (s .pre) req R (c .if1 .taken))
 
 pair-total-requires : tie.Need-pair-total-requires
 pair-total-requires c κs = search needs
 
-slice-aggregate-close-queue : tie.Need-slice-aggregate-close-queue
-slice-aggregate-close-queue c = search needs
-
 close-queue-requires : tie.Need-close-queue-requires
 close-queue-requires c κs =
-    let s = c .before .before .before .before .before .before .before .before in
+    let s = c .before .before .before .before .before .before .before .before .before in
     record {
       small = s .pre .small;
       all = c .before .before .pair-total .ensures .0;
       factor = s .pre .factor;
-      stopped = stops-none (s .pre .small);
+      entered = s .pre .entered;
+      stopped = s .pre .stopped;
       marked = s .pre .marked;
       low = c .before .before .before .if1 .left;
     }
@@ -39,18 +36,24 @@ close-queue-requires c κs =
 same-length : tie.Need-same-length
 same-length c = search needs
 
-returns-2 : tie.Need-returns-2
-returns-2 c =
-    let q = c .before .before .before .before in
-    let s = begin q in
-    closes (λ req R. queue-past (nonzero (now (s .args .values))) (s .args .limit) (s .pre) req R (q .close-queue .ensures) (c .if2 .taken))
-
 same-length-2 : tie.Need-same-length-2
 same-length-2 c = search needs
 
+returns-2 : tie.Need-returns-2
+returns-2 c =
+    let q = c .before .before .before .before .before in
+    let s = begin q in
+    closes (λ req R. queue-past (nonzero (now (s .args .values))) (s .args .limit) (s .pre) req R (q .close-queue .ensures) (c .if2 .taken))
+
+same-length-3 : tie.Need-same-length-3
+same-length-3 c = search needs
+
+same-length-4 : tie.Need-same-length-4
+same-length-4 c = search needs
+
 returns-3 : tie.Need-returns-3
 returns-3 c =
-    let q = c .before .before .before .before in
+    let q = c .before .before .before .before .before in
     let s = begin q in
     closes (λ req R. queue-complete (nonzero (now (s .args .values))) (s .args .limit) (s .pre) req R (q .close-queue .ensures) (c .if2 .left))
 
@@ -61,9 +64,10 @@ takahashi-dependency-closure-spec =
     add-t12
     returns
     pair-total-requires
-    slice-aggregate-close-queue
     close-queue-requires
     same-length
-    returns-2
     same-length-2
+    returns-2
+    same-length-3
+    same-length-4
     returns-3)

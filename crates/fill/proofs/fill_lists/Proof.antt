@@ -1,12 +1,15 @@
 use borrow.Author.Needs.{needs}
 use native.Mathlib.Omega.{arith}
-use Prim.Native.Nat.{ℕ}
+use Prim.Native.Nat.{ℕ, _≤_}
+use lib.ListN.{length-replicate}
+use Rattle.refusal.specs.Bounds.{maxDimension}
 use mathlib.Core.Path.{_∙_}
 use denote.Ref.{now}
 use mathlib.Core.Bool.{Bool}
 use Rattle.selection.specs.Selection.{Selection, selection, Lent, lists, roomOf, Accepted}
 use Rattle.closure.specs.Closure.{Requested, markedSet, marked-requested}
-use Rattle.fill.proofs.Fill.{fill-layout, fill-route, fill-long, fill-positions, fill-done, large-positions, large-done}
+use Rattle.nested_columns.specs.Covered.{stops-none}
+use Rattle.fill.proofs.Fill.{fill-layout, fill-listed, fill-route, fill-long, fill-positions, fill-done, large-positions, large-done}
 use Rattle.fill.proofs.fill_lists.Statement.{statement}
 use Rattle.fill.proofs.fill_lists.Tie as tie
 
@@ -24,7 +27,7 @@ lent s = let a = s .args in lists (now (a .result-starts)) (now (a .result-rows)
 
 -- where the call starts
 abbrev begin : tie.After-diagnose → tie.Start
-begin d = d .before .before .before .before .before .before .before .before .before
+begin d = d .before .before .before .before .before .before .before .before .before .before
 
 -- the marked pairs are a set
 set : (d : tie.After-diagnose) → let a = begin d .args in Requested (a .n) (markedSet (a .n) (now (a .scratch))) (now (a .scratch))
@@ -45,24 +48,47 @@ other s req R =
       scratch-room = A .scratch-room;
     }
 
+slice-aggregate-diagnose : tie.Need-slice-aggregate-diagnose
+slice-aggregate-diagnose c = search needs
+
 diagnose-requires : tie.Need-diagnose-requires
-diagnose-requires c κs = search needs
+diagnose-requires c κs =
+    let s = c .before .before .before .before .before .before .before .before .before in
+    let A = s .pre .accepted in
+    record {
+      small = A .small;
+      factor = A .factor;
+      entered = λ k l. omega (arith, A .diagonals .diagonal k l .below);
+      stopped = stops-none (A .small);
+      marked = s .pre .marked;
+    }
 
 enum-told : tie.Need-enum-told
 enum-told c = search needs
 
+slice-aggregate-lay-out : tie.Need-slice-aggregate-lay-out
+slice-aggregate-lay-out c = search needs
+
 lay-out-requires : tie.Need-lay-out-requires
 lay-out-requires c κs =
-    let t = c .before .before .before in
-    let d = t .before .before .before .before in
+    let t = c .before .before .before .before in
+    let d = t .before .before .before .before .before in
     let s = begin d in
-    fill-layout (handed s) (lent s) (s .pre .accepted) (d .diagnose .ensures .leaves _ (set d)) (d .diagnose .ensures .answers _ (set d)) (t .enum-told .given .1)
+    let K = d .diagnose .ensures .leaves _ (set d) in
+    let D = d .diagnose .ensures .answers _ (set d) in
+    let told = t .enum-told .given .1 in
+    let long : s .args .n ≤ maxDimension = s .pre .accepted .small in
+    let kept = d .diagnose .kept .1 .1 .1 .1 .1 .1 .0 in (
+      fill-layout (handed s) (lent s) (s .pre .accepted) K D told,
+      omega (arith, kept, length-replicate {A = ℕ} maxDimension 0),
+      fill-listed (handed s) (lent s) (s .pre .accepted) K D told,
+    )
 
 takahashi-selected-inverse-requires : tie.Need-takahashi-selected-inverse-requires
 takahashi-selected-inverse-requires c κs =
     let l = c .before .before .before .before .before .before .before .before .before .before in
-    let t = l .before .before .before .before in
-    let d = t .before .before .before .before in
+    let t = l .before .before .before .before .before in
+    let d = t .before .before .before .before .before in
     let s = begin d in
     fill-route (handed s) (lent s) (s .pre .accepted) (d .diagnose .ensures .leaves _ (set d)) (d .diagnose .ensures .answers _ (set d)) (t .enum-told .given .1)
     (l .lay-out .ensures)
@@ -86,8 +112,8 @@ returns : tie.Need-returns
 returns c =
     let k = c .before .before in
     let l = k .before .before .before .before .before .before .before .before .before .before .before in
-    let t = l .before .before .before .before in
-    let d = t .before .before .before .before in
+    let t = l .before .before .before .before .before in
+    let d = t .before .before .before .before .before in
     let s = begin d in
     let E = d .diagnose .ensures in
     let told = t .enum-told .given .1 in
@@ -108,7 +134,7 @@ same-length-5 c = search needs
 
 returns-2 : tie.Need-returns-2
 returns-2 c =
-    let d = c .before .before .before .before in
+    let d = c .before .before .before .before .before in
     let s = begin d in
     let E = d .diagnose .ensures in
     let told = c .enum-told2 .given .1 in
@@ -125,8 +151,10 @@ pub fill-lists-spec : {M : Type 1} → statement M
 fill-lists-spec =
     tie.close
     (tie.spec
+    slice-aggregate-diagnose
     diagnose-requires
     enum-told
+    slice-aggregate-lay-out
     lay-out-requires
     takahashi-selected-inverse-requires
     enum-told-2

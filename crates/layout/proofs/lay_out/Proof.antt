@@ -2,27 +2,28 @@ use Prim.Native.Nat.{_≤_, _-_, _+_}
 use native.Mathlib.Omega.{arith}
 use mathlib.Core.Path.{_≡_, refl, sym, _∙_}
 use lib.ListN.{length, length-set}
+use denote.Ref.{now}
 use borrow.Author.Needs.{needs}
 use Rattle.pairs.specs.Pair.{maxPairs, pairTotal-small}
 use Rattle.pairs.specs.ColumnOrder.{colStart, colStart-none, colStart-next, colStart-mono, colStart-total}
-use Rattle.layout.specs.Layout.{ColumnsLaid, columns-none, columns-few, columns-room, columns-more, columns-end}
+use Rattle.layout.specs.Layout.{ColumnsLaid, columns-none, columns-few, columns-room, columns-listed, columns-more, columns-end}
 use Rattle.layout.proofs.lay_out.Statement.{statement}
 use Rattle.layout.proofs.lay_out.Tie as tie
 
 abbrev Inv-loop : tie.InvT-loop
-Inv-loop n starts₀ rows₀ scratch₀ pairs count₀ place₀ c₀ starts rows scratch count place c =
+Inv-loop n listed starts₀ rows₀ scratch₀ pairs count₀ place₀ c₀ starts rows scratch count place c =
     (length starts ≡ length starts₀) × (length rows ≡ length rows₀) × (length scratch ≡ length scratch₀) × (c ≤ n) × (place ≡ colStart n c)
     × ColumnsLaid n c starts₀ rows₀ scratch₀ starts rows scratch count
 
 abbrev μ-loop : tie.MeasureT-loop
-μ-loop n starts₀ rows₀ scratch₀ pairs count₀ place₀ c₀ starts rows scratch count place c = n - c
+μ-loop n listed starts₀ rows₀ scratch₀ pairs count₀ place₀ c₀ starts rows scratch count place c = n - c
 
 abbrev start : tie.At-loop Inv-loop μ-loop → tie.Start Inv-loop μ-loop
-start q = q .before .before .before .before .before
+start q = q .before .before .before .before .before .before
 
 -- the count is a word
 few : (q : tie.At-loop Inv-loop μ-loop) → q .loop .count ≤ maxPairs
-few q = columns-few (start q .pre) (q .loop .inv .5) (q .loop .inv .3)
+few q = columns-few (start q .pre .0) (q .loop .inv .5) (q .loop .inv .3)
 
 -- the next column's place
 next : (t : tie.In-loop Inv-loop μ-loop) →
@@ -48,11 +49,16 @@ mul-starts c = search needs
 slice-write-starts : tie.Need-slice-write-starts Inv-loop μ-loop
 slice-write-starts c = search needs
 
-lay-column-requires : tie.Need-lay-column-requires Inv-loop μ-loop
-lay-column-requires c κs =
+lay-listed-column-requires : tie.Need-lay-listed-column-requires Inv-loop μ-loop
+lay-listed-column-requires c κs =
     let t = c .before .before in
     let q = t .before in
-    columns-room (start q .pre) (q .loop .inv .5) _ _ (q .before .pair-total .ensures .0) (q .loop .inv .4) (t .loop-test .taken) (q .loop .inv .1)
+    let s = start q in
+    let l = q .loop in (
+      columns-room (s .pre .0) (l .inv .5) _ _ (q .before .pair-total .ensures .0) (l .inv .4) (t .loop-test .taken) (l .inv .1),
+      omega (arith, s .pre .1, t .loop-test .taken),
+      columns-listed (s .pre .0) (l .inv .5) (now (s .args .listed)) (s .pre .2),
+    )
 
 sub-place : tie.Need-sub-place Inv-loop μ-loop
 sub-place c = search needs
@@ -62,7 +68,7 @@ add-place c =
     let t = c .before .before .before .before .before .before .before in
     let s = start (t .before) in
     let n = s .args .n in
-    omega (arith, next t, colStart-mono n (t .before .loop .c + 1) n (omega (arith, t .loop-test .taken)), colStart-total n, pairTotal-small n (s .pre .small))
+    omega (arith, next t, colStart-mono n (t .before .loop .c + 1) n (omega (arith, t .loop-test .taken)), colStart-total n, pairTotal-small n (s .pre .0 .small))
 
 add-c : tie.Need-add-c Inv-loop μ-loop
 add-c c = search needs
@@ -77,11 +83,11 @@ loop-again c =
     let l = t .before .loop in
     let s = start (t .before) in (
       length-set (l .starts) (l .c) _ ∙ l .inv .0,
-      v .lay-column .kept .1 .1 .1 .1 .1 .0 ∙ l .inv .1,
-      v .lay-column .kept .1 .1 .1 .1 .1 .1 .0 ∙ l .inv .2,
+      v .lay-listed-column .kept .1 .1 .1 .1 .1 .1 .0 ∙ l .inv .1,
+      v .lay-listed-column .kept .1 .1 .1 .1 .1 .1 .1 .0 ∙ l .inv .2,
       omega (arith, t .loop-test .taken),
       next t,
-      columns-more (s .pre) (l .inv .5) (t .loop-test .taken) (v .lay-column .ensures),
+      columns-more (s .pre .0) (l .inv .5) (t .loop-test .taken) (v .lay-listed-column .ensures),
     )
 
 cast-starts-2 : tie.Need-cast-starts-2 Inv-loop μ-loop
@@ -105,7 +111,7 @@ same-length-3 c = search needs
 returns : tie.Need-returns Inv-loop μ-loop
 returns c =
     let l = c .before .loop in
-    columns-end (start (c .before) .pre) (l .inv .5) (omega (arith, c .loop-test .left, l .inv .3))
+    columns-end (start (c .before) .pre .0) (l .inv .5) (omega (arith, c .loop-test .left, l .inv .3))
 
 pub lay-out-spec : {M : Type 1} → statement M
 lay-out-spec =
@@ -118,7 +124,7 @@ lay-out-spec =
     cast-starts
     mul-starts
     slice-write-starts
-    lay-column-requires
+    lay-listed-column-requires
     sub-place
     add-place
     add-c

@@ -24,6 +24,8 @@ returns c =
     record {
       long = refl;
       listed = S;
+      kept = λ a h. h;
+      here = λ h. omega (arith, e, c .if1 .taken);
       stop = subst (λ (k : ℕ). Stop (now (z .args .starts)) (now (z .args .rows)) (nonzero (now (z .args .values))) (z .args .c) k) (sym e) T;
     }
 
@@ -43,7 +45,9 @@ same-length-2 : tie.Need-same-length-2
 same-length-2 c = search needs
 
 returns-2 : tie.Need-returns-2
-returns-2 c = let z = c .before .before .before .before .before .before .before .before in stop-found (z .pre .inside) (z .pre .listed) (c .column-stop .ensures)
+returns-2 c =
+    let z = c .before .before .before .before .before .before .before .before in
+    stop-found (z .pre .inside) (z .pre .listed) (omega (arith, c .before .before .at .ensures, c .before .if1 .left)) (c .column-stop .ensures)
 
 pub find-stop-spec : {M : Type 1} → statement M
 find-stop-spec =

@@ -1,6 +1,6 @@
 use mathlib.Core.Bool.{true}
 use Rattle.queue_closing.proofs.Queue.{Serving, Column, serving-none, serving-next, serving-more, head-words, head-pairs, word-starts, word-inside, word-end, word-most}
-use Rattle.queue_closing.proofs.Queue.{column-none, column-skip, column-more, entry-rows, entry-values, entry-insert, finished, finished-past, above-dropped, zero-dropped, entry-kept}
+use Rattle.queue_closing.proofs.Queue.{column-none, column-skip, column-more, entry-rows, entry-values, entry-insert, finished, finished-past, listed-next, ListedTo, above-dropped, zero-dropped, entry-kept}
 use Rattle.pair_queue.specs.Marking.{columnOf}
 use Rattle.columns.specs.Kept.{nonzero, nonzero-not, keptBelow}
 use Rattle.columns.specs.Columns.{start}
@@ -28,6 +28,7 @@ Inv-queue n pairs starts rows values limit first stops₀ scratch₀ count₀ he
     × Serving n starts rows (nonzero values) limit scratch₀ first scratch head count
     × (length stops ≡ length stops₀)
     × Stops n starts rows (nonzero values) stops
+    × ListedTo n scratch stops head
 
 abbrev μ-queue : tie.MeasureT-queue
 μ-queue n pairs starts rows values limit first stops₀ scratch₀ count₀ head₀ stops scratch count head = pairs - head
@@ -98,7 +99,7 @@ is-kept c =
 -- ---- the needs
 
 queue-holds : tie.Need-queue-holds Inv-column μ-column Inv-queue μ-queue
-queue-holds c = let s = c .before .before .before .before .before in (refl, s .pre .low, serving-none (nonzero (now (s .args .values))) (s .pre), refl, s .pre .stopped)
+queue-holds c = let s = c .before .before .before .before .before in (refl, s .pre .low, serving-none (nonzero (now (s .args .values))) (s .pre), refl, s .pre .stopped, λ j l. absurd (omega arith))
 
 add-at : tie.Need-add-at Inv-column μ-column Inv-queue μ-queue
 add-at c = let l = in-queue (c .before) in search needs
@@ -221,7 +222,8 @@ queue-again c =
     let h = c .column-test .left in
     let f = found k .find-stop .ensures in
     let U = serving-next (nonzero (now (s .args .values))) (s .pre) (q .queue .inv .2) (K .1) (f .stop) (k .before .before .column-end .ensures) (omega arith) in
-    (K .0 ∙ q .queue .inv .0, K .1 .low, U, f .long ∙ q .queue .inv .3, f .listed)
+    let L = listed-next (nonzero (now (s .args .values))) (s .pre) (q .queue .inv .2) (K .1) f (q .queue .inv .5) in
+    (K .0 ∙ q .queue .inv .0, K .1 .low, U, f .long ∙ q .queue .inv .3, f .listed, L)
 
 same-length : tie.Need-same-length Inv-column μ-column Inv-queue μ-queue
 same-length c = c .before .queue .inv .3
@@ -233,7 +235,7 @@ returns : tie.Need-returns Inv-column μ-column Inv-queue μ-queue
 returns c =
     let q = c .before in
     let s = begin q in
-    finished (nonzero (now (s .args .values))) (s .pre) (q .queue .inv .2) (c .queue-test .left)
+    finished (nonzero (now (s .args .values))) (s .pre) (q .queue .inv .2) (q .queue .inv .5) (c .queue-test .left)
 
 same-length-3 : tie.Need-same-length-3 Inv-column μ-column Inv-queue μ-queue
 same-length-3 c =
