@@ -1,94 +1,39 @@
-use Rattle.columns.specs.Kept.{kept, nonzero, factorPairs, factorPairs-none, factorPairs-next}
-use Rattle.columns.specs.Factor.{factor-column, starts-end}
-use Rattle.lists.specs.Select.{tally-most}
+use mathlib.Core.Path.{sym, _∙_}
 use borrow.Author.Needs.{needs}
-use native.Mathlib.Omega.{arith}
-use Prim.Native.Nat.{_≤_, _-_, _+_}
-use mathlib.Core.Path.{_≡_, ap, sym, _∙_}
-use lib.ListN.{length, getD}
+use Rattle.columns.specs.Kept.{nonzero}
+use Rattle.kept.specs.Above.{factorPairs-whole}
 use Rattle.kept.proofs.factor_pairs.Statement.{statement}
 use Rattle.kept.proofs.factor_pairs.Tie as tie
 
-abbrev Inv-loop : tie.InvT-loop
-Inv-loop n starts rows values count₀ c₀ count c = (c ≤ n) × (count ≤ getD starts c 0) × (count ≡ factorPairs starts rows (nonzero values) c)
+has-above-requires : tie.Need-has-above-requires
+has-above-requires c κs = search needs
 
-abbrev μ-loop : tie.MeasureT-loop
-μ-loop n starts rows values count₀ c₀ count c = n - c
+kept-columns-requires : tie.Need-kept-columns-requires
+kept-columns-requires c κs = search needs
 
--- the count stays below the next start
-bound : (c : tie.After-kept-between Inv-loop μ-loop) →
-    let a = c .before .before .before .before in
-    a .loop .count + c .kept-between .result ≤ getD (a .before .before .before .before .args .starts .now) (a .loop .c + 1) 0
-bound c =
-    let a = c .before .before .before .before in
-    let s = a .before .before .before .before in
-    omega (
-      arith,
-      c .kept-between .ensures,
-      tally-most (kept (s .args .rows .now) (nonzero (s .args .values .now)) (a .loop .c)) (c .before .before .at .result) (c .before .at2 .result),
-      s .pre .starts-rise .rising (a .loop .c) (omega arith),
-    )
+returns : tie.Need-returns
+returns c = search needs
 
--- which is within the rows
-end : (c : tie.After-kept-between Inv-loop μ-loop) →
-    let a = c .before .before .before .before in
-    let s = a .before .before .before .before in
-    getD (s .args .starts .now) (a .loop .c + 1) 0 ≤ length (s .args .rows .now)
-end c =
-    let a = c .before .before .before .before in
-    starts-end (a .before .before .before .before .pre .starts-rise) (a .loop .c + 1) (omega arith)
-
-loop-holds : tie.Need-loop-holds Inv-loop μ-loop
-loop-holds c = (search needs, search needs, sym (factorPairs-none _ _ _))
-
-at-requires : tie.Need-at-requires Inv-loop μ-loop
+at-requires : tie.Need-at-requires
 at-requires c κs = search needs
 
-add-at : tie.Need-add-at Inv-loop μ-loop
-add-at c = search needs
+nonzero-between-requires : tie.Need-nonzero-between-requires
+nonzero-between-requires c κs = search needs
 
-at-requires-2 : tie.Need-at-requires-2 Inv-loop μ-loop
-at-requires-2 c κs = search needs
-
-kept-between-requires : tie.Need-kept-between-requires Inv-loop μ-loop
-kept-between-requires c κs =
-    let i = c .before .before .before in
-    rw (c .before .at .ensures, c .at2 .ensures) (factor-column (i .before .before .before .before .pre) (i .loop .c) (omega arith))
-
-add-count : tie.Need-add-count Inv-loop μ-loop
-add-count c = omega (arith, bound c, end c)
-
-add-c : tie.Need-add-c Inv-loop μ-loop
-add-c c = search needs
-
-loop-less : tie.Need-loop-less Inv-loop μ-loop
-loop-less c = search needs
-
-loop-again : tie.Need-loop-again Inv-loop μ-loop
-loop-again c =
-    let i = c .before .before .before .before .loop in
-    (search needs, bound c, rw (factorPairs-next) (cc (i .inv .2)))
-
-returns : tie.Need-returns Inv-loop μ-loop
-returns c =
-    let i = c .before .loop in
-    let s = c .before .before .before .before .before in
-    let q : i .c ≡ s .args .n = omega arith in
-    i .inv .2 ∙ ap (factorPairs (s .args .starts .now) (s .args .rows .now) (nonzero (s .args .values .now))) q
+returns-2 : tie.Need-returns-2
+returns-2 c =
+    let a = c .before .before .before in
+    let s = a .before .before .before .before in
+    let none = sym (a .has-above .ensures) ∙ c .before .before .if1 .left in
+    c .nonzero-between .ensures ∙ rw (c .before .at .ensures) (sym (factorPairs-whole (s .pre .starts-rise) none (nonzero (s .args .values .now))))
 
 pub factor-pairs-spec : {M : Type 1} → statement M
 factor-pairs-spec =
     tie.close
     (tie.spec
-    Inv-loop
-    μ-loop
-    loop-holds
+    has-above-requires
+    kept-columns-requires
+    returns
     at-requires
-    add-at
-    at-requires-2
-    kept-between-requires
-    add-count
-    add-c
-    loop-less
-    loop-again
-    returns)
+    nonzero-between-requires
+    returns-2)

@@ -1,0 +1,2 @@
+-- Entries above the diagonal.
+pub mod Above
