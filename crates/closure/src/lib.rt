@@ -9,6 +9,7 @@ use diagnostics::selected_inverse_diagnostics;
 use kept::factor_pairs;
 use pair_marks::pair_total;
 use queue_closing::close_queue;
+use refusal::MAX_DIMENSION;
 
 // The counts of a closure: requested pairs; the closed set's pairs, or limit + 1 where it has more; and which of the two.
 pub struct Closure {
@@ -39,6 +40,8 @@ pub fn takahashi_dependency_closure(
             status: SelectedInverseStatus::ClosureTooLarge,
         };
     }
+    let mut firsts = [0; MAX_DIMENSION];
+    let mut ends = [0; MAX_DIMENSION];
     let pairs = pair_total(n);
     let count = close_queue(
         n,
@@ -49,6 +52,8 @@ pub fn takahashi_dependency_closure(
         limit,
         requested_pairs,
         stops,
+        &mut firsts,
+        &mut ends,
         scratch,
     );
     if limit < count {

@@ -79,12 +79,13 @@ pub record Insert (n a b : ℕ) (s : List ℕ) (count : ℕ) : Type 0 where
   pub second : b < n
   pub marked : Marked n s count
 
--- what inserting the pair of a and b, put in order, leaves: the queue's words stay, and at most one is added
+-- what inserting the pair of a and b, put in order, leaves: the queue's words stay, and at most that pair's is added
 pub record Inserted (n a b : ℕ) (s : List ℕ) (count : ℕ) (s′ : List ℕ) (count′ : ℕ) : Type 0 where
   pub also : AlsoMarked n (ordered a b) s s′ count′
   pub words : (j : ℕ) → j < count → queueWord n s′ j ≡ queueWord n s j
   pub more : count ≤ count′
   pub most : count′ ≤ count + 1
+  pub last : count < count′ → queueWord n s′ count ≡ packed (max a b) (min a b)
 
 -- there are at most as many marked pairs as pairs
 pub count-most : {n : ℕ} {s : List ℕ} {count : ℕ} → Marked n s count → count ≤ pairTotal n
@@ -192,6 +193,7 @@ module _ (n a b : ℕ) {r c : ℕ} (high : max a b ≡ r) (low : min a b ≡ c) 
     words = λ j m. refl;
     more = omega arith;
     most = omega arith;
+    last = λ j. absurd (omega arith);
   }
     where
       or-same : (u v : Bool) → u ≡ true → u ≡ (u || v)
@@ -295,6 +297,7 @@ module _ (n a b : ℕ) {r c : ℕ} (high : max a b ≡ r) (low : min a b ≡ c) 
       words = words′;
       more = omega arith;
       most = omega arith;
+      last = λ j. last-word ∙ sym (ap₂ packed high low);
     }
 
 -- ---- the pairs of a set
@@ -351,6 +354,19 @@ also-both A B = record { gained = gained-both (A .gained) (B .gained); marked = 
 pub also-cong : {n : ℕ} {S S′ : ℕ → ℕ → Bool} {w w′ : List ℕ} {count : ℕ} → ((r c : ℕ) → c ≤ r → r < n → S r c ≡ S′ r c) → AlsoMarked n S w w′ count
     → AlsoMarked n S′ w w′ count
 also-cong e A = record { gained = gained-cong e (A .gained); marked = A .marked }
+
+-- a pair inserted the other way round
+pub inserted-turned : {n a b : ℕ} {s : List ℕ} {count : ℕ} {s′ : List ℕ} {count′ : ℕ} → Inserted n a b s count s′ count′ → Inserted n b a s count s′ count′
+inserted-turned {n} {a} {b} I =
+    let e₁ : max a b ≡ max b a = omega arith in
+    let e₂ : min a b ≡ min b a = omega arith in
+    record {
+      also = also-cong (λ r c h l. ordered-turned a b r c) (I .also);
+      words = I .words;
+      more = I .more;
+      most = I .most;
+      last = λ h. I .last h ∙ ap₂ packed e₁ e₂;
+    }
 
 -- one number more: the pairs of its set are marked too
 module _ {n : ℕ} {w w′ w″ : List ℕ} {k m : ℕ} (test : ℕ → ℕ → ℕ → Bool) (j : ℕ) where

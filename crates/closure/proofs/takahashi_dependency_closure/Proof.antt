@@ -1,16 +1,20 @@
 use Rattle.closure.proofs.Answer.{closes, requests-past, queue-past, queue-complete}
 use Rattle.columns.specs.Kept.{nonzero}
 use denote.Ref.{now}
+use native.Mathlib.Omega.{arith}
+use Prim.Native.Nat.{ℕ}
+use lib.ListN.{length-replicate, getD-replicate}
 use borrow.Author.Needs.{needs}
+use Rattle.refusal.specs.Bounds.{maxDimension}
 use Rattle.closure.proofs.takahashi_dependency_closure.Statement.{statement}
 use Rattle.closure.proofs.takahashi_dependency_closure.Tie as tie
 
 -- where the call begins
 abbrev begin : tie.After-close-queue → tie.Start
-begin q = q .before .before .before .before .before .before .before .before .before .before
+begin q = q .before .before .before .before .before .before .before .before .before .before .before .before
 
-add-t12 : tie.Need-add-t12
-add-t12 c = search needs
+add-t14 : tie.Need-add-t14
+add-t14 c = search needs
 
 returns : tie.Need-returns
 returns c =
@@ -20,17 +24,28 @@ returns c =
 pair-total-requires : tie.Need-pair-total-requires
 pair-total-requires c κs = search needs
 
+slice-aggregate-close-queue : tie.Need-slice-aggregate-close-queue
+slice-aggregate-close-queue c = search needs
+
+slice-aggregate-close-queue-2 : tie.Need-slice-aggregate-close-queue-2
+slice-aggregate-close-queue-2 c = search needs
+
 close-queue-requires : tie.Need-close-queue-requires
 close-queue-requires c κs =
-    let s = c .before .before .before .before .before .before .before .before .before in
+    let p = c .before .before .before .before in
+    let s = p .before .before .before .before .before .before .before in
+    let long = length-replicate {A = ℕ} maxDimension 0 in
     record {
       small = s .pre .small;
-      all = c .before .before .pair-total .ensures .0;
+      all = p .pair-total .ensures .0;
       factor = s .pre .factor;
       entered = s .pre .entered;
       stopped = s .pre .stopped;
+      firsts-fit = omega (arith, s .pre .small);
+      ends-fit = omega (arith, s .pre .small);
+      unset = λ a l. getD-replicate {A = ℕ} maxDimension a 0 0 (omega (arith, s .pre .small));
       marked = s .pre .marked;
-      low = c .before .before .before .if1 .left;
+      low = p .before .if1 .left;
     }
 
 same-length : tie.Need-same-length
@@ -41,7 +56,7 @@ same-length-2 c = search needs
 
 returns-2 : tie.Need-returns-2
 returns-2 c =
-    let q = c .before .before .before .before .before in
+    let q = c .before .before .before .before .before .before .before in
     let s = begin q in
     closes (λ req R. queue-past (nonzero (now (s .args .values))) (s .args .limit) (s .pre) req R (q .close-queue .ensures) (c .if2 .taken))
 
@@ -53,7 +68,7 @@ same-length-4 c = search needs
 
 returns-3 : tie.Need-returns-3
 returns-3 c =
-    let q = c .before .before .before .before .before in
+    let q = c .before .before .before .before .before .before .before in
     let s = begin q in
     closes (λ req R. queue-complete (nonzero (now (s .args .values))) (s .args .limit) (s .pre) req R (q .close-queue .ensures) (c .if2 .left))
 
@@ -61,9 +76,11 @@ pub takahashi-dependency-closure-spec : {M : Type 1} → statement M
 takahashi-dependency-closure-spec =
     tie.close
     (tie.spec
-    add-t12
+    add-t14
     returns
     pair-total-requires
+    slice-aggregate-close-queue
+    slice-aggregate-close-queue-2
     close-queue-requires
     same-length
     same-length-2
