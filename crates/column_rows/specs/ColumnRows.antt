@@ -7,8 +7,8 @@ use mathlib.Core.Path.{_≡_, refl, sym, ap, ap₂, subst, _∙_}
 use mathlib.Core.Bool.{Bool}
 use mathlib.Core.List.{List}
 use lib.Dec.{eqb}
-use lib.ListN.{length, getD, length-append}
-use Rattle.lists.specs.Select.{select, tally, select-join, select-cong, tally-mono}
+use lib.ListN.{length, getD}
+use Rattle.lists.specs.Select.{select, tally, select-cong, tally-join, tally-mono}
 use Rattle.lists.specs.Overwrite.{splice}
 use Rattle.bits.specs.Bits.{digit, bitAt, bit-clear, bit-shifted}
 use Rattle.refusal.specs.Bounds.{maxDimension}
@@ -69,7 +69,7 @@ module _ {n p row first : ℕ} {rows₀ s : List ℕ} (O : BitsRoom n p row firs
         O .fits,
         L .count-is,
         ap length (select-cong test bits r e same),
-        ap length (select-join bits row r e h l) ∙ length-append (select bits row r) (select bits r e),
+        tally-join bits row r e h l,
         tally-mono bits row e n (omega arith) m,
       )
 

@@ -6,9 +6,9 @@ use native.Mathlib.Nat.{add-zero}
 use mathlib.Core.Path.{_≡_, sym, ap, ap₂, _∙_}
 use mathlib.Core.Bool.{Bool, true, false}
 use mathlib.Core.List.{List}
-use lib.ListN.{length, set, length-append}
+use lib.ListN.{length, set}
 use Rattle.lists.specs.Sum.{bit}
-use Rattle.lists.specs.Select.{select, tally, select-none, select-yes, select-join, select-gap, select-cong, tally-none, tally-next, tally-mono}
+use Rattle.lists.specs.Select.{select, tally, select-none, select-yes, select-join, select-gap, select-cong, tally-join, tally-none, tally-next, tally-mono}
 use Rattle.lists.specs.Overwrite.{splice, splice-none, splice-more, splice-join}
 
 -- the rows from s to below e that pass stand behind `first` rows, up to `count`
@@ -60,12 +60,10 @@ module _ {test : ℕ → Bool} {s m first : ℕ} {rows₀ rows : List ℕ} {coun
   -- rows behind those
   pub listed-join : {e : ℕ} {rows′ : List ℕ} {count′ : ℕ} → m ≤ e → first ≤ length rows₀ → RowsListed test m e count rows rows′ count′
       → RowsListed test s e first rows₀ rows′ count′
-  listed-join {e} l room R =
-      let q = sym (select-join test s m e h l) in
-      record {
-        count-is =
-            omega (arith, R .count-is, L .count-is, sym (length-append (select test s m) (select test m e)) ∙ ap length q);
-        rows-is =
-            R .rows-is ∙ ap₂ (λ (i : ℕ) (x : List ℕ). splice i (select test m e) x) (L .count-is) (L .rows-is)
-            ∙ splice-join first (select test s m) (select test m e) rows₀ room ∙ ap (λ (x : List ℕ). splice first x rows₀) q;
-      }
+  listed-join {e} l room R = record {
+    count-is = omega (arith, R .count-is, L .count-is, tally-join test s m e h l);
+    rows-is =
+        R .rows-is ∙ ap₂ (λ (i : ℕ) (x : List ℕ). splice i (select test m e) x) (L .count-is) (L .rows-is)
+        ∙ splice-join first (select test s m) (select test m e) rows₀ room
+        ∙ ap (λ (x : List ℕ). splice first x rows₀) (sym (select-join test s m e h l));
+  }
