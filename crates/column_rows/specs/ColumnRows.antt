@@ -2,23 +2,21 @@
 -- Assumes nothing.
 use Prim.Native.Nat.{ℕ, _+_, _-_, _*_, _/_, _%_, _^_, _≤_, _<_, min}
 use native.Mathlib.Omega.{arith}
-use native.Mathlib.Nat.{add-zero, div-one, eq-or-lt-of-le, le-of-suc-le-suc}
+use native.Mathlib.Nat.{div-one}
 use mathlib.Core.Path.{_≡_, refl, sym, ap, ap₂, subst, _∙_}
-use mathlib.Core.Bool.{Bool, true, false}
+use mathlib.Core.Bool.{Bool}
 use mathlib.Core.List.{List}
-use mathlib.Core.Logic.{_≢_, ⊎-elim}
 use lib.Dec.{eqb}
-use lib.ListN.{length, getD, set, length-append}
-use lib.Pow.{shr-shr}
-use lib.Bits.{bitOr, or-add-and, and-le-l, and-le-r}
-use borrow.Author.Tests.{eq-eqb}
-use Rattle.lists.specs.Sum.{bit}
-use Rattle.lists.specs.Select.{select, tally, select-none, select-yes, select-join, select-gap, select-cong, tally-none, tally-next, tally-mono}
-use Rattle.lists.specs.Overwrite.{splice, splice-none, splice-more, splice-join}
-use Rattle.bits.specs.Bits.{digit, digit-zero, digit-shift, bitAt, bit-clear, bit-shifted, Lowest}
+use lib.ListN.{length, getD}
+use Rattle.lists.specs.Select.{select, tally, select-cong, tally-join, tally-mono}
+use Rattle.lists.specs.Overwrite.{splice}
+use Rattle.bits.specs.Bits.{digit, bitAt, bit-clear, bit-shifted}
 use Rattle.refusal.specs.Bounds.{maxDimension}
 use Rattle.pairs.specs.Pair.{pairTotal}
 use Rattle.pairs.specs.ColumnOrder.{colStart, colStart-next, colStart-mono, colStart-total, byColumn, columnMarking, columnPlace}
+use Rattle.zero_words.specs.Zeros.{Zeros}
+use Rattle.word_rows.specs.Listed.{RowsListed, listed-none, listed-cong, listed-gap, listed-join}
+use Rattle.word_rows.specs.WordRows.{wordTest, WordRoom}
 
 -- the marks of a column
 abbrev pub columnTest : ℕ → List ℕ → ℕ → ℕ → Bool
@@ -36,146 +34,6 @@ pub record ColumnRoom (n place c first : ℕ) (rows s : List ℕ) : Type 0 where
 pub record ColumnListed (n c e first : ℕ) (rows₀ s rows : List ℕ) (count : ℕ) : Type 0 where
   pub count-is : count ≡ first + tally (columnTest n s c) c e
   pub rows-is : rows ≡ splice first (select (columnTest n s c) c e) rows₀
-
--- ---- rows that pass a test
-
--- the rows from s to below e that pass stand behind `first` rows, up to `count`
-pub record RowsListed (test : ℕ → Bool) (s e first : ℕ) (rows₀ rows : List ℕ) (count : ℕ) : Type 0 where
-  pub count-is : count ≡ first + tally test s e
-  pub rows-is : rows ≡ splice first (select test s e) rows₀
-
-pub listed-none : (test : ℕ → Bool) (s first : ℕ) (rows : List ℕ) → RowsListed test s s first rows rows first
-listed-none test s first rows = record {
-  count-is = sym (ap (λ (k : ℕ). first + k) (tally-none test s) ∙ add-zero first);
-  rows-is = sym (ap (λ (l : List ℕ). splice first l rows) (select-none test s) ∙ splice-none first rows);
-}
-
--- tests that agree
-pub listed-cong : {test test′ : ℕ → Bool} {s e first : ℕ} {rows₀ rows : List ℕ} {count : ℕ} → ((k : ℕ) → s ≤ k → k < e → test k ≡ test′ k)
-    → RowsListed test s e first rows₀ rows count → RowsListed test′ s e first rows₀ rows count
-listed-cong {test} {test′} {s} {e} {first} {rows₀} same L =
-    let q = select-cong test test′ s e same in
-    record {
-      count-is = L .count-is ∙ ap (λ (l : List ℕ). first + length l) q;
-      rows-is = L .rows-is ∙ ap (λ (l : List ℕ). splice first l rows₀) q;
-    }
-
-module _ {test : ℕ → Bool} {s m first : ℕ} {rows₀ rows : List ℕ} {count : ℕ} (h : s ≤ m) (L : RowsListed test s m first rows₀ rows count) where
-  -- rows that do not pass
-  pub listed-gap : (e : ℕ) → m ≤ e → ((k : ℕ) → m ≤ k → k < e → test k ≡ false) → RowsListed test s e first rows₀ rows count
-  listed-gap e l none =
-      let q = sym (select-gap test s m e h l none) in
-      record {
-        count-is = L .count-is ∙ ap (λ (l : List ℕ). first + length l) q;
-        rows-is = L .rows-is ∙ ap (λ (l : List ℕ). splice first l rows₀) q;
-      }
-
-  -- a row that passes has room
-  pub listed-room : {e : ℕ} → m < e → first + tally test s e ≤ length rows₀ → test m ≡ true → count < length rows₀
-  listed-room {e} l fits t =
-      omega (arith, L .count-is, tally-next test s m h ∙ ap (λ (b : Bool). tally test s m + bit b) t, tally-mono test s (m + 1) e (omega arith) (omega arith))
-
-  -- and is listed
-  pub listed-more : test m ≡ true → count < length rows₀ → RowsListed test s (m + 1) first rows₀ (set rows count m) (count + 1)
-  listed-more t l = record {
-    count-is = omega (arith, L .count-is, tally-next test s m h ∙ ap (λ (b : Bool). tally test s m + bit b) t);
-    rows-is =
-        ap₂ (λ (x : List ℕ) (i : ℕ). set x i m) (L .rows-is) (L .count-is)
-        ∙ splice-more first (select test s m) rows₀ m (omega (arith, L .count-is))
-        ∙ ap (λ (x : List ℕ). splice first x rows₀) (sym (select-yes test s m h t));
-  }
-
-  -- rows behind those
-  pub listed-join : {e : ℕ} {rows′ : List ℕ} {count′ : ℕ} → m ≤ e → first ≤ length rows₀ → RowsListed test m e count rows rows′ count′
-      → RowsListed test s e first rows₀ rows′ count′
-  listed-join {e} l room R =
-      let q = sym (select-join test s m e h l) in
-      record {
-        count-is =
-            omega (arith, R .count-is, L .count-is, sym (length-append (select test s m) (select test m e)) ∙ ap length q);
-        rows-is =
-            R .rows-is ∙ ap₂ (λ (i : ℕ) (x : List ℕ). splice i (select test m e) x) (L .count-is) (L .rows-is)
-            ∙ splice-join first (select test s m) (select test m e) rows₀ room ∙ ap (λ (x : List ℕ). splice first x rows₀) q;
-      }
-
--- ---- the rows of a word
-
--- the rows that a word's digits say, the lowest being that of `row`
-abbrev pub wordTest : ℕ → ℕ → ℕ → Bool
-wordTest w row r = eqb (digit w (r - row)) 1
-
--- there is room for the rows that a word says
-pub record WordRoom (w row e first : ℕ) (rows : List ℕ) : Type 0 where
-  pub within : row ≤ e
-  pub small : e ≤ maxDimension
-  pub fits : first + tally (wordTest w row) row e ≤ length rows
-
--- the word is listed up to the row r, and w is what is left of it
-pub record WordPart (word row e first : ℕ) (rows₀ : List ℕ) (w r : ℕ) (rows : List ℕ) (count : ℕ) : Type 0 where
-  pub from : row ≤ r
-  pub upto : r ≤ e
-  pub left : w ≡ word / 2 ^ (r - row)
-  pub listed : RowsListed (wordTest word row) row r first rows₀ rows count
-
-pub word-none : {word row e first : ℕ} {rows : List ℕ} → WordRoom word row e first rows → WordPart word row e first rows word row rows first
-word-none {word} {row} {e} {first} {rows} O =
-    let z : row - row ≡ 0 = omega arith in
-    record {
-      from = omega arith;
-      upto = O .within;
-      left = sym (ap (λ (k : ℕ). word / 2 ^ k) z ∙ div-one word);
-      listed = listed-none (wordTest word row) row first rows;
-    }
-
-module _ {word row e first : ℕ} {rows₀ : List ℕ} {w r : ℕ} {rows : List ℕ} {count : ℕ} (P : WordPart word row e first rows₀ w r rows count) where
-  abbrev test : ℕ → Bool
-  test = wordTest word row
-
-  -- the digits of what is left
-  left-test : (k : ℕ) → r ≤ k → test k ≡ eqb (digit w (k - r)) 1
-  left-test k h =
-      let q : r - row + (k - r) ≡ k - row = omega (arith, P .from) in
-      ap (λ (x : ℕ). eqb x 1) (sym (ap (λ (x : ℕ). digit x (k - r)) (P .left) ∙ digit-shift word (r - row) (k - r) ∙ ap (digit word) q))
-
-  none-left : w ≡ 0 → (k : ℕ) → r ≤ k → test k ≡ false
-  none-left z k h = left-test k h ∙ ap (λ (x : ℕ). eqb x 1) (ap (λ (x : ℕ). digit x (k - r)) z ∙ digit-zero (k - r))
-
-  -- nothing is left
-  pub word-end : w ≡ 0 → RowsListed test row e first rows₀ rows count
-  word-end z = listed-gap (P .from) (P .listed) e (P .upto) (λ k h l. none-left z k h)
-
-  module _ {t : ℕ} (T : Lowest 32 w t) where
-    gap : (k : ℕ) → r ≤ k → k < r + t → test k ≡ false
-    gap k h l = left-test k h ∙ ap (λ (x : ℕ). eqb x 1) (T .below (k - r) (omega arith))
-
-    -- nothing is left below e
-    pub word-stop : e ≤ r + t → RowsListed test row e first rows₀ rows count
-    word-stop l = listed-gap (P .from) (P .listed) e (P .upto) (λ k h m. gap k h (omega arith))
-
-    upto-next : RowsListed test row (r + t) first rows₀ rows count
-    upto-next = listed-gap (P .from) (P .listed) (r + t) (omega arith) gap
-
-    next : test (r + t) ≡ true
-    next =
-        let q : r + t - r ≡ t = omega arith in
-        left-test (r + t) (omega arith) ∙ eq-eqb _ 1 (ap (digit w) q ∙ T .is-one)
-
-    -- the next row has room
-    pub word-room : WordRoom word row e first rows₀ → r + t < e → count < length rows₀
-    word-room O l = listed-room (omega (arith, P .from)) upto-next l (O .fits) next
-
-    -- and is listed
-    pub word-more : r + t < e → count < length rows₀ → WordPart word row e first rows₀ (w / 2 ^ t / 2) (r + t + 1) (set rows count (r + t)) (count + 1)
-    word-more l room =
-        let q : r - row + t + 1 ≡ r + t + 1 - row = omega (arith, P .from) in
-        record {
-          from = omega (arith, P .from);
-          upto = omega arith;
-          left =
-              ap (λ (x : ℕ). x / 2 ^ t / 2) (P .left) ∙ ap (λ (x : ℕ). x / 2) (shr-shr word (r - row) t) ∙ shr-shr word (r - row + t) 1
-              ∙ ap (λ (k : ℕ). word / 2 ^ k) q;
-          listed = listed-more (omega (arith, P .from)) upto-next next room;
-        }
 
 -- ---- the rows of bits, a word at a time
 
@@ -211,7 +69,7 @@ module _ {n p row first : ℕ} {rows₀ s : List ℕ} (O : BitsRoom n p row firs
         O .fits,
         L .count-is,
         ap length (select-cong test bits r e same),
-        ap length (select-join bits row r e h l) ∙ length-append (select bits row r) (select bits r e),
+        tally-join bits row r e h l,
         tally-mono bits row e n (omega arith) m,
       )
 
@@ -236,55 +94,6 @@ module _ {n p row first : ℕ} {rows₀ s : List ℕ} (O : BitsRoom n p row firs
     bits-more R = listed-join h L (W .later) (omega (arith, O .fits)) (listed-cong same R)
 
 -- ---- the rows of whole words
-
--- the bits of the four words from w on
-abbrev pub fourWords : List ℕ → ℕ → ℕ
-fourWords s w = bitOr (bitOr (bitOr (getD s w 0) (getD s (w + 1) 0)) (getD s (w + 2) 0)) (getD s (w + 3) 0)
-
--- the words from w on are 0 up to the word k, which is not past `end`
-pub record Zeros (s : List ℕ) (w end k : ℕ) : Type 0 where
-  pub from : w ≤ k
-  pub upto : k ≤ end
-  pub zeros : (i : ℕ) → w ≤ i → i < k → getD s i 0 ≡ 0
-
--- and k is not 0, unless it is `end`
-pub record ZerosSkipped (s : List ℕ) (w end k : ℕ) : Type 0 where
-  pub before : Zeros s w end k
-  pub stops : k < end → getD s k 0 ≢ 0
-
-pub zeros-none : (s : List ℕ) {w end : ℕ} → w ≤ end → Zeros s w end w
-zeros-none s l = record { from = omega arith; upto = l; zeros = λ i lo hi. absurd (omega arith) }
-
-or-none : (a b : ℕ) → bitOr a b ≡ 0 → (a ≡ 0) × (b ≡ 0)
-or-none a b e =
-    let h = or-add-and a b in
-    let l = and-le-l a b in
-    let r = and-le-r a b in
-    (omega arith, omega arith)
-
-module _ {s : List ℕ} {w end k : ℕ} (Z : Zeros s w end k) where
-  -- one zero more
-  pub zeros-more : k < end → getD s k 0 ≡ 0 → Zeros s w end (k + 1)
-  zeros-more l e = record {
-    from = omega (arith, Z .from);
-    upto = omega arith;
-    zeros = λ i lo hi. ⊎-elim (λ q. ap (λ (j : ℕ). getD s j 0) q ∙ e) (λ m. Z .zeros i lo m) (eq-or-lt-of-le (le-of-suc-le-suc (omega (arith, hi))));
-  }
-
--- four zeros more
-pub zeros-four : {s : List ℕ} {w end k : ℕ} → Zeros s w end k → k + 4 ≤ end → fourWords s k ≡ 0 → Zeros s w end (k + 4)
-zeros-four {s} {w} {end} {k} Z l e =
-    let abc = or-none _ (getD s (k + 3) 0) e in
-    let ab = or-none _ (getD s (k + 2) 0) (abc .0) in
-    let a = or-none (getD s k 0) (getD s (k + 1) 0) (ab .0) in
-    let one = zeros-more Z (omega arith) (a .0) in
-    let two = zeros-more one (omega arith) (a .1) in
-    let q₂ : k + 2 ≡ k + 1 + 1 = omega arith in
-    let q₃ : k + 3 ≡ k + 1 + 1 + 1 = omega arith in
-    let q₄ : k + 1 + 1 + 1 + 1 ≡ k + 4 = omega arith in
-    let three = zeros-more two (omega arith) (ap (λ (j : ℕ). getD s j 0) (sym q₂) ∙ ab .1) in
-    let four = zeros-more three (omega arith) (ap (λ (j : ℕ). getD s j 0) (sym q₃) ∙ abc .1) in
-    subst (Zeros s w end) q₄ four
 
 -- there is room for the rows below n that the bits from a word's first on say
 pub record WordsRoom (n word row first : ℕ) (rows s : List ℕ) : Type 0 where

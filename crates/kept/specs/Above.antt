@@ -7,10 +7,10 @@ use mathlib.Core.Bool.{Bool, false}
 use mathlib.Core.List.{List}
 use mathlib.Core.Path.{_≡_, sym, ap, subst, _∙_}
 use lib.Dec.{ltb}
-use lib.ListN.{length, length-append}
+use lib.ListN.{length}
 use borrow.Author.Tests.{ltb-false, le-leb}
 use Rattle.lists.specs.Test.{any, anyIn, any-below, anyIn-below}
-use Rattle.lists.specs.Select.{select, tally, select-join, select-cong, tally-none}
+use Rattle.lists.specs.Select.{tally, select-cong, tally-join, tally-none}
 use Rattle.columns.specs.Columns.{start, row}
 use Rattle.columns.specs.Kept.{kept, keptCount, factorPairs, factorPairs-none, factorPairs-next}
 use Rattle.columns.specs.Factor.{Starts}
@@ -39,8 +39,7 @@ module _ {n : ℕ} {starts rows : List ℕ} (S : Starts n starts rows) (none : a
         factorPairs-next starts rows nz m,
         first-columns m (omega arith),
         keptCount-whole m h,
-        ap length (select-join nz 0 (start starts m) (start starts (m + 1)) (omega arith) (S .rising m h))
-            ∙ length-append (select nz 0 (start starts m)) (select nz (start starts m) (start starts (m + 1))),
+        tally-join nz 0 (start starts m) (start starts (m + 1)) (omega arith) (S .rising m h),
       ))
 
   -- where no column has one, the kept entries are those that are not 0

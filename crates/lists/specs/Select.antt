@@ -53,7 +53,7 @@ module _ (test : ℕ → Bool) where
   pub select-no : (s k : ℕ) → s ≤ k → test k ≡ false → select test s (k + 1) ≡ select test s k
   select-no s k h e = select-next s k h ∙ ap (λ (b : Bool). select test s k ++ one b k) e ∙ append-nil _
 
-  -- a range in two parts, and a part where none passes
+  -- a range in two parts
   pub select-join : (s m e : ℕ) → s ≤ m → m ≤ e → select test s e ≡ select test s m ++ select test m e
   select-join s m e h l =
       let q : m + (e - m) ≡ e = omega arith in
@@ -67,6 +67,11 @@ module _ (test : ℕ → Bool) where
           ∙ append-assoc (select test s m) (select test m (m + k)) _
           ∙ ap (λ (x : List ℕ). select test s m ++ x) (sym (ap (select test m) q ∙ select-next m (m + k) (omega arith)))
 
+  -- and its count
+  pub tally-join : (s m e : ℕ) → s ≤ m → m ≤ e → tally test s e ≡ tally test s m + tally test m e
+  tally-join s m e h l = ap length (select-join s m e h l) ∙ length-append (select test s m) (select test m e)
+
+  -- a part where none passes
   pub select-gap : (s m e : ℕ) → s ≤ m → m ≤ e → ((k : ℕ) → m ≤ k → k < e → test k ≡ false) → select test s e ≡ select test s m
   select-gap s m e h l none =
       let q : m + (e - m) ≡ e = omega arith in

@@ -1,4 +1,4 @@
-use Rattle.lists.specs.Select.{select, select-join, tally, tally-none, tally-next, tally-most}
+use Rattle.lists.specs.Select.{tally, tally-join, tally-none, tally-next, tally-most}
 use Rattle.lists.specs.Sum.{bit}
 use Rattle.columns.specs.Columns.{notAbove}
 use borrow.Author.Tests.{le-leb, lt-leb}
@@ -7,22 +7,17 @@ use native.Mathlib.Omega.{arith}
 use Prim.Native.Nat.{ℕ, _≤_, _<_, _+_}
 use mathlib.Core.Bool.{Bool}
 use mathlib.Core.Path.{_≡_, ap}
-use lib.ListN.{length-append}
 use Rattle.rows_check.proofs.start_descent.Statement.{statement}
 use Rattle.rows_check.proofs.start_descent.Tie as tie
 
 module _ (test : ℕ → Bool) where
-  -- a count in two parts
-  tally-join : (s m e : ℕ) → s ≤ m → m ≤ e → tally test s e ≡ tally test s m + tally test m e
-  tally-join s m e h l = rw (select-join test s m e h l) (length-append (select test s m) (select test m e))
-
-  -- with one number between them
+  -- a count in two parts, with one number between them
   split : (s m e : ℕ) → s ≤ m → m < e → tally test s e ≡ tally test s m + bit (test m) + tally test (m + 1) e
   split s m e h l =
       omega (
         arith,
-        tally-join s m e h (omega arith),
-        tally-join m (m + 1) e (omega arith) (omega arith),
+        tally-join test s m e h (omega arith),
+        tally-join test m (m + 1) e (omega arith) (omega arith),
         tally-next test m m (omega arith),
         tally-none test m,
       )

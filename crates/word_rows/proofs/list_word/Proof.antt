@@ -1,12 +1,14 @@
+-- `list_word` meets its contract: the rows before r are listed, and w is what is left of the word.
+-- Assumes nothing.
 use Prim.Native.Nat.{_<_, _-_}
 use native.Mathlib.Omega.{arith}
 use mathlib.Core.Path.{_≡_, refl, _∙_}
 use lib.ListN.{length, length-set}
 use denote.Ref.{now}
 use borrow.Author.Needs.{needs}
-use Rattle.column_rows.specs.ColumnRows.{WordPart, word-none, word-end, word-stop, word-room, word-more}
-use Rattle.column_rows.proofs.list_word.Statement.{statement}
-use Rattle.column_rows.proofs.list_word.Tie as tie
+use Rattle.word_rows.specs.WordRows.{WordPart, word-none, word-end, word-stop, word-room, word-more}
+use Rattle.word_rows.proofs.list_word.Statement.{statement}
+use Rattle.word_rows.proofs.list_word.Tie as tie
 
 abbrev Inv-loop : tie.InvT-loop
 Inv-loop word row end first rows₀ count₀ w₀ r₀ rows count w r =

@@ -1,10 +1,11 @@
+-- `skip_fours` meets its contract: the words before w are 0, four more at each turn.
+-- Assumes nothing.
 use Prim.Native.Nat.{_-_}
-use native.Mathlib.Omega.{arith}
 use mathlib.Core.Path.{sym, _∙_}
 use borrow.Author.Needs.{needs}
-use Rattle.column_rows.specs.ColumnRows.{Zeros, zeros-none, zeros-four}
-use Rattle.column_rows.proofs.skip_fours.Statement.{statement}
-use Rattle.column_rows.proofs.skip_fours.Tie as tie
+use Rattle.zero_words.specs.Zeros.{Zeros, zeros-none, zeros-four}
+use Rattle.zero_words.proofs.skip_fours.Statement.{statement}
+use Rattle.zero_words.proofs.skip_fours.Tie as tie
 
 abbrev Inv-loop : tie.InvT-loop
 Inv-loop words first end w₀ w = Zeros words first end w

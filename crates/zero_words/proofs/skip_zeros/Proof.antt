@@ -1,9 +1,11 @@
+-- `skip_zeros` meets its contract: the words before w are 0, one more at each turn.
+-- Assumes nothing.
 use Prim.Native.Nat.{_-_}
 use native.Mathlib.Omega.{arith}
 use borrow.Author.Needs.{needs}
-use Rattle.column_rows.specs.ColumnRows.{Zeros, zeros-more}
-use Rattle.column_rows.proofs.skip_zeros.Statement.{statement}
-use Rattle.column_rows.proofs.skip_zeros.Tie as tie
+use Rattle.zero_words.specs.Zeros.{Zeros, zeros-more}
+use Rattle.zero_words.proofs.skip_zeros.Statement.{statement}
+use Rattle.zero_words.proofs.skip_zeros.Tie as tie
 
 abbrev Inv-loop : tie.InvT-loop
 Inv-loop words first end w₀ w = Zeros words first end w

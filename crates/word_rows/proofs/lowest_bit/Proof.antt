@@ -1,8 +1,10 @@
+-- `lowest_bit` meets its contract: as many bits are 0 below the lowest that is set as the word ends in.
+-- Assumes nothing.
 use native.Mathlib.Omega.{arith}
 use lib.Count.{trailing-le}
 use Rattle.bits.specs.Bits.{trailing-lowest}
-use Rattle.column_rows.proofs.lowest_bit.Statement.{statement}
-use Rattle.column_rows.proofs.lowest_bit.Tie as tie
+use Rattle.word_rows.proofs.lowest_bit.Statement.{statement}
+use Rattle.word_rows.proofs.lowest_bit.Tie as tie
 
 cast-result : tie.Need-cast-result
 cast-result c = omega (arith, trailing-le 32 (c .args .w))

@@ -1,0 +1,2 @@
+-- Words that are 0.
+pub mod Zeros
