@@ -117,7 +117,7 @@ pub fn close_queue(
                 break 'queue;
             }
         }
-        count = end_column(
+        let total = end_column(
             n,
             r,
             c,
@@ -130,7 +130,8 @@ pub fn close_queue(
             ends,
             scratch,
         );
-        if limit < count {
+        count = total;
+        if limit < total {
             break 'queue;
         }
         head += 1;

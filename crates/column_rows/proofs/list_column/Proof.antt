@@ -1,5 +1,3 @@
--- `list_column` meets its contract: the rows of the first word, then those of the others.
--- Assumes nothing.
 use native.Mathlib.Omega.{arith}
 use borrow.Author.Needs.{needs}
 use Rattle.column_rows.specs.ColumnRows.{column-places, column-room, column-words, column-listed}

@@ -1,5 +1,3 @@
--- `list_words` meets its contract: the rows of the words before w are listed.
--- Assumes nothing.
 use Prim.Native.Nat.{_<_, _-_}
 use native.Mathlib.Omega.{arith}
 use mathlib.Core.Path.{_≡_, refl, _∙_}

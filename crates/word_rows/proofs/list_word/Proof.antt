@@ -1,5 +1,3 @@
--- `list_word` meets its contract: the rows before r are listed, and w is what is left of the word.
--- Assumes nothing.
 use Prim.Native.Nat.{_<_, _-_}
 use native.Mathlib.Omega.{arith}
 use mathlib.Core.Path.{_≡_, refl, _∙_}

@@ -1,5 +1,3 @@
--- `lowest_bit` meets its contract: as many bits are 0 below the lowest that is set as the word ends in.
--- Assumes nothing.
 use native.Mathlib.Omega.{arith}
 use lib.Count.{trailing-le}
 use Rattle.bits.specs.Bits.{trailing-lowest}

@@ -1,5 +1,3 @@
--- `skip_fours` meets its contract: the words before w are 0, four more at each turn.
--- Assumes nothing.
 use Prim.Native.Nat.{_-_}
 use mathlib.Core.Path.{sym, _∙_}
 use borrow.Author.Needs.{needs}

@@ -1,5 +1,3 @@
--- `skip_zeros` meets its contract: the words before w are 0, one more at each turn.
--- Assumes nothing.
 use Prim.Native.Nat.{_-_}
 use native.Mathlib.Omega.{arith}
 use borrow.Author.Needs.{needs}
