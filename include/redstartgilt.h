@@ -4,7 +4,7 @@
  * and its values. Lists are a pointer and a length, in that order; a list of length 0 may have any pointer but NULL
  * that is aligned for its elements. Lists lent for writing must not overlap any other list of the call. The library
  * allocates nothing and keeps nothing: a call reads and writes the lists that it is lent, and no others, and ends. It
- * needs at most 56 KiB of stack.
+ * needs at most 64 KiB of stack.
  *
  * A call that cannot be answered is refused by a number (REDSTARTGILT_*), the lowest of its steps that fails, and
  * leaves every list as it was unless its paragraph says otherwise. A list may be longer than needed; places past those
