@@ -587,8 +587,8 @@ module _ {n pairs : ℕ} {starts rows : List ℕ} {values limit : ℕ} (nz : ℕ
             → Ended n (rowOf w) (columnOf w) stop count count′ starts rows firsts₁ ends₁ t firsts₂ ends₂ t′ m
             → Ready n starts rows nz limit s₀ first stops₂ firsts₂ ends₂ t′ (head + 1) m
         ready-next {firsts₂} {ends₂} {t′} (inl q) =
-            subst₂ (λ (x : List ℕ) (y : ℕ). Ready n starts rows nz limit s₀ first stops₂ firsts₂ ends₂ x (head + 1) y) (sym (q .2)) (sym (q .3))
-            (subst₂ (λ (x y : List ℕ). Ready n starts rows nz limit s₀ first stops₂ x y t (head + 1) count′) (sym (q .0)) (sym (q .1)) ready-column)
+            subst₂ (λ (x : List ℕ) (y : ℕ). Ready n starts rows nz limit s₀ first stops₂ firsts₂ ends₂ x (head + 1) y) (sym (q .3)) (sym (q .4))
+            (subst₂ (λ (x y : List ℕ). Ready n starts rows nz limit s₀ first stops₂ x y t (head + 1) count′) (sym (q .1)) (sym (q .2)) ready-column)
         ready-next {firsts₂} {ends₂} {t′} {m} (inr q) =
             subst₂ (λ (x y : List ℕ). Ready n starts rows nz limit s₀ first stops₂ x y t′ (head + 1) m) (sym (q .2)) (sym (q .3))
             (ready-diagonal (q .0) (q .1) (q .4))

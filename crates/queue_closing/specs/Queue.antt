@@ -57,7 +57,7 @@ EndOf starts rows stop r c e =
 abbrev pub afterSpan : List ℕ → List ℕ → ℕ → ℕ → ℕ
 afterSpan firsts ends head c = cond (eqb (getD firsts c 0) head) (getD ends c 0) head
 
--- the words, once the entries of column c are closed with row r, the queue having had `before` words
+-- the words, once the entries of column c are closed with some row, the queue having had `before` words when that began
 pub record ColumnDone (n c stop before count : ℕ) (starts rows firsts ends s : List ℕ) : Type 0 where
   pub small : n ≤ maxDimension
   pub inside : c < n
@@ -73,7 +73,7 @@ pub record ColumnDone (n c stop before count : ℕ) (starts rows firsts ends s :
 -- of a diagonal whose column has a stop before its end the words added are noted, and the diagonal of the descendant there is inserted; else nothing is done
 abbrev pub Ended : ℕ → ℕ → ℕ → ℕ → ℕ → ℕ → List ℕ → List ℕ → List ℕ → List ℕ → List ℕ → List ℕ → List ℕ → List ℕ → ℕ → Type 0
 Ended n r c stop before count starts rows firsts ends s firsts′ ends′ s′ m =
-    ((firsts′ ≡ firsts) × (ends′ ≡ ends) × (s′ ≡ s) × (m ≡ count))
+    ((r ≡ c → start starts (c + 1) ≤ stop) × (firsts′ ≡ firsts) × (ends′ ≡ ends) × (s′ ≡ s) × (m ≡ count))
     ⊎ ((r ≡ c) × (stop < start starts (c + 1)) × (firsts′ ≡ set firsts c before) × (ends′ ≡ set ends c count)
     × Inserted n (row rows (stop - 1)) (row rows (stop - 1)) s count s′ m)
 

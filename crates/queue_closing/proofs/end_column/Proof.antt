@@ -24,7 +24,7 @@ early : (c : tie.Else2) → begin c .args .stop < start (now (begin c .args .sta
 early c = omega (arith, c .before .at .ensures, c .if2 .left)
 
 returns : tie.Need-returns
-returns c = inl (refl, refl, refl, refl)
+returns c = inl (λ q. absurd (c .if1 .taken q), refl, refl, refl, refl)
 
 add-at : tie.Need-add-at
 add-at c = search needs
@@ -33,7 +33,7 @@ at-requires : tie.Need-at-requires
 at-requires c κs = search needs
 
 returns-2 : tie.Need-returns-2
-returns-2 c = inl (refl, refl, refl, refl)
+returns-2 c = inl (λ q. omega (arith, c .before .at .ensures, c .if2 .taken), refl, refl, refl, refl)
 
 cast-firsts : tie.Need-cast-firsts
 cast-firsts c = omega (arith, few c, begin c .pre .order)
