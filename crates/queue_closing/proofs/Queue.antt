@@ -298,6 +298,11 @@ pub record Column (n : ℕ) (starts rows : List ℕ) (nz : ℕ → Bool) (limit 
   pub added : rowOf w ≡ columnOf w → (j : ℕ) → first ≤ j → j < count
       → (columnOf (queueWord n s j) ≡ columnOf w) × (descends (pattern starts rows nz) (columnOf w) (rowOf (queueWord n s j)) ≡ true)
 
+-- the word is that of a marked pair
+column-word : {n : ℕ} {starts rows : List ℕ} {nz : ℕ → Bool} {limit : ℕ} {s₀ : List ℕ} {first head w : ℕ} {s : List ℕ} {count p : ℕ}
+    → Column n starts rows nz limit s₀ first head w s count p → Queued n s w
+column-word {n} {head = head} {s = s} K = subst (λ (x : ℕ). Queued n s x) (K .taken .here) (K .serving .marked .queued head (K .ahead))
+
 module _ {n pairs : ℕ} {starts rows : List ℕ} {values limit : ℕ} (nz : ℕ → Bool) {stops firsts ends s₀ : List ℕ} {first : ℕ}
     (I : Waiting n pairs starts rows values nz stops firsts ends limit s₀ first) where
   pub serving-none : Serving n starts rows nz limit s₀ first s₀ 0 first
@@ -401,7 +406,7 @@ module _ {n pairs : ℕ} {starts rows : List ℕ} {values limit : ℕ} (nz : ℕ
       listed-next {stops₀} {stops₁} F L j l =
           ⊎-elim
           (λ q.
-          let Q = subst (λ (x : ℕ). Queued n t x) (K .taken .here) (K .serving .marked .queued head (K .ahead)) in
+          let Q = column-word K in
           subst (λ (x : ℕ). 0 < getD stops₁ (columnOf x) 0) (sym (ap (queueWord n t) q ∙ K .taken .here))
           (F .here (I .entered (columnOf w) (omega (arith, Q .ordered, Q .inside)))))
           (λ q.
@@ -490,7 +495,7 @@ module _ {n pairs : ℕ} {starts rows : List ℕ} {values limit : ℕ} (nz : ℕ
 
     module _ {w : ℕ} {t : List ℕ} {count′ p : ℕ} (K : Column n starts rows nz limit s count head w t count′ p) where
       word : Queued n t w
-      word = subst (λ (x : ℕ). Queued n t x) (K .taken .here) (K .serving .marked .queued head (K .ahead))
+      word = column-word K
 
       -- what the end of a column asks
       pub column-done : {stop : ℕ} → Stop starts rows nz (columnOf w) stop → ColumnDone n (columnOf w) stop count count′ starts rows firsts₁ ends₁ t
@@ -605,7 +610,7 @@ module _ {n pairs : ℕ} {starts rows : List ℕ} {values limit : ℕ} (nz : ℕ
   c = columnOf w
 
   pub entry-word : Queued n s w
-  entry-word = subst (λ (x : ℕ). Queued n s x) (K .taken .here) (K .serving .marked .queued head (K .ahead))
+  entry-word = column-word K
 
   module _ (hi : p < start starts (columnOf w + 1)) where
     -- it is within the rows and the values
