@@ -1,11 +1,11 @@
 // The calls, on F2 of document 01 but for the list of indices.
 use answer_text::put;
 use answer_text::put_values;
-use inverse::get;
+use lookup::get;
 use operator_variances::selected_inverse_transformed_diag;
 use original_diagonal::selected_inverse_diag_with_diagnostics;
-use pattern::from_cholesky_factor;
-use pattern::from_transformed_operator;
+use pattern_lists::from_cholesky_factor;
+use pattern_lists::from_transformed_operator;
 use replay_entries::put_selected;
 use replay_lookups::put_entry;
 use replay_patterns::put_pairs;

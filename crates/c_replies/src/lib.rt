@@ -1,16 +1,16 @@
 // Answers as structs of numbers, laid out as in C: document 01's number of a refusal, 0 for none, beside what the call tells, 0 where it is refused.
 ghost use mathlib.Core.Path.{_≡_};
 ghost use Rattle.selected.specs.Selected.{selectedReplyOf};
-ghost use Rattle.ordered_lookup.specs.Reply.{entryReply};
-ghost use Rattle.listed_pairs.specs.ListedMarks.{listReply};
+ghost use Rattle.lookup.specs.Reply.{entryReply};
+ghost use Rattle.pattern_lists.specs.ListedMarks.{listReply};
 ghost use Rattle.floor.specs.Floor.{stabilizedReply};
 ghost use Rattle.c_replies.specs.Numbers.{statusNumber, selectedNumbers, entryNumbers, pairNumbers, floorNumbers, leastNumbers};
 use diagnostics::SelectedInverseDiagnostics;
 use diagnostics::SelectedInverseStatus;
 use floor::Stabilized;
 use least::CountAndLeast;
-use listed_pairs::PatternPairs;
-use ordered_lookup::Entry;
+use lookup::ordered::Entry;
+use pattern_lists::listed::PatternPairs;
 use replies::refusal_number;
 use selected::Selected;
 

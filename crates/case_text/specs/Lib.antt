@@ -1,2 +1,4 @@
--- The text of cases.
+-- Cases given as text.
 pub mod Text
+pub mod Items
+pub mod Fields

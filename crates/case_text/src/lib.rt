@@ -1,4 +1,7 @@
 // Reading the text of cases: what stands at a place, and the place after it.
+pub mod fields;
+pub mod items;
+
 ghost use mathlib.Core.Path.{_≡_};
 ghost use Prim.Native.Nat.{_+_, _*_, _≤_, _<_};
 ghost use lib.Ieee.{binary64, ofBits};

@@ -13,9 +13,9 @@ use Rattle.columns.specs.Kept.{pattern}
 use Rattle.closed_set.specs.ClosedSet.{member, member-holds, member-closed, member-least, Pattern, Holds}
 use Rattle.closed_set.specs.Size.{closureSize, requestedPairs, requestedPairs-within}
 use Rattle.diagnostics.specs.Diagnosis.{statusOf}
-use Rattle.descendants.specs.FactorPattern.{factor-pattern}
+use Rattle.closed_set.specs.FactorPattern.{factor-pattern}
 use Rattle.closure.specs.declared.Closure.{Closure}
-use Rattle.queue_closing.specs.Queue.{Within, Finished}
+use Rattle.closure.specs.Queue.{Within, Finished}
 use Rattle.closure.specs.Closure.{ClosureInput, Requested, closureOf, Closing, Closes}
 
 -- the answer with these counts

@@ -14,7 +14,7 @@ use Rattle.diagnostics.specs.Diagnosis.{maxCount}
 use Rattle.diagnostics.specs.declared.SelectedInverseDiagnostics.{SelectedInverseDiagnostics}
 use Rattle.closure.specs.declared.Closure.{Closure}
 use Rattle.closure.specs.Closure.{ClosureInput, closureOf}
-use Rattle.closure.specs.KeptSet.{factorPairs-most}
+use Rattle.closed_set.specs.KeptSet.{factorPairs-most}
 use Rattle.closure.specs.Diagnosis.{diagnosed, diagnosisOf}
 
 module _ {n : ℕ} {starts rows : List ℕ} (values : List Float) {first : ℕ} {stops s : List ℕ} (limit : ℕ)

@@ -1,3 +1,3 @@
--- What the proofs of several functions share.
+pub mod QueueLaws
 pub mod Answer
 pub mod Diagnosis

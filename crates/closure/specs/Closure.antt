@@ -14,12 +14,12 @@ use Rattle.pairs.specs.Pair.{pairTotal}
 use Rattle.pairs.specs.ColumnOrder.{columnMarking}
 use Rattle.columns.specs.Columns.{start}
 use Rattle.columns.specs.Factor.{Factor}
-use Rattle.nested_columns.specs.Nested.{Stops}
+use Rattle.closure.specs.Nested.{Stops}
 use Rattle.closed_set.specs.ClosedSet.{member, Ranged}
 use Rattle.closed_set.specs.Size.{closureSize, requestedPairs}
 use Rattle.diagnostics.specs.Diagnosis.{statusOf}
 use Rattle.diagnostics.specs.declared.SelectedInverseStatus.the-variants.{Complete, ClosureTooLarge}
-use Rattle.pair_queue.specs.Marking.{Marked, Listed}
+use Rattle.marked_pairs.specs.MarkedPairs.{Marked, Listed}
 use Rattle.closure.specs.declared.Closure.{Closure}
 
 -- a factor past its checks, a list for the stops of its columns, and words with `requested` marked pairs

@@ -15,7 +15,7 @@ use Rattle.diagnostics.specs.Diagnosis.{diagnosis}
 use Rattle.diagnostics.specs.declared.SelectedInverseDiagnostics.{SelectedInverseDiagnostics}
 use Rattle.closure.specs.declared.Closure.{Closure}
 use Rattle.closure.specs.Closure.{closureOf, Requested, Closing}
-use Rattle.closure.specs.KeptSet.{SameKept, factorPairs-cong}
+use Rattle.closed_set.specs.KeptSet.{SameKept, factorPairs-cong}
 
 -- the counts of a closure with the factor's count and the limit
 abbrev pub diagnosed : Closure → ℕ → ℕ → SelectedInverseDiagnostics

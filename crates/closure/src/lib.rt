@@ -1,4 +1,7 @@
 // The closure of requested pairs under the dependencies of a factor, after `takahashi_dependency_closure` of uncertainty.rs, and its diagnosis.
+pub mod queue;
+pub mod stops;
+
 ghost use lib.ListN.{length};
 ghost use Rattle.columns.specs.Kept.{nonzero, pattern};
 ghost use Rattle.closure.specs.Closure.{ClosureInput, Closes};
@@ -6,10 +9,10 @@ ghost use Rattle.closure.specs.Diagnosis.{Diagnoses};
 use diagnostics::SelectedInverseDiagnostics;
 use diagnostics::SelectedInverseStatus;
 use diagnostics::selected_inverse_diagnostics;
-use kept::factor_pairs;
-use pair_marks::pair_total;
-use queue_closing::close_queue;
+use kept_entries::factor_pairs;
+use queue::close_queue;
 use refusal::MAX_DIMENSION;
+use scratch::pair_total;
 
 // The counts of a closure: requested pairs; the closed set's pairs, or limit + 1 where it has more; and which of the two.
 pub struct Closure {

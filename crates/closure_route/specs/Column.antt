@@ -27,10 +27,10 @@ use Rattle.exact.specs.Exact.{floats, float-off, float-on}
 use Rattle.entries.specs.Entries.{columnCount, position, floatTable}
 use Rattle.entries.specs.Descendants.{float-solves}
 use Rattle.entries.specs.Position.{columnCount-mono, position-first, position-in, position-below, position-rises, position-found}
-use Rattle.route_products.specs.Part.{putIf, putIf-length, putIf-other}
-use Rattle.route_sums.specs.Sums.{positionWord, inverseAt, sumBetween, sumBetween-cong, entrySum, Summing}
+use Rattle.column_sums.specs.Part.{putIf, putIf-length, putIf-other}
+use Rattle.column_sums.specs.Sums.{positionWord, inverseAt, sumBetween, sumBetween-cong, entrySum, Summing}
 use Rattle.column_sums.specs.Stored.{Storing, SumsStored}
-use Rattle.route_finish.specs.Finish.{PartDivided, DiagonalRoom}
+use Rattle.closure_route.specs.Finish.{PartDivided, DiagonalRoom}
 use Rattle.closure_route.specs.Route.{ClosureRoute, SolvedFrom, Solved}
 
 -- where column j of the result and of the factor starts and ends

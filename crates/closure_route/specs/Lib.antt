@@ -1,4 +1,5 @@
--- The recurrence over a closed set, column by column.
+-- The closure route: the recurrence over any closed set.
+pub mod Finish
 pub mod Route
 pub mod Column
 pub mod Members

@@ -1,5 +1,7 @@
 // Takahashi's recurrence over a closed set of pairs, columns from the last to the first, after `takahashi_selected_inverse_on_closure`
 // of uncertainty.rs.
+pub mod finish;
+
 ghost use mathlib.Core.Path.{_≡_};
 ghost use Prim.Native.Nat.{_+_, _<_};
 ghost use lib.ListN.{length};
@@ -8,10 +10,10 @@ ghost use Rattle.pairs.specs.ColumnOrder.{columnMarking};
 ghost use Rattle.entries.specs.Entries.{entryValues, floatTable};
 ghost use Rattle.closure_route.specs.Route.{ClosureRoute, ColumnStep, Solved};
 use column_sums::store_sums;
-use kept_diagonal::diagonal;
-use pair_marks::pair_total;
-use route_finish::divide_part;
-use route_finish::store_diagonal;
+use finish::divide_part;
+use finish::store_diagonal;
+use kept_entries::diagonal::diagonal;
+use scratch::pair_total;
 use words::at;
 
 // The entries of column j, once those of the later columns are there: the sums, their division, and last the diagonal's entry. A column without

@@ -1,4 +1,8 @@
--- The sums of a column, in two passes: the descendants up to each row, then the greater ones.
+-- The sums of a column's entries on the closure route.
+pub mod Part
+pub mod Products
+pub mod Sums
+pub mod Rest
 pub mod Stored
 pub mod Lower
 pub mod Upper

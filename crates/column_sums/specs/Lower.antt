@@ -13,9 +13,9 @@ use Rattle.lists.specs.Test.{anyIn, anyIn-none, anyIn-more}
 use Rattle.columns.specs.Columns.{row, value, outsideAt}
 use Rattle.columns.specs.Kept.{f0, nonzero, keptBelow}
 use Rattle.columns.specs.Factor.{FirstFrom}
-use Rattle.route_products.specs.Part.{PartSet}
-use Rattle.route_products.specs.Products.{columnTerms, ColumnRoom}
-use Rattle.route_sums.specs.Sums.{inverseAt, entrySum, withProduct, withProduct-above, withProduct-zero, withProduct-kept, sumBetween, sumBetween-none, sumBetween-next, product-same, Summing, summing-entry, adding-read}
+use Rattle.column_sums.specs.Part.{PartSet}
+use Rattle.column_sums.specs.Products.{columnTerms, ColumnRoom}
+use Rattle.column_sums.specs.Sums.{inverseAt, entrySum, withProduct, withProduct-above, withProduct-zero, withProduct-kept, sumBetween, sumBetween-none, sumBetween-next, product-same, Summing, summing-entry, adding-read}
 use Rattle.column_sums.specs.Stored.{Ascends, Sums, first-less, later-row}
 
 -- the stored entry at p, and the sums from q to below last, to which its product can be added

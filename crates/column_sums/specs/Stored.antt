@@ -15,7 +15,7 @@ use Rattle.refusal.specs.Bounds.{maxDimension}
 use Rattle.columns.specs.Columns.{row, outsideAt}
 use Rattle.columns.specs.Kept.{nonzero, keptBelow}
 use Rattle.columns.specs.Factor.{Column, FirstFrom}
-use Rattle.route_sums.specs.Sums.{positionWord, inverseAt, entrySum, sumBetween-cong, Summing}
+use Rattle.column_sums.specs.Sums.{positionWord, inverseAt, entrySum, sumBetween-cong, Summing}
 
 -- from s to below e each row is less than every later one
 abbrev pub Ascends : List ℕ → ℕ → ℕ → Type 0

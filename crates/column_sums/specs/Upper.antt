@@ -15,9 +15,9 @@ use Rattle.lists.specs.Test.{anyIn, anyIn-all, anyIn-below}
 use Rattle.refusal.specs.Bounds.{maxDimension}
 use Rattle.columns.specs.Columns.{row, outsideAt}
 use Rattle.columns.specs.Factor.{FirstFrom}
-use Rattle.route_products.specs.Part.{PartSet, zeros}
-use Rattle.route_sums.specs.Sums.{inverseAt, entrySum, sumBetween, Continued, summing-from}
-use Rattle.route_sums.specs.Rest.{zeroAt, none-zero, Rest}
+use Rattle.column_sums.specs.Part.{PartSet, zeros}
+use Rattle.column_sums.specs.Sums.{inverseAt, entrySum, sumBetween, Continued, summing-from}
+use Rattle.column_sums.specs.Rest.{zeroAt, none-zero, Rest}
 use Rattle.column_sums.specs.Stored.{Sums, SumsStored, first-less, first-only, unread, later-row}
 use Rattle.column_sums.specs.Lower.{Lowered}
 

@@ -1,19 +1,22 @@
 // The sums of a column of the recurrence over a closed set, stored at the places of its entries below the diagonal. Of each sum the descendants
 // up to its row are added first, a descendant at a time to all sums; then the greater ones, a sum at a time. The order within a sum is ascending.
+pub mod products;
+pub mod sums;
+
 ghost use mathlib.Core.Path.{_≡_};
 ghost use Prim.Native.Nat.{_+_, _≤_};
 ghost use lib.ListN.{length};
 ghost use Rattle.lists.specs.Test.{anyIn};
 ghost use Rattle.columns.specs.Columns.{outsideAt};
 ghost use Rattle.columns.specs.Factor.{Column};
-ghost use Rattle.route_products.specs.Part.{PartSet, zeros};
+ghost use Rattle.column_sums.specs.Part.{PartSet, zeros};
 ghost use Rattle.column_sums.specs.Stored.{Storing, SumsStored};
 ghost use Rattle.column_sums.specs.Lower.{StoredRoom, Stepped, SumsRoom, Lowered};
 ghost use Rattle.column_sums.specs.Upper.{EntryRoom, Rested, RestsRoom, RestsAdded};
-use kept_diagonal::first_from;
-use route_products::add_column;
-use route_sums::has_zero;
-use route_sums::sum_rest;
+use kept_entries::diagonal::first_from;
+use products::add_column;
+use sums::has_zero;
+use sums::sum_rest;
 use words::at;
 
 // Sets the entries from first to last to 0.0.

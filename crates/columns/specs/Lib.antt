@@ -6,3 +6,4 @@ pub mod Diagonal
 pub mod Pattern
 pub mod Operator
 pub mod Examples
+pub mod OperatorPair

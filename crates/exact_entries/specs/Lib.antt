@@ -1,4 +1,5 @@
--- What a lookup returns after a call that fills result lists: the recurrence, and the exact case.
+-- What reads back after a call, and the exact case.
+pub mod ReadBack
 pub mod Columns
 pub mod Recurrence
 pub mod ExactEntries

@@ -21,10 +21,10 @@ use Rattle.takahashi.specs.Entries.{ascend-rows}
 use Rattle.takahashi.specs.Recurrence.{at, Lower, Solves, table-solves, solves-part}
 use Rattle.exact.specs.Exact.{floats, float-off, float-on}
 use Rattle.diagnostics.specs.declared.SelectedInverseStatus.the-variants.{Complete}
-use Rattle.descendants.specs.FactorPattern.{factor-pattern}
+use Rattle.closed_set.specs.FactorPattern.{factor-pattern}
 use Rattle.entries.specs.Entries.{entryStarts, floatTable}
 use Rattle.result.specs.Lookup.{lookup}
-use Rattle.read_back.specs.ReadBack.{readBack, covered, lookup-filled}
+use Rattle.exact_entries.specs.ReadBack.{readBack, covered, lookup-filled}
 use Rattle.selection.specs.Selection.{Selection, Lent, roomOf, Accepted, selectedSet, selectedSize, selectedComplete, selectedAnswer, selectedTable}
 use Rattle.selection.specs.Selection.{ResultLists, passed-starts, complete-rows, complete-values}
 use Rattle.selection.specs.Status.{selected-complete}

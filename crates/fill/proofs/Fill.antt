@@ -18,10 +18,10 @@ use Rattle.entries.specs.Entries.{entryStarts, entryRows, entryValues, entrySta
 use Rattle.entries.specs.Position.{position-cong, entryStarts-cong, entryRows-cong, entryValues-cong}
 use Rattle.diagnostics.specs.declared.SelectedInverseDiagnostics.{SelectedInverseDiagnostics}
 use Rattle.diagnostics.specs.declared.SelectedInverseStatus.the-variants.{Complete, ClosureTooLarge}
-use Rattle.positions.specs.Position.{Positioned}
-use Rattle.pair_queue.specs.Marking.{Listed}
+use Rattle.layout.specs.Position.{Positioned}
+use Rattle.marked_pairs.specs.MarkedPairs.{Listed}
 use Rattle.closure.specs.Closure.{Closing}
-use Rattle.descendants.specs.FactorPattern.{factor-pattern}
+use Rattle.closed_set.specs.FactorPattern.{factor-pattern}
 use Rattle.layout.specs.Layout.{LayOut, LaidOut}
 use Rattle.closure_route.specs.Route.{laid-same, laid-route}
 use Rattle.closure_route.specs.Members.{marked-size, marked-closed}

@@ -11,8 +11,8 @@ use Rattle.lists.specs.Overwrite.{cleared}
 use Rattle.diagnostics.specs.declared.SelectedInverseDiagnostics.{SelectedInverseDiagnostics}
 use Rattle.refusal.specs.Steps.{Step, Passed}
 use Rattle.pairs.specs.Pair.{pairTotal}
-use Rattle.pair_queue.specs.Marking.{Marked, MarkedPairs}
-use Rattle.positions.specs.Position.{Positioned}
+use Rattle.marked_pairs.specs.MarkedPairs.{Marked, MarkedPairs}
+use Rattle.layout.specs.Position.{Positioned}
 use Rattle.closure.specs.Closure.{Requested, markedSet, marked-requested}
 use Rattle.selection.specs.Selection.{selection, lists, Lent, roomOf, scratchWords, Accepted, selectedSet, selectedComplete, selectedAnswer, ResultLists}
 use Rattle.selection.specs.Selection.{lists-passed, passed-starts, passed-rows, passed-values, passed-scratch, nothing-refused, cleared-same}

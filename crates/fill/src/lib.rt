@@ -10,9 +10,9 @@ use closure::diagnose;
 use diagnostics::SelectedInverseDiagnostics;
 use diagnostics::SelectedInverseStatus;
 use layout::lay_out;
-use pair_marks::pair_total;
 use refusal::MAX_DIMENSION;
 use routes::takahashi_selected_inverse;
+use scratch::pair_total;
 use words::clear;
 
 // The diagnosis; where the closed set of the marked pairs is within the limit the result lists are filled, and the scratch ends with the

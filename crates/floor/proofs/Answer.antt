@@ -4,9 +4,9 @@ use Prim.Native.Nat.{ℕ}
 use mathlib.Core.Path.{_≡_}
 use mathlib.Core.List.{List}
 use lib.Ieee.{Float}
-use Rattle.floored.specs.Floored.{floorHits}
-use Rattle.variance_floor.specs.declared.VarianceFloor.{VarianceFloor}
-use Rattle.variance_floor.specs.VarianceFloor.{floorOf}
+use Rattle.floor.specs.Floored.{floorHits}
+use Rattle.floor.specs.declared.variance_floor.VarianceFloor.{VarianceFloor}
+use Rattle.floor.specs.VarianceFloor.{floorOf}
 use Rattle.floor.specs.Floor.{stabilizedOf}
 
 -- the floor and the hits, as the call answers them

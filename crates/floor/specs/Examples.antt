@@ -9,11 +9,11 @@ use Rattle.lists.specs.Tabulate.{tabulate}
 use Rattle.lists.specs.Overwrite.{overwrite}
 use Rattle.refusal.specs.Steps.{answered, refused, first, after}
 use Rattle.columns.specs.Examples.{whole}
-use Rattle.positive_mean.specs.PositiveMean.{positiveSum}
-use Rattle.variance_floor.specs.declared.VarianceFloor.{VarianceFloor}
-use Rattle.variance_floor.specs.declared.VarianceFloor.the-variants.{Zero, PositiveMean}
-use Rattle.floored.specs.Floored.{floored}
-use Rattle.variance_floor.specs.VarianceFloor.{floorSteps, floorOf}
+use Rattle.floor.specs.PositiveMean.{positiveSum}
+use Rattle.floor.specs.declared.variance_floor.VarianceFloor.{VarianceFloor}
+use Rattle.floor.specs.declared.variance_floor.VarianceFloor.the-variants.{Zero, PositiveMean}
+use Rattle.floor.specs.Floored.{floored}
+use Rattle.floor.specs.VarianceFloor.{floorSteps, floorOf}
 use Rattle.floor.specs.Floor.{stabilizedOf}
 
 -- 4, -2, 0

@@ -4,9 +4,9 @@ use mathlib.Core.List.{List}
 use lib.Ieee.{Float}
 use Rattle.refusal.specs.Steps.{Reply, refused, answered}
 use Rattle.refusal.specs.Refusal.{refusalNumber}
-use Rattle.floored.specs.Floored.{floorHits}
-use Rattle.variance_floor.specs.declared.VarianceFloor.{VarianceFloor}
-use Rattle.variance_floor.specs.VarianceFloor.{floorOf}
+use Rattle.floor.specs.Floored.{floorHits}
+use Rattle.floor.specs.declared.variance_floor.VarianceFloor.{VarianceFloor}
+use Rattle.floor.specs.VarianceFloor.{floorOf}
 use Rattle.floor.specs.declared.StabilizedVariance.{StabilizedVariance}
 use Rattle.floor.specs.declared.Stabilized.{Stabilized}
 use Rattle.floor.specs.declared.Stabilized.the-variants.{Answered, Refused}

@@ -8,10 +8,10 @@ use lib.ListN.{length}
 use lib.Ieee.{Float, lt}
 use Rattle.columns.specs.Columns.{value}
 use Rattle.columns.specs.Kept.{f0}
-use Rattle.floored.specs.Floored.{floored}
-use Rattle.floored.specs.Laws.{floored-not-below}
-use Rattle.variance_floor.specs.declared.VarianceFloor.the-variants.{Zero}
-use Rattle.variance_floor.specs.VarianceFloor.{floorOf}
+use Rattle.floor.specs.Floored.{floored}
+use Rattle.floor.specs.FlooredLaws.{floored-not-below}
+use Rattle.floor.specs.declared.variance_floor.VarianceFloor.the-variants.{Zero}
+use Rattle.floor.specs.VarianceFloor.{floorOf}
 
 -- under the floor Zero none is negative
 pub zero-not-negative : (values : List Float) (i : ℕ) → i < length values → lt (value (floored (floorOf Zero values) values) i) f0 ≡ false

@@ -1,10 +1,15 @@
 // A floor under variances, after `stabilize_variances` of uncertainty.rs.
+pub mod finite_check;
+pub mod floored;
+pub mod positive_mean;
+pub mod variance_floor;
+
 ghost use mathlib.Core.Path.{_≡_};
 ghost use lib.ListN.{length};
 ghost use Rattle.lists.specs.Overwrite.{overwrite};
 ghost use Rattle.refusal.specs.Steps.{first, after};
-ghost use Rattle.floored.specs.Floored.{floored};
-ghost use Rattle.variance_floor.specs.VarianceFloor.{floorSteps, floorOf};
+ghost use Rattle.floor.specs.Floored.{floored};
+ghost use Rattle.floor.specs.VarianceFloor.{floorSteps, floorOf};
 ghost use Rattle.floor.specs.Floor.{stabilizedOf, stabilizedReply};
 use floored::apply_floor;
 use refusal::Checked;

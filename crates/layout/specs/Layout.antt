@@ -20,8 +20,8 @@ use Rattle.refusal.specs.Bounds.{maxDimension}
 use Rattle.pairs.specs.Pair.{pairTotal, maxPairs, pairTotal-small}
 use Rattle.pairs.specs.ColumnOrder.{colStart, colStart-next, colStart-mono, colStart-total, colStart-least, columnPlace, columnPlace-column, columnPlace-below}
 use Rattle.pairs.specs.ColumnOrder.{columnMarking, byColumn, columnFirst, columnEnd, setSize, setSize-most}
-use Rattle.pair_queue.specs.Marking.{Listed}
-use Rattle.column_rows.specs.ColumnRows.{columnTest, ColumnRoom, ColumnListed}
+use Rattle.marked_pairs.specs.MarkedPairs.{Listed}
+use Rattle.layout.specs.ColumnRows.{columnTest, ColumnRoom, ColumnListed}
 use Rattle.entries.specs.Entries.{columnCount, position, entryStarts, entryRows}
 use Rattle.entries.specs.Position.{columnCount-none, columnCount-next, columnCount-mono, tally-strict, select-tally}
 

@@ -1,2 +1,8 @@
--- The result's layout, while it is written and after.
+-- The result's layout from the marks of a set of pairs, and entries read by position.
+pub mod Zeros
+pub mod WordListed
+pub mod WordRows
+pub mod ColumnRows
+pub mod Position
+pub mod Run
 pub mod Layout

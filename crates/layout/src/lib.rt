@@ -1,10 +1,15 @@
 // The result's layout from the marks of a set of pairs: the starts, the rows, and each member's position in them.
+pub mod column_rows;
+pub mod positions;
+pub mod word_rows;
+pub mod zero_words;
+
 ghost use Prim.Native.Nat.{_≤_, _<_};
 ghost use lib.ListN.{length};
-ghost use Rattle.pair_queue.specs.Marking.{Listed};
+ghost use Rattle.marked_pairs.specs.MarkedPairs.{Listed};
 ghost use Rattle.layout.specs.Layout.{PositionsRoom, PositionsLaid, LayColumn, ColumnLaid, ListedColumn, LayOut, LaidOut};
 use column_rows::list_column;
-use pair_marks::pair_total;
+use scratch::pair_total;
 use words::at;
 
 // Writes the position of each row listed from `first` to below `end`, `base` words past the row.

@@ -20,10 +20,10 @@ use Rattle.closed_set.specs.ClosedSet.{Holds}
 use Rattle.exact.specs.Exact.{floats}
 use Rattle.entries.specs.Entries.{position, entryValues, entryValues-length}
 use Rattle.entries.specs.Position.{position-below, entryValues-at}
-use Rattle.positions.specs.Position.{Positioned}
-use Rattle.operator_marks.specs.OperatorRequests.{operatorRequested, places-requested}
+use Rattle.layout.specs.Position.{Positioned}
+use Rattle.request_marks.specs.OperatorRequests.{operatorRequested, places-requested}
 use Rattle.quadratic_form.specs.RowValue.{columnAt, rowValue-cong, operatorValues}
-use Rattle.row_value.specs.Reading.{placed, OperatorReading}
+use Rattle.operator_values.specs.Reading.{placed, OperatorReading}
 
 -- a set that holds the pairs of an operator past its checks, its members' positions, and a list with room for their entries
 module _ (n : ℕ) (S : ℕ → ℕ → Bool) (Z : ℕ → ℕ → Float) (scratch : List ℕ) (values : List Float) (fits : setSize n S ≤ length values)

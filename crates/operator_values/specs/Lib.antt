@@ -1,2 +1,3 @@
--- The values of an operator's rows from filled lists.
+-- The values of an operator's rows.
+pub mod Reading
 pub mod Filled

@@ -1,13 +1,15 @@
 // The variances of an operator's rows from the entries of a selected inverse: the vector that `selected_inverse_transformed_diag` of
 // uncertainty.rs builds.
+pub mod row_value;
+
 ghost use mathlib.Core.Path.{_≡_};
 ghost use lib.ListN.{length};
 ghost use Rattle.lists.specs.Overwrite.{overwrite};
 ghost use Rattle.quadratic_form.specs.RowValue.{operatorValues};
-ghost use Rattle.row_value.specs.Reading.{placed, OperatorReading};
-use operator::operator_rows;
-use pair_marks::pair_total;
+ghost use Rattle.operator_values.specs.Reading.{placed, OperatorReading};
+use operator_check::operator_rows;
 use row_value::row_value;
+use scratch::pair_total;
 use words::at;
 
 // Writes the value of each row to the front of the output.

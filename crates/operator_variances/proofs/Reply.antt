@@ -15,16 +15,16 @@ use Rattle.refusal.specs.declared.Refusal.{Refusal}
 use Rattle.columns.specs.Kept.{nonzero, pattern}
 use Rattle.closed_set.specs.ClosedSet.{Holds, member-holds}
 use Rattle.closed_set.specs.Size.{closureSize-most}
-use Rattle.descendants.specs.FactorPattern.{factor-pattern}
+use Rattle.closed_set.specs.FactorPattern.{factor-pattern}
 use Rattle.entries.specs.Entries.{entryValues}
-use Rattle.positions.specs.Position.{Positioned}
+use Rattle.layout.specs.Position.{Positioned}
 use Rattle.diagnostics.specs.declared.SelectedInverseDiagnostics.{SelectedInverseDiagnostics}
 use Rattle.selection.specs.Selection.{Selection, Lent, roomOf, scratchWords, selectedSet, selectedSize, selectedComplete, selectedAnswer, selectedTable}
 use Rattle.selection.specs.Selection.{ResultLists, lists-refused, complete-values}
 use Rattle.selected.specs.declared.Selected.the-variants.{Answered, Refused}
-use Rattle.operator_marks.specs.OperatorRequests.{operatorRequested}
+use Rattle.request_marks.specs.OperatorRequests.{operatorRequested}
 use Rattle.quadratic_form.specs.RowValue.{operatorValues}
-use Rattle.row_value.specs.Reading.{placed, OperatorReading}
+use Rattle.operator_values.specs.Reading.{placed, OperatorReading}
 use Rattle.operator_values.specs.Filled.{filled-reading, filled-values}
 use Rattle.operator_variances.specs.Transformed.{TransformedCall, transformedSelection, transformedSteps, transformedValues, TransformedDiagonal}
 use Rattle.operator_variances.specs.Transformed.{AcceptedTransformed}

@@ -26,7 +26,7 @@ use Rattle.diagnostics.specs.declared.SelectedInverseStatus.the-variants.{Compl
 use Rattle.selection.specs.Selection.{Lent, roomOf, selectedAnswer, selectedTable, ResultLists}
 use Rattle.selection.specs.Status.{selected-complete}
 use Rattle.exact_entries.specs.ExactEntries.{ExactCall, ReadsBack, exact-entries, exact-either}
-use Rattle.operator_marks.specs.OperatorRequests.{places-requested}
+use Rattle.request_marks.specs.OperatorRequests.{places-requested}
 use Rattle.quadratic_form.specs.RowValue.{columnAt, rowValue, operatorValues, operatorValue}
 use Rattle.quadratic_form.specs.ExactRow.{quadratic, RowWithin, rowValue-exact}
 use Rattle.operator_variances.specs.Transformed.{TransformedCall, transformedSelection, transformedSteps, transformedValues, transformedAfter}

@@ -20,7 +20,7 @@ use Rattle.selection.specs.Selection.{ResultLists}
 use Rattle.selection.specs.Call.{fill-accepted}
 use Rattle.selected.specs.declared.Selected.{Selected}
 use Rattle.selected.specs.Selected.{selectedReplyOf}
-use Rattle.operator_marks.specs.OperatorRequests.{operatorRequested, operatorRequested-ranged}
+use Rattle.request_marks.specs.OperatorRequests.{operatorRequested, operatorRequested-ranged}
 use Rattle.quadratic_form.specs.RowValue.{operatorValues}
 
 -- what a call is handed to read: a factor and an operator of `ncols` columns, in factor order

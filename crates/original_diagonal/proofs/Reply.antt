@@ -20,7 +20,7 @@ use Rattle.pairs.specs.Pair.{pairTotal}
 use Rattle.columns.specs.Kept.{nonzero, pattern}
 use Rattle.closed_set.specs.ClosedSet.{member-holds}
 use Rattle.closed_set.specs.Size.{closureSize-most}
-use Rattle.descendants.specs.FactorPattern.{factor-pattern}
+use Rattle.closed_set.specs.FactorPattern.{factor-pattern}
 use Rattle.entries.specs.Entries.{columnCount, position, entryStarts, entryValues, entryStarts-length, entryValues-length}
 use Rattle.entries.specs.Position.{position-first, position-below, entryValues-at}
 use Rattle.factor_order.specs.Permutation.{index, reordered}
@@ -28,7 +28,7 @@ use Rattle.diagnostics.specs.declared.SelectedInverseDiagnostics.{SelectedInver
 use Rattle.selection.specs.Selection.{Selection, Lent, roomOf, Accepted, selectedSet, selectedSize, selectedComplete, selectedAnswer, selectedTable}
 use Rattle.selection.specs.Selection.{ResultLists, lists-refused, complete-starts, complete-values}
 use Rattle.selected.specs.declared.Selected.the-variants.{Answered, Refused}
-use Rattle.diagonal_marks.specs.Diagonals.{diagonal-requested, diagonals-ranged}
+use Rattle.request_marks.specs.Diagonals.{diagonal-requested, diagonals-ranged}
 use Rattle.original_diagonal.specs.Original.{OriginalCall, originalSelection, originalSteps, coveredSteps, factorDiagonal, OriginalDiagonal, FirstEntries, firstEntries}
 use Rattle.original_diagonal.specs.Original.{AcceptedOriginal}
 

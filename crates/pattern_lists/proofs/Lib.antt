@@ -1,2 +1,3 @@
--- What the proofs share.
-pub mod Listing
+pub mod ListedPairs
+pub mod PatternLists
+pub mod Pattern

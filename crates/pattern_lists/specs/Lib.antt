@@ -1,2 +1,7 @@
--- Pattern lists with the marks in the scratch.
+-- Pattern lists: the pairs of a factor or of an operator, ascending by row then column.
+pub mod Listing
+pub mod PatternMarks
+pub mod ListedMarks
 pub mod PatternLists
+pub mod Pattern
+pub mod Laws

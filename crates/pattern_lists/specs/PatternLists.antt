@@ -9,8 +9,8 @@ use lib.ListN.{length}
 use Rattle.lists.specs.Overwrite.{overwrite, cleared}
 use Rattle.refusal.specs.Steps.{Step, first, after}
 use Rattle.pairs.specs.Pair.{pairTotal, pairCount, pairRows, pairColumns}
-use Rattle.listed_pairs.specs.ListedMarks.{outputSteps, listReply}
-use Rattle.listed_pairs.specs.declared.PatternPairs.{PatternPairs}
+use Rattle.pattern_lists.specs.ListedMarks.{outputSteps, listReply}
+use Rattle.pattern_lists.specs.declared.listed.PatternPairs.{PatternPairs}
 
 -- 7: scratch below T
 abbrev pub scratchStep : ℕ → ℕ → Step

@@ -1,65 +1,40 @@
-// The pairs of a factor or of an operator that passes its checks, marked in the scratch and listed.
+// Pattern lists, after `SparseSymmetricPattern::from_cholesky_factor` and `from_transformed_operator` of uncertainty.rs.
+pub mod listed;
+pub mod listing;
+pub mod marking;
+pub mod marks;
+
 ghost use mathlib.Core.Path.{_≡_};
-ghost use Prim.Native.Nat.{_≤_};
-ghost use mathlib.Core.List.{[]};
 ghost use lib.ListN.{length};
-ghost use Rattle.refusal.specs.Bounds.{maxDimension};
-ghost use Rattle.pairs.specs.Pair.{pairTotal};
+ghost use Rattle.refusal.specs.Steps.{verdict};
+ghost use Rattle.refusal.specs.Refusal.{replyOf};
+ghost use Rattle.columns.specs.Columns.{factorSteps};
 ghost use Rattle.columns.specs.Kept.{nonzero, keptPair};
-ghost use Rattle.columns.specs.Factor.{Factor};
-ghost use Rattle.columns.specs.Operator.{OperatorRows};
-ghost use Rattle.pattern_marks.specs.OperatorPair.{operatorPair};
-ghost use Rattle.listed_pairs.specs.ListedMarks.{ListedMarks};
+ghost use Rattle.columns.specs.OperatorPair.{operatorPair};
 ghost use Rattle.pattern_lists.specs.PatternLists.{PatternLists};
-use listed_pairs::PatternPairs;
-use listed_pairs::list_marked;
-use pair_marks::pair_total;
-use pattern_marks::mark_factor;
-use pattern_marks::mark_operator;
+ghost use Rattle.pattern_lists.specs.Pattern.{operatorChecks};
+use listed::PatternPairs;
+use listing::factor_lists;
+use listing::operator_lists;
+use refusal::Checked;
+use refusal::MAX_DIMENSION;
 use refusal::Refusal;
-use words::clear;
 
-// The pairs of a factor's kept entries, marked and listed.
-fn list_factor(
-    n: usize,
-    starts: &[u32],
-    rows: &[u32],
-    values: &[f64],
-    marks: &mut [u32],
-    pair_rows: &mut [u32],
-    pair_columns: &mut [u32],
-) -> PatternPairs
-    requires { ⌜ Factor n (now starts) (now rows) (length (now values)) ⌝ }
-    requires { ⌜ (n ≤ maxDimension) × (length (now marks) ≡ pairTotal n) ⌝ }
-    ensures { λ r. ⌜ ListedMarks n (keptPair (now (starts .entry)) (now (rows .entry)) (nonzero (now (values .entry)))) r
-        (now (marks .entry)) (now («pair_rows» .entry)) (now («pair_columns» .entry)) (now (marks .exit)) (now («pair_rows» .exit)) (now («pair_columns» .exit)) ⌝ }
+// 1 and 9 of an operator of `ncols` columns.
+fn check_operator(ncols: usize, row_starts: &[u32], columns: &[u32], weights: usize) -> Checked
+    ensures { λ r. ⌜ replyOf r ≡ verdict (operatorChecks ncols (now («row_starts» .entry)) (now (columns .entry)) weights) ⌝ }
 {
-    clear(marks, marks.len());
-    let count = mark_factor(n, starts, rows, values, marks);
-    list_marked(n, count, marks, pair_rows, pair_columns)
+    if MAX_DIMENSION < ncols {
+        return Checked::Refused(Refusal::TooLarge);
+    }
+    match operator_check::check_operator_bounds(row_starts, columns) {
+        Checked::Refused(why) => Checked::Refused(why),
+        Checked::Accepted => operator_check::check_operator(ncols, row_starts, columns, weights),
+    }
 }
 
-// The same from an operator.
-fn list_operator(
-    n: usize,
-    row_starts: &[u32],
-    columns: &[u32],
-    marks: &mut [u32],
-    pair_rows: &mut [u32],
-    pair_columns: &mut [u32],
-) -> PatternPairs
-    requires { ⌜ OperatorRows n (now «row_starts») (now columns) (length (now columns)) ⌝ }
-    requires { ⌜ (n ≤ maxDimension) × (length (now marks) ≡ pairTotal n) ⌝ }
-    ensures { λ r. ⌜ ListedMarks n (operatorPair (now («row_starts» .entry)) (now (columns .entry))) r
-        (now (marks .entry)) (now («pair_rows» .entry)) (now («pair_columns» .entry)) (now (marks .exit)) (now («pair_rows» .exit)) (now («pair_columns» .exit)) ⌝ }
-{
-    clear(marks, marks.len());
-    let count = mark_operator(n, row_starts, columns, marks);
-    list_marked(n, count, marks, pair_rows, pair_columns)
-}
-
-// A factor that passes 1, 2 and 3: 7 for the scratch, then its pairs, with the marks in the scratch's first T words.
-pub fn factor_lists(
+// The pairs of a factor's kept entries, ascending by row then column.
+pub fn from_cholesky_factor(
     n: usize,
     starts: &[u32],
     rows: &[u32],
@@ -68,50 +43,47 @@ pub fn factor_lists(
     pair_rows: &mut [u32],
     pair_columns: &mut [u32],
 ) -> PatternPairs
-    requires { ⌜ Factor n (now starts) (now rows) (length (now values)) ⌝ }
-    requires { ⌜ n ≤ maxDimension ⌝ }
-    ensures { λ r. ⌜ PatternLists [] n (keptPair (now (starts .entry)) (now (rows .entry)) (nonzero (now (values .entry)))) r
+    ensures { λ r. ⌜ PatternLists (factorSteps n (now (starts .entry)) (now (rows .entry)) (length (now (values .entry)))) n
+        (keptPair (now (starts .entry)) (now (rows .entry)) (nonzero (now (values .entry)))) r
         (now (scratch .entry)) (now («pair_rows» .entry)) (now («pair_columns» .entry)) (now (scratch .exit)) (now («pair_rows» .exit)) (now («pair_columns» .exit)) ⌝ }
 {
-    let total = pair_total(n);
-    if scratch.len() < total {
-        return PatternPairs::Refused(Refusal::TooShort);
+    match factor_check::check_factor(n, starts, rows, values.len()) {
+        Checked::Refused(why) => PatternPairs::Refused(why),
+        Checked::Accepted => factor_lists(
+            n,
+            starts,
+            rows,
+            values,
+            scratch,
+            pair_rows,
+            pair_columns,
+        ),
     }
-    list_factor(
-        n,
-        starts,
-        rows,
-        values,
-        &mut scratch[0..total],
-        pair_rows,
-        pair_columns,
-    )
 }
 
-// An operator that passes 1 and 9, the same way.
-pub fn operator_lists(
-    n: usize,
+// The pairs of columns of each row of an operator, ascending by row then column.
+pub fn from_transformed_operator(
+    ncols: usize,
     row_starts: &[u32],
     columns: &[u32],
+    weights: &[f64],
     scratch: &mut [u32],
     pair_rows: &mut [u32],
     pair_columns: &mut [u32],
 ) -> PatternPairs
-    requires { ⌜ OperatorRows n (now «row_starts») (now columns) (length (now columns)) ⌝ }
-    requires { ⌜ n ≤ maxDimension ⌝ }
-    ensures { λ r. ⌜ PatternLists [] n (operatorPair (now («row_starts» .entry)) (now (columns .entry))) r
+    ensures { λ r. ⌜ PatternLists (operatorChecks ncols (now («row_starts» .entry)) (now (columns .entry)) (length (now (weights .entry)))) ncols
+        (operatorPair (now («row_starts» .entry)) (now (columns .entry))) r
         (now (scratch .entry)) (now («pair_rows» .entry)) (now («pair_columns» .entry)) (now (scratch .exit)) (now («pair_rows» .exit)) (now («pair_columns» .exit)) ⌝ }
 {
-    let total = pair_total(n);
-    if scratch.len() < total {
-        return PatternPairs::Refused(Refusal::TooShort);
+    match check_operator(ncols, row_starts, columns, weights.len()) {
+        Checked::Refused(why) => PatternPairs::Refused(why),
+        Checked::Accepted => operator_lists(
+            ncols,
+            row_starts,
+            columns,
+            scratch,
+            pair_rows,
+            pair_columns,
+        ),
     }
-    list_operator(
-        n,
-        row_starts,
-        columns,
-        &mut scratch[0..total],
-        pair_rows,
-        pair_columns,
-    )
 }

@@ -1,14 +1,19 @@
 // Permutations, after `Permutation` and `SparseCholeskyFactor::permute_factor_to_original` of types.rs. orig_to_perm[i] is the place of original index i in
 // factor order, perm_to_orig[k] the original index at place k.
+pub mod elements;
+pub mod inverse;
+pub mod order;
+pub mod reordering;
+
 ghost use mathlib.Core.Path.{_≡_};
 ghost use lib.ListN.{length};
 ghost use Rattle.lists.specs.Overwrite.{overwrite};
 ghost use Rattle.refusal.specs.Steps.{verdict, after};
 ghost use Rattle.refusal.specs.Refusal.{replyOf};
 ghost use Rattle.factor_order.specs.Permutation.{validateSteps, invertSteps, permuteSteps, inverseOf, reordered};
-use permutation_check::check_elements;
-use permutation_inverse::invert;
-use permutation_length::check_permutation;
+use elements::check_elements;
+use inverse::invert;
+use order::check_permutation;
 use refusal::Checked;
 use refusal::MAX_DIMENSION;
 use refusal::Refusal;

@@ -8,12 +8,12 @@ ghost use Rattle.columns.specs.Columns.{factorSteps};
 ghost use Rattle.columns.specs.Kept.{nonzero, keptPair};
 ghost use Rattle.result.specs.Lookup.{lookup, diagSteps, diagonals};
 ghost use Rattle.factor_order.specs.Permutation.{validateSteps, invertSteps, permuteSteps, inverseOf, reordered};
-ghost use Rattle.pattern_marks.specs.OperatorPair.{operatorPair};
+ghost use Rattle.columns.specs.OperatorPair.{operatorPair};
 ghost use Rattle.pattern_lists.specs.PatternLists.{PatternLists};
-ghost use Rattle.pattern.specs.Pattern.{operatorChecks};
-ghost use Rattle.floored.specs.Floored.{floored};
-ghost use Rattle.variance_floor.specs.VarianceFloor.{floorSteps, floorOf};
-ghost use Rattle.variance_floor.specs.declared.VarianceFloor.the-variants.{Zero, PositiveMean};
+ghost use Rattle.pattern_lists.specs.Pattern.{operatorChecks};
+ghost use Rattle.floor.specs.Floored.{floored};
+ghost use Rattle.floor.specs.VarianceFloor.{floorSteps, floorOf};
+ghost use Rattle.floor.specs.declared.variance_floor.VarianceFloor.the-variants.{Zero, PositiveMean};
 ghost use Rattle.floor.specs.Floor.{stabilizedOf};
 ghost use Rattle.least.specs.Least.{countAndLeast};
 ghost use Rattle.selection.specs.Selection.{lists, defaultLimit};
@@ -21,7 +21,7 @@ ghost use Rattle.selection.specs.Call.{call};
 ghost use Rattle.selected.specs.Selected.{selectedReplyOf, SelectedEntries};
 ghost use Rattle.original_diagonal.specs.Original.{originalCall, OriginalDiagonal};
 ghost use Rattle.operator_variances.specs.Transformed.{transformedCall, TransformedDiagonal};
-ghost use Rattle.listed_pairs.specs.ListedMarks.{listReply};
+ghost use Rattle.pattern_lists.specs.ListedMarks.{listReply};
 ghost use Rattle.replies.specs.Number.{replyNumber};
 ghost use Rattle.c_replies.specs.Numbers.{selectedNumbers, entryNumbers, pairNumbers, floorNumbers, leastNumbers, Shows};
 use c_replies::EntryNumbers;
@@ -34,8 +34,8 @@ use c_replies::floor_numbers;
 use c_replies::least_numbers;
 use c_replies::pair_numbers;
 use c_replies::selected_numbers;
+use floor::variance_floor::VarianceFloor;
 use replies::checked_number;
-use variance_floor::VarianceFloor;
 
 // Selected entries with a limit.
 #[no_mangle]
@@ -192,7 +192,7 @@ pub extern "C" fn redstartgilt_get(
 ) -> EntryNumbers
     ensures { λ r. ⌜ r ≡ entryNumbers (lookup (now (starts .entry)) (now (rows .entry)) (now (values .entry)) row column) ⌝ }
 {
-    entry_numbers(inverse::get(starts, rows, values, row, column))
+    entry_numbers(lookup::get(starts, rows, values, row, column))
 }
 
 // The diagonal list of a result.
@@ -207,7 +207,7 @@ pub extern "C" fn redstartgilt_diag(
     ensures { λ _. ⌜ now (output .exit) ≡ after (diagSteps (now (starts .entry)) (now (rows .entry)) (length (now (values .entry))) (length (now (output .entry))))
         (overwrite (diagonals (now (starts .entry)) (now (rows .entry)) (now (values .entry))) (now (output .entry))) (now (output .entry)) ⌝ }
 {
-    checked_number(inverse::diag(starts, rows, values, output))
+    checked_number(lookup::diag(starts, rows, values, output))
 }
 
 // The pattern of a factor.
@@ -225,7 +225,7 @@ pub extern "C" fn redstartgilt_from_cholesky_factor(
         (keptPair (now (starts .entry)) (now (rows .entry)) (nonzero (now (values .entry)))) d
         (now (scratch .entry)) (now («pair_rows» .entry)) (now («pair_columns» .entry)) (now (scratch .exit)) (now («pair_rows» .exit)) (now («pair_columns» .exit))) r ⌝ }
 {
-    pair_numbers(pattern::from_cholesky_factor(
+    pair_numbers(pattern_lists::from_cholesky_factor(
         n,
         starts,
         rows,
@@ -251,7 +251,7 @@ pub extern "C" fn redstartgilt_from_transformed_operator(
         (operatorPair (now («row_starts» .entry)) (now (columns .entry))) d
         (now (scratch .entry)) (now («pair_rows» .entry)) (now («pair_columns» .entry)) (now (scratch .exit)) (now («pair_rows» .exit)) (now («pair_columns» .exit))) r ⌝ }
 {
-    pair_numbers(pattern::from_transformed_operator(
+    pair_numbers(pattern_lists::from_transformed_operator(
         ncols,
         row_starts,
         columns,

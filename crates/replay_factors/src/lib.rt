@@ -1,9 +1,9 @@
 // The kinds that fill result lists: the lists lent for writing, then the factor.
 use answer_text::put;
-use case_fields::number_field;
-use case_fields::value_field;
-use case_fields::word_field;
 use case_text::begins;
+use case_text::fields::number_field;
+use case_text::fields::value_field;
+use case_text::fields::word_field;
 use case_text::skip_blanks;
 use replay_entries::entries;
 use replay_variances::diagonal_variances;

@@ -3,17 +3,17 @@ use answer_text::put;
 use answer_text::put_number;
 use answer_text::put_value_line;
 use answer_text::put_values;
-use case_fields::value_field;
 use case_text::begins;
+use case_text::fields::value_field;
 use case_text::float_value;
 use case_text::past_label;
 use case_text::skip_blanks;
 use case_text::skip_word;
 use floor::Stabilized;
 use floor::stabilize_variances;
+use floor::variance_floor::VarianceFloor;
 use least::count_and_least;
 use replay_replies::put_refused;
-use variance_floor::VarianceFloor;
 
 // The places of each list that a case is read into.
 const ROOM: usize = 4608;

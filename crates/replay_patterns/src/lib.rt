@@ -2,14 +2,14 @@
 use answer_text::put;
 use answer_text::put_number;
 use answer_text::put_words;
-use case_fields::number_field;
-use case_fields::value_field;
-use case_fields::word_field;
 use case_text::begins;
+use case_text::fields::number_field;
+use case_text::fields::value_field;
+use case_text::fields::word_field;
 use case_text::skip_blanks;
-use listed_pairs::PatternPairs;
-use pattern::from_cholesky_factor;
-use pattern::from_transformed_operator;
+use pattern_lists::from_cholesky_factor;
+use pattern_lists::from_transformed_operator;
+use pattern_lists::listed::PatternPairs;
 use replay_replies::put_refused;
 
 // The places of each list that a case is read into.

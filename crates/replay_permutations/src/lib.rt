@@ -1,9 +1,9 @@
 // Permutations: checked, inverted, applied.
 use answer_text::put_values;
 use answer_text::put_words;
-use case_fields::value_field;
-use case_fields::word_field;
 use case_text::begins;
+use case_text::fields::value_field;
+use case_text::fields::word_field;
 use case_text::skip_blanks;
 use permutation::from_orig_to_perm;
 use permutation::permute_factor_to_original;

@@ -1,8 +1,8 @@
 // Diagonal in original order and operator variances of a factor: the calls, and their answers.
 use answer_text::put_values;
-use case_fields::number_field;
-use case_fields::value_field;
-use case_fields::word_field;
+use case_text::fields::number_field;
+use case_text::fields::value_field;
+use case_text::fields::word_field;
 use operator_variances::selected_inverse_transformed_diag;
 use original_diagonal::selected_inverse_diag_with_diagnostics;
 use replay_entries::put_selected;

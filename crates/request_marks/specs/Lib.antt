@@ -1,2 +1,5 @@
--- Marking the pairs of two request lists.
+-- The requests of each operation, marked as pairs.
 pub mod Requests
+pub mod Diagonals
+pub mod OperatorRequests
+pub mod OperatorMarks

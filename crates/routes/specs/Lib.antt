@@ -1,2 +1,4 @@
--- The two routes of Takahashi's recurrence, and which is taken.
+-- The choice between the two routes.
+pub mod Agree
+pub mod KeptPattern
 pub mod Routes

@@ -11,14 +11,14 @@ use Rattle.lists.specs.Overwrite.{overwrite}
 use Rattle.pairs.specs.Pair.{pairTotal}
 use Rattle.pairs.specs.ColumnOrder.{columnMarking, setSize, setSize-cong}
 use Rattle.columns.specs.Kept.{nonzero, pattern, keptPair, factorPairs}
-use Rattle.descendants.specs.FactorPattern.{factor-pattern}
+use Rattle.closed_set.specs.FactorPattern.{factor-pattern}
 use Rattle.entries.specs.Entries.{entryStarts, entryRows, entryValues, floatTable}
 use Rattle.entries.specs.Position.{entryStarts-cong, entryRows-cong, entryValues-cong}
 use Rattle.closure_route.specs.Route.{ClosureRoute}
-use Rattle.pattern_route.specs.Route.{RouteInput}
-use Rattle.pattern_route.specs.Call.{agree-closed}
-use Rattle.factor_pattern.specs.Agree.{samePairs, samePairs-agree}
-use Rattle.factor_pattern.specs.Choice.{ChoiceInput}
+use Rattle.factor_route.specs.Route.{RouteInput}
+use Rattle.factor_route.specs.RouteCall.{agree-closed}
+use Rattle.routes.specs.Agree.{samePairs, samePairs-agree}
+use Rattle.routes.specs.KeptPattern.{ChoiceInput}
 
 -- the closure route's input with the counts of kept and of marked pairs, and the result laid out over the marked set
 pub record RoutesInput (n : ℕ) (starts rows : List ℕ) (values : List Float) (kept closed : ℕ) (firsts listed scratch : List ℕ) (size : ℕ) : Type 0 where

@@ -1,4 +1,6 @@
 // Takahashi's recurrence over a closed set: by the factor-pattern route where the set is the kept pattern, else by the closure route.
+pub mod kept_pattern;
+
 ghost use mathlib.Core.Path.{_≡_};
 ghost use lib.ListN.{length};
 ghost use Rattle.lists.specs.Overwrite.{overwrite};
@@ -6,8 +8,8 @@ ghost use Rattle.pairs.specs.ColumnOrder.{columnMarking};
 ghost use Rattle.entries.specs.Entries.{entryValues, floatTable};
 ghost use Rattle.routes.specs.Routes.{RoutesInput};
 use closure_route::takahashi_selected_inverse_on_closure;
-use factor_pattern::closure_is_cholesky_factor_pattern;
-use pattern_route::takahashi_selected_inverse_on_factor_pattern;
+use factor_route::takahashi_selected_inverse_on_factor_pattern;
+use kept_pattern::closure_is_cholesky_factor_pattern;
 
 // The entries of the inverse at the marked set, laid out as the starts and rows of the result.
 pub fn takahashi_selected_inverse(

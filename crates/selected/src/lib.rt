@@ -8,7 +8,7 @@ use fill::fill_entries;
 use refusal::Checked;
 use refusal::MAX_ENTRIES;
 use refusal::Refusal;
-use request_marks::mark_requests;
+use request_marks::requests::mark_requests;
 use selected_checks::check_selected;
 
 // What a call answers; `selectedReplyOf` of specs/Selected.antt gives document 01's number of a refusal.

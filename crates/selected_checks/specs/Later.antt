@@ -6,7 +6,7 @@ use mathlib.Core.List.{List, [], _∷_, _++_}
 use lib.ListN.{length}
 use Rattle.refusal.specs.Steps.{Step}
 use Rattle.columns.specs.Columns.{boundSteps, columnSteps}
-use Rattle.requests.specs.Requests.{requestBoundStep, requestSteps}
+use Rattle.selection.specs.RequestSteps.{requestBoundStep, requestSteps}
 use Rattle.selection.specs.Selection.{Room, fillSteps}
 use Rattle.selection.specs.Call.{Call, selectedSteps}
 

@@ -1,3 +1,3 @@
--- The later steps of selected entries, group by group.
+-- The checks of a call that fills result lists.
 pub mod FirstOf
 pub mod Later

@@ -1,4 +1,6 @@
 // The checks of selected entries, refusals 1 to 7; the lists lent for writing are judged by their lengths.
+pub mod requests;
+
 ghost use mathlib.Core.Path.{_≡_};
 ghost use Prim.Native.Nat.{_≤_, min};
 ghost use mathlib.Core.List.{[], _∷_};
@@ -12,10 +14,10 @@ ghost use Rattle.selection.specs.Selection.{room, roomSteps, fillSteps};
 ghost use Rattle.selection.specs.Call.{call, selectedSteps};
 ghost use Rattle.selected_checks.specs.Later.{fromRequests, fromColumns};
 ghost use Rattle.selected_checks.specs.FirstOf.{orElse};
-use pair_marks::pair_total;
 use refusal::Checked;
 use refusal::MAX_ENTRIES;
 use refusal::Refusal;
+use scratch::pair_total;
 
 fn least(a: usize, b: usize) -> usize
     ensures { λ r. ⌜ r ≡ min a b ⌝ }
@@ -91,7 +93,7 @@ pub fn check_fill(
     ensures { λ r. ⌜ replyOf r ≡ verdict (fillSteps n (now (starts .entry)) (now (rows .entry)) (now (values .entry)) limit
         (room «result_starts» «result_rows» «result_values» scratch)) ⌝ }
 {
-    let diagonals = diagonal_check::check_diagonals(n, starts, rows, values);
+    let diagonals = kept_entries::diagonal_check::check_diagonals(n, starts, rows, values);
     let room = check_room(n, limit, result_starts, result_rows, result_values, scratch);
     first_of(diagonals, room)
 }
@@ -152,7 +154,7 @@ fn check_from_columns(
         (call n (now (starts .entry)) (now (rows .entry)) (now (values .entry)) dimension (now («request_rows» .entry)) (now («request_columns» .entry)) limit)
         (room «result_starts» «result_rows» «result_values» scratch)) ⌝ }
 {
-    match factor::check_columns(n, starts, rows, values.len()) {
+    match factor_check::check_columns(n, starts, rows, values.len()) {
         Checked::Refused(why) => Checked::Refused(why),
         Checked::Accepted => check_from_requests(
             n,
@@ -190,7 +192,7 @@ pub fn check_selected(
         (call n (now (starts .entry)) (now (rows .entry)) (now (values .entry)) dimension (now («request_rows» .entry)) (now («request_columns» .entry)) limit)
         (room «result_starts» «result_rows» «result_values» scratch)) ⌝ }
 {
-    match bounds_check::check_bounds(n, rows.len()) {
+    match factor_check::bounds::check_bounds(n, rows.len()) {
         Checked::Refused(why) => Checked::Refused(why),
         Checked::Accepted => {
             if MAX_ENTRIES < request_rows.len() {

@@ -15,8 +15,8 @@ use Rattle.diagnostics.specs.declared.SelectedInverseDiagnostics.{SelectedInver
 use Rattle.diagnostics.specs.declared.SelectedInverseStatus.{SelectedInverseStatus}
 use Rattle.diagnostics.specs.declared.SelectedInverseStatus.the-variants as status
 use Rattle.result.specs.Lookup.{lookup}
-use Rattle.ordered_lookup.specs.Reply.{entryReply}
-use Rattle.ordered_lookup.specs.declared.Entry.{Entry}
+use Rattle.lookup.specs.Reply.{entryReply}
+use Rattle.lookup.specs.declared.ordered.Entry.{Entry}
 use Rattle.selection.specs.Selection.{Lent, roomOf, selectedAnswer}
 use Rattle.selection.specs.Call.{Call, selectionOf, selectedSteps, accepted}
 use Rattle.selection.specs.Status.{status-tells, selected-complete}

@@ -22,8 +22,8 @@ use Rattle.selection.specs.Selection.{Lent, roomOf, selectedSize, selectedCompl
 use Rattle.selection.specs.Call.{Call, selectionOf, selectedSteps}
 use Rattle.selected.specs.declared.Selected.{Selected}
 use Rattle.selected.specs.declared.Selected.the-variants as reply
-use Rattle.ordered_lookup.specs.declared.Entry as inverse
-use Rattle.ordered_lookup.specs.Reply.{entryReply}
+use Rattle.lookup.specs.declared.ordered.Entry as inverse
+use Rattle.lookup.specs.Reply.{entryReply}
 use Rattle.result.specs.Lookup.{lookup}
 use Rattle.exact_entries.specs.Recurrence as entries
 use Rattle.exact_entries.specs.ExactEntries.{ExactCall}

@@ -13,7 +13,7 @@ use Rattle.columns.specs.Factor.{Factor, boundSteps-sound, columnSteps-sound}
 use Rattle.columns.specs.Diagonal.{diagonalSteps, diagonalSteps-sound}
 use Rattle.closed_set.specs.ClosedSet.{Ranged}
 use Rattle.closed_set.specs.Requests.{requested, Requests, requested-ranged}
-use Rattle.requests.specs.Requests.{requestBoundStep, requestSteps, requestSteps-sound}
+use Rattle.selection.specs.RequestSteps.{requestBoundStep, requestSteps, requestSteps-sound}
 use Rattle.diagnostics.specs.declared.SelectedInverseDiagnostics.{SelectedInverseDiagnostics}
 use Rattle.selection.specs.Selection.{Selection, Lent, Room, roomOf, scratchWords, roomSteps, fillSteps, selectedAnswer, Accepted}
 

@@ -1,4 +1,5 @@
 -- Selected entries: refusals, answer and lists.
+pub mod RequestSteps
 pub mod Selection
 pub mod Status
 pub mod Call

@@ -5,7 +5,7 @@ ghost use Rattle.starred_floor.specs.Stabilized.{stabilizedAs};
 use check::expect;
 use floor::Stabilized;
 use floor::stabilize_variances;
-use variance_floor::VarianceFloor;
+use floor::variance_floor::VarianceFloor;
 
 // Whether a call is answered with this floor and these hits.
 fn stabilized(s: Stabilized, floor: f64, hits: usize) -> bool

@@ -5,7 +5,7 @@ ghost use Rattle.starred_table.specs.Answer.{answerOf};
 ghost use Rattle.starred_replies.specs.Counts.{showsOf, countedOf, hasRatio};
 ghost use Rattle.starred_replies.specs.Entries.{isValue, isNan, isAbsent, isRefused};
 use diagnostics::SelectedInverseDiagnostics;
-use ordered_lookup::Entry;
+use lookup::ordered::Entry;
 use replies::refusal_number;
 use selected::Selected;
 use selected_entry::SelectedEntry;

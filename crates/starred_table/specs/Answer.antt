@@ -9,10 +9,10 @@ use borrow.Author.Tests.{leb-true}
 use Rattle.refusal.specs.Steps.{Reply, refused, answered, verdict}
 use Rattle.refusal.specs.Refusal.{refusalNumber}
 use Rattle.columns.specs.Examples.{F2-starts, F2-rows, F2-values}
-use Rattle.read_back.specs.ReadBack.{readBack}
+use Rattle.exact_entries.specs.ReadBack.{readBack}
 use Rattle.selection.specs.Selection.{Selection, Lent, Room, room, roomOf, selectedSet, selectedComplete, selectedTable}
 use Rattle.selection.specs.Call.{Call, call, selectionOf, selectedSteps, accepted}
-use Rattle.ordered_lookup.specs.Reply.{entryReply}
+use Rattle.lookup.specs.Reply.{entryReply}
 use Rattle.exact_entries.specs.Recurrence.{found-entries}
 use Rattle.selected_entry.specs.declared.SelectedEntry.{SelectedEntry}
 use Rattle.selected_entry.specs.declared.SelectedEntry.the-variants.{Found, ClosureTooLarge, Refused}

@@ -14,8 +14,8 @@ use Rattle.lists.specs.Select.{picked, select}
 use Rattle.lists.specs.Cells.{cellCount}
 use Rattle.refusal.specs.Steps.{refused, answered, first, verdict, after, each}
 use Rattle.factor_order.specs.Permutation.{validateSteps, invertSteps, inverseOf}
-use Rattle.floored.specs.Floored.{floored}
-use Rattle.variance_floor.specs.VarianceFloor.{floorSteps, floorOf}
+use Rattle.floor.specs.Floored.{floored}
+use Rattle.floor.specs.VarianceFloor.{floorSteps, floorOf}
 use Rattle.floor.specs.Floor.{stabilizedOf}
 use Rattle.floor.specs.Examples.{half, variances, worked-reply, worked-output}
 use Rattle.pairs.specs.Pair.{pairTotal}
@@ -31,8 +31,8 @@ use Rattle.diagnostics.specs.Diagnosis.{ratioOf, diagnosis}
 use Rattle.closure.specs.Closure.{closureOf}
 use Rattle.closure.specs.Diagnosis.{diagnosisOf}
 use Rattle.entries.specs.Entries.{floatTable}
-use Rattle.requests.specs.Requests.{requestSteps}
-use Rattle.pattern_marks.specs.OperatorPair.{operatorPair}
+use Rattle.selection.specs.RequestSteps.{requestSteps}
+use Rattle.columns.specs.OperatorPair.{operatorPair}
 use Rattle.selection.specs.Selection.{room, roomSteps, selectedComplete, selectedAnswer}
 use Rattle.selection.specs.Call.{selectedSteps}
 use Rattle.quadratic_form.specs.RowValue.{addTerms, addPlaces, operatorValues}

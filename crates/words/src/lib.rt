@@ -1,4 +1,7 @@
 // Lists of 32-bit words: a word as an index, and clearing.
+pub mod bit_words;
+pub mod index;
+
 ghost use mathlib.Core.Path.{_≡_};
 ghost use Prim.Native.Nat.{_<_, _≤_};
 ghost use lib.ListN.{length, getD};

@@ -1,5 +1,5 @@
-use Rattle.ordered_lookup.specs.declared.Entry.{Entry}
-use Rattle.ordered_lookup.specs.Reply.{entryReply}
+use Rattle.lookup.specs.declared.ordered.Entry.{Entry}
+use Rattle.lookup.specs.Reply.{entryReply}
 use Rattle.c_replies.specs.Numbers.{entryNumbers}
 use Rattle.c_replies.specs.declared.EntryNumbers.{EntryNumbers}
 use Rattle.refusal.specs.Steps.{refused}

@@ -1,5 +1,5 @@
-use Rattle.listed_pairs.specs.declared.PatternPairs.{PatternPairs}
-use Rattle.listed_pairs.specs.ListedMarks.{listReply}
+use Rattle.pattern_lists.specs.declared.listed.PatternPairs.{PatternPairs}
+use Rattle.pattern_lists.specs.ListedMarks.{listReply}
 use Rattle.c_replies.specs.Numbers.{pairNumbers}
 use Rattle.c_replies.specs.declared.PairNumbers.{PairNumbers}
 use Rattle.refusal.specs.Steps.{refused}

@@ -7,7 +7,7 @@ use denote.Ref.{now}
 use borrow.Author.Needs.{needs}
 use Rattle.columns.specs.Columns.{row}
 use Rattle.columns.specs.Factor.{FirstFrom}
-use Rattle.route_sums.specs.Sums.{inverseAt, Continued}
+use Rattle.column_sums.specs.Sums.{inverseAt, Continued}
 use Rattle.column_sums.specs.Upper.{rested-none, rested-set}
 use Rattle.column_sums.proofs.add_rest.Statement.{statement}
 use Rattle.column_sums.proofs.add_rest.Tie as tie

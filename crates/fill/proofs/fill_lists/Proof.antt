@@ -8,7 +8,7 @@ use denote.Ref.{now}
 use mathlib.Core.Bool.{Bool}
 use Rattle.selection.specs.Selection.{Selection, selection, Lent, lists, roomOf, Accepted}
 use Rattle.closure.specs.Closure.{Requested, markedSet, marked-requested}
-use Rattle.nested_columns.specs.Covered.{stops-none}
+use Rattle.closure.specs.Covered.{stops-none}
 use Rattle.fill.proofs.Fill.{fill-layout, fill-listed, fill-route, fill-long, fill-positions, fill-done, large-positions, large-done}
 use Rattle.fill.proofs.fill_lists.Statement.{statement}
 use Rattle.fill.proofs.fill_lists.Tie as tie

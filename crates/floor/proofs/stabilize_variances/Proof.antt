@@ -1,7 +1,7 @@
 use Rattle.floor.proofs.Answer.{stabilized-is}
-use Rattle.variance_floor.specs.Laws.{Accepted, accepted}
-use Rattle.floored.specs.Floored.{floored}
-use Rattle.variance_floor.specs.VarianceFloor.{floorSteps}
+use Rattle.floor.specs.VarianceFloorLaws.{Accepted, accepted}
+use Rattle.floor.specs.Floored.{floored}
+use Rattle.floor.specs.VarianceFloor.{floorSteps}
 use Rattle.refusal.specs.Refusal.{replyOf}
 use Rattle.refusal.specs.Steps.{Step, Passed, answered, first-refused, first-passed, after-refused, after-passed}
 use Rattle.lists.specs.Overwrite.{overwrite}

@@ -5,7 +5,7 @@ use denote.Ref.{now}
 use borrow.Author.Needs.{needs}
 use Rattle.refusal.specs.Steps.{append-refused, append-passed}
 use Rattle.refusal.specs.Refusal.{replyOf}
-use Rattle.requests.specs.Requests.{requestSteps}
+use Rattle.selection.specs.RequestSteps.{requestSteps}
 use Rattle.selected_checks.proofs.check_from_requests.Statement.{statement}
 use Rattle.selected_checks.proofs.check_from_requests.Tie as tie
 

@@ -1,2 +1,0 @@
--- Fields in the text of cases.
-pub mod Fields

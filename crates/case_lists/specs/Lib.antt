@@ -1,2 +1,0 @@
--- Lists in the text of cases.
-pub mod Items

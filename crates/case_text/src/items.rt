@@ -1,0 +1,108 @@
+// Reading lists from the text of cases into lists that the caller lends; items past the lent list's room are dropped.
+ghost use mathlib.Core.Path.{_≡_};
+ghost use Prim.Native.Nat.{_≤_, min};
+ghost use lib.ListN.{length};
+ghost use Rattle.lists.specs.Overwrite.{filled};
+ghost use Rattle.case_text.specs.Items.{pastItems, wordAt, valueAt, pastCount, Listing};
+use super::decimal;
+use super::float_value;
+use super::skip_blanks;
+use super::skip_word;
+
+// How many items were put, and the place after the list.
+pub struct Listed {
+    pub count: usize,
+    pub next: usize,
+}
+
+fn narrow(x: u64) -> u32
+    ensures { λ r. ⌜ r ≡ min x 4294967295 ⌝ }
+{
+    if x < 4294967295 {
+        return x as u32;
+    }
+    4294967295
+}
+
+fn least(a: usize, b: usize) -> usize
+    ensures { λ r. ⌜ r ≡ min a b ⌝ }
+{
+    if a < b { a } else { b }
+}
+
+// The place after `count` items from p on.
+fn skip_items(text: &[u8], p: usize, count: usize) -> usize
+    ensures { λ r. ⌜ r ≡ pastItems (now (text .entry)) p count ⌝ }
+{
+    let mut q = p;
+    let mut i = 0;
+    while i < count {
+        q = skip_word(text, skip_blanks(text, q));
+        i += 1;
+    }
+    q
+}
+
+// Puts the first `count` items after p to the front of the list; the reply is the place after them.
+fn put_words(text: &[u8], p: usize, count: usize, list: &mut [u32]) -> usize
+    requires { ⌜ count ≤ length (now list) ⌝ }
+    ensures { λ r. ⌜ r ≡ pastItems (now (text .entry)) p count ⌝ }
+    ensures { λ _. ⌜ now (list .exit) ≡ filled (wordAt (now (text .entry)) p) count (now (list .entry)) ⌝ }
+{
+    let mut q = p;
+    let mut i = 0;
+    while i < count {
+        q = skip_blanks(text, q);
+        list[i] = narrow(decimal(text, q));
+        q = skip_word(text, q);
+        i += 1;
+    }
+    q
+}
+
+// The same with values.
+fn put_values(text: &[u8], p: usize, count: usize, list: &mut [f64]) -> usize
+    requires { ⌜ count ≤ length (now list) ⌝ }
+    ensures { λ r. ⌜ r ≡ pastItems (now (text .entry)) p count ⌝ }
+    ensures { λ _. ⌜ now (list .exit) ≡ filled (valueAt (now (text .entry)) p) count (now (list .entry)) ⌝ }
+{
+    let mut q = p;
+    let mut i = 0;
+    while i < count {
+        q = skip_blanks(text, q);
+        list[i] = float_value(text, q);
+        q = skip_word(text, q);
+        i += 1;
+    }
+    q
+}
+
+// Reads a counted list of words.
+pub fn read_words(text: &[u8], p: usize, list: &mut [u32]) -> Listed
+    ensures { λ r. ⌜ Listing (wordAt (now (text .entry)) (pastCount (now (text .entry)) p)) (now (text .entry)) p (now (list .entry)) (r .count) (r .next) (now (list .exit)) ⌝ }
+{
+    let at = skip_blanks(text, p);
+    let items = decimal(text, at) as usize;
+    let first = skip_word(text, at);
+    let count = least(items, list.len());
+    let next = put_words(text, first, count, list);
+    Listed {
+        count: count,
+        next: skip_items(text, next, items - count),
+    }
+}
+
+// Reads a counted list of values.
+pub fn read_values(text: &[u8], p: usize, list: &mut [f64]) -> Listed
+    ensures { λ r. ⌜ Listing (valueAt (now (text .entry)) (pastCount (now (text .entry)) p)) (now (text .entry)) p (now (list .entry)) (r .count) (r .next) (now (list .exit)) ⌝ }
+{
+    let at = skip_blanks(text, p);
+    let items = decimal(text, at) as usize;
+    let first = skip_word(text, at);
+    let count = least(items, list.len());
+    let next = put_values(text, first, count, list);
+    Listed {
+        count: count,
+        next: skip_items(text, next, items - count),
+    }
+}

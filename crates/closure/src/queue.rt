@@ -1,0 +1,140 @@
+// Closing the queue's pairs under the dependencies of a factor, with marks and a queue in scratch, after the loops of
+// `takahashi_dependency_closure` of uncertainty.rs.
+ghost use mathlib.Core.Path.{_≡_};
+ghost use Prim.Native.Nat.{_<_};
+ghost use lib.ListN.{length};
+ghost use Rattle.columns.specs.Kept.{nonzero};
+ghost use Rattle.closure.specs.Queue.{Waiting, EndRoom, EndOf, afterSpan, ColumnDone, Ended, Finished};
+use super::stops::find_stop;
+use marked_pairs::PACKING;
+use marked_pairs::insert_closure_pair;
+use words::at;
+
+// Where closing (r, c) ends among the entries of column c: at its stop, if the row there is at most r, else with the column.
+fn column_end(r: usize, c: usize, stop: usize, starts: &[u32], rows: &[u32]) -> usize
+    requires { ⌜ EndRoom c stop (now starts) (now rows) ⌝ }
+    ensures { λ e. ⌜ EndOf (now (starts .entry)) (now (rows .entry)) stop r c e ⌝ }
+{
+    let end = at(starts, c + 1);
+    if stop < end {
+        if at(rows, stop - 1) <= r {
+            return stop;
+        }
+    }
+    end
+}
+
+// Where the queue goes on: behind the pairs that closing column c's diagonal added, if they start at `head`; else there.
+fn after_span(head: usize, c: usize, firsts: &[u32], ends: &[u32]) -> usize
+    requires { ⌜ (c < length (now firsts)) × (c < length (now ends)) ⌝ }
+    ensures { λ m. ⌜ m ≡ afterSpan (now (firsts .entry)) (now (ends .entry)) head c ⌝ }
+{
+    if at(firsts, c) == head {
+        return at(ends, c);
+    }
+    head
+}
+
+// The end of closing (r, c), to which the queue's words from `before` on were added. Where it is a diagonal and the column has a stop before its end,
+// at the descendant d, those words are noted and (d, d) is inserted: with it their dependencies follow, and their turn can be passed over.
+fn end_column(
+    n: usize,
+    r: usize,
+    c: usize,
+    stop: usize,
+    before: usize,
+    count: usize,
+    starts: &[u32],
+    rows: &[u32],
+    firsts: &mut [u32],
+    ends: &mut [u32],
+    scratch: &mut [u32],
+) -> usize
+    requires { ⌜ ColumnDone n c stop before count (now starts) (now rows) (now firsts) (now ends) (now scratch) ⌝ }
+    ensures { λ m. ⌜ Ended n r c stop before count (now (starts .entry)) (now (rows .entry)) (now (firsts .entry)) (now (ends .entry)) (now (scratch .entry))
+        (now (firsts .exit)) (now (ends .exit)) (now (scratch .exit)) m ⌝ }
+{
+    if r != c {
+        return count;
+    }
+    if at(starts, c + 1) <= stop {
+        return count;
+    }
+    firsts[c] = before as u32;
+    ends[c] = count as u32;
+    let d = at(rows, stop - 1);
+    insert_closure_pair(n, d, d, count, scratch)
+}
+
+// Takes each pair of the queue and inserts its dependencies, up to the first pair past the limit. Entries not kept, and diagonals, are passed over.
+// At a column's stop the rest are dependencies of the pair inserted last, and follow when its turn comes. Pairs that a diagonal added are passed over
+// where its column has a stop before its end.
+pub fn close_queue(
+    n: usize,
+    pairs: usize,
+    starts: &[u32],
+    rows: &[u32],
+    values: &[f64],
+    limit: usize,
+    first: usize,
+    stops: &mut [u32],
+    firsts: &mut [u32],
+    ends: &mut [u32],
+    scratch: &mut [u32],
+) -> usize
+    requires { ⌜ Waiting n pairs (now starts) (now rows) (length (now values)) (nonzero (now values)) (now stops) (now firsts) (now ends) limit
+        (now scratch) first ⌝ }
+    ensures { λ m. ⌜ Finished n (now (starts .entry)) (now (rows .entry)) (nonzero (now (values .entry))) limit
+        (now (scratch .entry)) first (now (stops .exit)) (now (scratch .exit)) m ⌝ }
+{
+    let mut count = first;
+    let mut head = 0;
+    'queue: while head < count {
+        let w = at(scratch, pairs + head);
+        let r = w / PACKING;
+        let c = w % PACKING;
+        let next = after_span(head, c, firsts, ends);
+        if head < next {
+            head = next;
+            continue 'queue;
+        }
+        let before = count;
+        let stop = find_stop(n, c, starts, rows, values, stops);
+        let end = column_end(r, c, stop, starts, rows);
+        let mut p = at(starts, c);
+        'column: while p < end {
+            let k = at(rows, p);
+            let l = values[p];
+            p += 1;
+            if k <= c {
+                continue 'column;
+            }
+            if l == 0.0 {
+                continue 'column;
+            }
+            count = insert_closure_pair(n, r, k, count, scratch);
+            if limit < count {
+                break 'queue;
+            }
+        }
+        let total = end_column(
+            n,
+            r,
+            c,
+            stop,
+            before,
+            count,
+            starts,
+            rows,
+            firsts,
+            ends,
+            scratch,
+        );
+        count = total;
+        if limit < total {
+            break 'queue;
+        }
+        head += 1;
+    }
+    count
+}

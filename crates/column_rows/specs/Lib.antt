@@ -1,2 +1,0 @@
--- The rows of a column's marked pairs.
-pub mod ColumnRows

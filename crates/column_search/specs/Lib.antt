@@ -1,0 +1,2 @@
+-- Finding a row in a column of a result, and the checks of its columns.
+pub mod Reply

@@ -1,0 +1,65 @@
+use Prim.Native.Nat.{ℕ, _≤_, _-_}
+use native.Mathlib.Omega.{arith}
+use mathlib.Core.Path.{_≡_, sym, ap, subst, _∙_}
+use lib.Ieee.{Float}
+use denote.Ref.{now}
+use borrow.Author.Needs.{needs}
+use Rattle.column_sums.specs.Sums.{inverseAt, Continued, withProduct, sumBetween-next, summing-entry}
+use Rattle.column_sums.proofs.sums.sum_from.Statement.{statement}
+use Rattle.column_sums.proofs.sums.sum_from.Tie as tie
+
+abbrev Inv-loop : tie.InvT-loop
+Inv-loop n pairs i j first e start rows values scratch inverse sum₀ p₀ sum p =
+    (first ≤ p) × (p ≤ e) × Continued rows values j (inverseAt n scratch inverse i) first p start sum
+
+abbrev μ-loop : tie.MeasureT-loop
+μ-loop n pairs i j first e start rows values scratch inverse sum₀ p₀ sum p = e - p
+
+abbrev begin : tie.At-loop Inv-loop μ-loop → tie.Start Inv-loop μ-loop
+begin q = q .before .before .before .before .before
+
+loop-holds : tie.Need-loop-holds Inv-loop μ-loop
+loop-holds c = (omega arith, omega (arith, c .before .before .before .before .pre .column .ordered), λ s h q. q)
+
+add-product-requires : tie.Need-add-product-requires Inv-loop μ-loop
+add-product-requires c κs = let l = c .before .loop in summing-entry (begin (c .before) .pre) (l .p) (l .inv .0) (c .loop-test .taken)
+
+add-p : tie.Need-add-p Inv-loop μ-loop
+add-p c = search needs
+
+loop-less : tie.Need-loop-less Inv-loop μ-loop
+loop-less c = search needs
+
+loop-again : tie.Need-loop-again Inv-loop μ-loop
+loop-again c =
+    let t = c .before in
+    let l = t .before .loop in
+    let a = begin (t .before) .args in
+    let r = inverseAt (a .n) (now (a .scratch)) (now (a .inverse)) (a .i) in (
+      omega (arith, l .inv .0),
+      omega (arith, t .loop-test .taken),
+      λ s h q.
+          c .add-product .ensures ∙ ap (λ (x : Float). withProduct (now (a .rows)) (now (a .values)) (a .j) r (l .p) x) (l .inv .2 s h q)
+          ∙ sym (sumBetween-next (now (a .rows)) (now (a .values)) (a .j) r s (l .p) (omega (arith, l .inv .0))),
+    )
+
+returns : tie.Need-returns Inv-loop μ-loop
+returns c =
+    let l = c .before .loop in
+    let a = begin (c .before) .args in
+    let e : l .p ≡ a .e = omega (arith, c .loop-test .left, l .inv .1) in
+    subst (λ (k : ℕ). Continued (now (a .rows)) (now (a .values)) (a .j) (inverseAt (a .n) (now (a .scratch)) (now (a .inverse)) (a .i)) (a .first) k (a .start) (l .sum)) e
+    (l .inv .2)
+
+pub sum-from-spec : {M : Type 1} → statement M
+sum-from-spec =
+    tie.close
+    (tie.spec
+    Inv-loop
+    μ-loop
+    loop-holds
+    add-product-requires
+    add-p
+    loop-less
+    loop-again
+    returns)

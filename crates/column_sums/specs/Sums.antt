@@ -1,0 +1,183 @@
+-- A sum of the recurrence over a column's stored entries, of which those kept below the diagonal count, with the inverse's entries read by position.
+-- Assumes nothing.
+use Prim.Native.Nat.{ℕ, zero, suc, _+_, _-_, _≤_, _<_}
+use native.Mathlib.Omega.{arith}
+use mathlib.Core.Path.{_≡_, refl, sym, ap, ap₂, subst, _∙_}
+use mathlib.Core.Bool.{Bool, true, false, _&&_}
+use mathlib.Core.List.{List, [], _∷_, _++_, map, map-append}
+use lib.ListN.{length}
+use lib.Ieee.{Float, binary64, ofBits, ne, add, mul}
+use borrow.Author.Tests.{lt-ltb, le-ltb}
+use Rattle.lists.specs.Select.{one, select, select-none, select-next}
+use Rattle.refusal.specs.Bounds.{maxDimension}
+use Rattle.pairs.specs.Pair.{pairTotal}
+use Rattle.columns.specs.Columns.{row, value}
+use Rattle.columns.specs.Kept.{f0, nonzero, keptBelow, entry}
+use Rattle.columns.specs.Factor.{Column}
+use Rattle.takahashi.specs.Recurrence.{Arithmetic, Entry, run, dot}
+use Rattle.exact.specs.Multiple.{zero-float}
+use Rattle.exact.specs.Exact.{floats}
+pub use Rattle.layout.specs.Position.{positionWord, inverseAt, Reading}
+
+-- the entries at some stored places
+abbrev pub entriesAt : List ℕ → List Float → List ℕ → List (Entry Float)
+entriesAt rows values places = map (entry rows values) places
+
+-- a sum, with the product of the entry at p where it is kept below the diagonal of column j; r k is the inverse's entry for the row k
+abbrev pub withProduct : List ℕ → List Float → ℕ → (ℕ → Float) → ℕ → Float → Float
+withProduct rows values j r p sum = run floats r sum (entriesAt rows values (one (keptBelow rows (nonzero values) j p) p))
+
+-- the sum over the stored entries from s to below e that are kept below the diagonal of column j, in their order
+unfoldable pub sumBetween : List ℕ → List Float → ℕ → (ℕ → Float) → ℕ → ℕ → Float
+sumBetween rows values j r s e = dot floats r (entriesAt rows values (select (keptBelow rows (nonzero values) j) s e))
+
+-- x is the sum up to e, where `sum` is that up to `first`
+abbrev pub Continued : List ℕ → List Float → ℕ → (ℕ → Float) → ℕ → ℕ → Float → Float → Type 0
+Continued rows values j r first e sum x = (s : ℕ) → s ≤ first → sum ≡ sumBetween rows values j r s first → x ≡ sumBetween rows values j r s e
+
+-- the sum for row i of column j, whose entries are stored from s to e
+abbrev pub entrySum : ℕ → ℕ → ℕ → ℕ → List ℕ → List Float → List ℕ → List Float → ℕ → Float
+entrySum n j s e rows values scratch inverse i = sumBetween rows values j (inverseAt n scratch inverse i) s e
+
+-- a stored entry whose product can be taken
+pub record Adding (n pairs i j p : ℕ) (rows : List ℕ) (values : List Float) (scratch : List ℕ) (size : ℕ) : Type 0 where
+  pub small : n ≤ maxDimension
+  pub all : pairs ≡ pairTotal n
+  pub left : i < n
+  pub stored : p < length rows
+  pub weighed : p < length values
+  pub inside : row rows p < n
+  pub room : pairTotal n + pairTotal n ≤ length scratch
+  pub known : keptBelow rows (nonzero values) j p ≡ true → positionWord n scratch i (row rows p) < size
+
+-- stored entries whose products can be taken
+pub record Summing (n pairs i j s e : ℕ) (rows : List ℕ) (values : List Float) (scratch : List ℕ) (size : ℕ) : Type 0 where
+  pub small : n ≤ maxDimension
+  pub all : pairs ≡ pairTotal n
+  pub left : i < n
+  pub column : Column rows (length values) s e
+  pub inside : (p : ℕ) → s ≤ p → p < e → row rows p < n
+  pub room : pairTotal n + pairTotal n ≤ length scratch
+  pub known : (p : ℕ) → s ≤ p → p < e → keptBelow rows (nonzero values) j p ≡ true → positionWord n scratch i (row rows p) < size
+
+-- one of them
+pub summing-entry : {n pairs i j s e : ℕ} {rows : List ℕ} {values : List Float} {scratch : List ℕ} {size : ℕ}
+    → Summing n pairs i j s e rows values scratch size → (p : ℕ) → s ≤ p → p < e → Adding n pairs i j p rows values scratch size
+summing-entry S p lo hi = record {
+  small = S .small;
+  all = S .all;
+  left = S .left;
+  stored = omega (arith, S .column .stored);
+  weighed = omega (arith, S .column .weighed);
+  inside = S .inside p lo hi;
+  room = S .room;
+  known = S .known p lo hi;
+}
+
+-- those from m on
+pub summing-from : {n pairs i j s e : ℕ} {rows : List ℕ} {values : List Float} {scratch : List ℕ} {size : ℕ}
+    → Summing n pairs i j s e rows values scratch size → (m : ℕ) → s ≤ m → m ≤ e → Summing n pairs i j m e rows values scratch size
+summing-from S m lo hi = record {
+  small = S .small;
+  all = S .all;
+  left = S .left;
+  column = record {
+    ordered = hi;
+    stored = S .column .stored;
+    weighed = S .column .weighed;
+    ascends = λ q p a. S .column .ascends q p (omega arith);
+  };
+  inside = λ p a. S .inside p (omega arith);
+  room = S .room;
+  known = λ p a. S .known p (omega arith);
+}
+
+-- the inverse's entry for it
+pub adding-read : {n pairs i j p : ℕ} {rows : List ℕ} {values : List Float} {scratch : List ℕ} {size : ℕ}
+    → Adding n pairs i j p rows values scratch size → keptBelow rows (nonzero values) j p ≡ true → Reading n pairs i (row rows p) scratch size
+adding-read A k = record { small = A .small; all = A .all; left = A .left; right = A .inside; room = A .room; known = A .known k }
+
+-- ---- one product
+
+module _ (rows : List ℕ) (values : List Float) (j p : ℕ) (r : ℕ → Float) (sum : Float) where
+  -- an entry that is not kept below the diagonal
+  pub passed-over : keptBelow rows (nonzero values) j p ≡ false → sum ≡ withProduct rows values j r p sum
+  passed-over t = ap (λ (b : Bool). run floats r sum (entriesAt rows values (one b p))) (sym t)
+
+  pub withProduct-above : row rows p ≤ j → sum ≡ withProduct rows values j r p sum
+  withProduct-above h = passed-over (ap (λ (b : Bool). b && nonzero values p) (le-ltb j (row rows p) h))
+
+  pub withProduct-zero : j < row rows p → ne (value values p) f0 ≡ false → sum ≡ withProduct rows values j r p sum
+  withProduct-zero h e = passed-over (ap₂ (λ (a b : Bool). a && b) (lt-ltb j (row rows p) h) e)
+
+  -- and one that is
+  pub kept-below : j < row rows p → ne (value values p) f0 ≡ true → keptBelow rows (nonzero values) j p ≡ true
+  kept-below h e = ap₂ (λ (a b : Bool). a && b) (lt-ltb j (row rows p) h) e
+
+  pub withProduct-kept : keptBelow rows (nonzero values) j p ≡ true
+      → add binary64 sum (mul binary64 (value values p) (r (row rows p))) ≡ withProduct rows values j r p sum
+  withProduct-kept t = ap (λ (b : Bool). run floats r sum (entriesAt rows values (one b p))) (sym t)
+
+-- ---- the sum
+
+run-append : (A : Arithmetic) (r : ℕ → A .Carrier) (S : A .Carrier) (es fs : List (Entry (A .Carrier))) → run A r S (es ++ fs) ≡ run A r (run A r S es) fs
+run-append A r S [] fs = refl
+run-append A r S (e ∷ es) fs = run-append A r (A .plus S (A .times (e .value) (r (e .row)))) es fs
+
+zero-is : f0 ≡ zero-float
+unfolding ofBits
+zero-is = refl
+
+module _ (rows : List ℕ) (values : List Float) (j : ℕ) (r : ℕ → Float) (s : ℕ) where
+  pub sumBetween-none : f0 ≡ sumBetween rows values j r s s
+  unfolding sumBetween
+  sumBetween-none = rw (select-none (keptBelow rows (nonzero values) j) s) zero-is
+
+  pub sumBetween-next : (p : ℕ) → s ≤ p → sumBetween rows values j r s (p + 1) ≡ withProduct rows values j r p (sumBetween rows values j r s p)
+  unfolding sumBetween
+  sumBetween-next p h =
+      let test = keptBelow rows (nonzero values) j in
+      ap (λ (l : List ℕ). dot floats r (entriesAt rows values l)) (select-next test s p h)
+      ∙ ap (dot floats r) (map-append (entry rows values) (select test s p) (one (test p) p))
+      ∙ run-append floats r zero-float (entriesAt rows values (select test s p)) _
+
+module _ (rows : List ℕ) (values : List Float) (j : ℕ) (r r′ : ℕ → Float) where
+  -- a product needs the inverse's entry at its row alone, if it is kept
+  pub product-same : (p : ℕ) (sum : Float) → (keptBelow rows (nonzero values) j p ≡ true → r (row rows p) ≡ r′ (row rows p))
+      → withProduct rows values j r p sum ≡ withProduct rows values j r′ p sum
+  product-same p sum h = go (keptBelow rows (nonzero values) j p) refl
+    where
+      go : (b : Bool) → keptBelow rows (nonzero values) j p ≡ b
+          → run floats r sum (entriesAt rows values (one b p)) ≡ run floats r′ sum (entriesAt rows values (one b p))
+      go true t = ap (λ (x : Float). add binary64 sum (mul binary64 (value values p) x)) (h t)
+      go false t = refl
+
+module _ (rows : List ℕ) (values : List Float) (j : ℕ) (r r′ : ℕ → Float) (s : ℕ) where
+  same-to : (m : ℕ) → ((p : ℕ) → s ≤ p → p < s + m → keptBelow rows (nonzero values) j p ≡ true → r (row rows p) ≡ r′ (row rows p))
+      → sumBetween rows values j r s (s + m) ≡ sumBetween rows values j r′ s (s + m)
+  unfolding sumBetween
+  same-to zero h =
+      let q : s + 0 ≡ s = omega arith in
+      ap (λ (e : ℕ). sumBetween rows values j r s e) q
+      ∙ ap (λ (l : List ℕ). dot floats r (entriesAt rows values l)) (select-none (keptBelow rows (nonzero values) j) s)
+      ∙ sym (ap (λ (l : List ℕ). dot floats r′ (entriesAt rows values l)) (select-none (keptBelow rows (nonzero values) j) s))
+      ∙ ap (λ (e : ℕ). sumBetween rows values j r′ s e) (sym q)
+  same-to (suc m) h = other (same-to m (λ p lo hi. h p lo (omega arith)))
+    where
+      q : s + suc m ≡ s + m + 1
+      q = omega arith
+
+      other : sumBetween rows values j r s (s + m) ≡ sumBetween rows values j r′ s (s + m)
+          → sumBetween rows values j r s (s + suc m) ≡ sumBetween rows values j r′ s (s + suc m)
+      other before =
+          ap (λ (e : ℕ). sumBetween rows values j r s e) q ∙ sumBetween-next rows values j r s (s + m) (omega arith)
+          ∙ ap (withProduct rows values j r (s + m)) before
+          ∙ product-same rows values j r r′ (s + m) (sumBetween rows values j r′ s (s + m)) (h (s + m) (omega arith) (omega arith))
+          ∙ sym (ap (λ (e : ℕ). sumBetween rows values j r′ s e) q ∙ sumBetween-next rows values j r′ s (s + m) (omega arith))
+
+  -- the sum needs the inverse's entries at the kept rows alone
+  pub sumBetween-cong : (e : ℕ) → s ≤ e → ((p : ℕ) → s ≤ p → p < e → keptBelow rows (nonzero values) j p ≡ true → r (row rows p) ≡ r′ (row rows p))
+      → sumBetween rows values j r s e ≡ sumBetween rows values j r′ s e
+  sumBetween-cong e h same =
+      let q : s + (e - s) ≡ e = omega arith in
+      subst (λ (x : ℕ). sumBetween rows values j r s x ≡ sumBetween rows values j r′ s x) q (same-to (e - s) (λ p lo hi. same p lo (omega arith)))

@@ -1,0 +1,189 @@
+// A sum of the recurrence over a column's stored entries: those kept below the diagonal count, ascending, each with an entry of the inverse.
+ghost use mathlib.Core.Path.{_≡_};
+ghost use mathlib.Core.Bool.{true};
+ghost use Prim.Native.Nat.{_+_, _≤_, _<_};
+ghost use lib.ListN.{length};
+ghost use Rattle.lists.specs.Test.{anyIn};
+ghost use Rattle.column_sums.specs.Sums.{inverseAt, Adding, Summing, withProduct, sumBetween, Continued};
+ghost use Rattle.column_sums.specs.Rest.{zeroAt, Summed, runPositions, rowPositions, RunRoom, RowsRoom, Rest};
+use layout::positions::column_shift;
+use layout::positions::read_entry;
+use words::at;
+
+// The sum with the product of the stored entry at p, where it is kept below the diagonal of column j; other entries are passed over.
+fn add_product(
+    n: usize,
+    pairs: usize,
+    i: usize,
+    j: usize,
+    p: usize,
+    sum: f64,
+    rows: &[u32],
+    values: &[f64],
+    scratch: &[u32],
+    inverse: &[f64],
+) -> f64
+    requires { ⌜ Adding n pairs i j p (now rows) (now values) (now scratch) (length (now inverse)) ⌝ }
+    ensures { λ x. ⌜ x ≡ withProduct (now (rows .entry)) (now (values .entry)) j (inverseAt n (now (scratch .entry)) (now (inverse .entry)) i) p sum ⌝ }
+{
+    let k = at(rows, p);
+    if k <= j {
+        return sum;
+    }
+    let l = values[p];
+    if l != 0.0 {
+        return sum + l * read_entry(n, pairs, i, k, scratch, inverse);
+    }
+    sum
+}
+
+// The sum, continued by l(k) Z(i, k) over the descendants k of column j that are stored from `first` to e.
+fn sum_from(
+    n: usize,
+    pairs: usize,
+    i: usize,
+    j: usize,
+    first: usize,
+    e: usize,
+    start: f64,
+    rows: &[u32],
+    values: &[f64],
+    scratch: &[u32],
+    inverse: &[f64],
+) -> f64
+    requires { ⌜ Summing n pairs i j first e (now rows) (now values) (now scratch) (length (now inverse)) ⌝ }
+    ensures { λ x. ⌜ Continued (now (rows .entry)) (now (values .entry)) j (inverseAt n (now (scratch .entry)) (now (inverse .entry)) i) first e start x ⌝ }
+{
+    let mut sum = start;
+    let mut p = first;
+    while p < e {
+        sum = add_product(n, pairs, i, j, p, sum, rows, values, scratch, inverse);
+        p += 1;
+    }
+    sum
+}
+
+// The sum of l(k) Z(i, k) over the descendants k of column j, ascending; its entries are stored from s to e.
+pub fn entry_sum(
+    n: usize,
+    pairs: usize,
+    i: usize,
+    j: usize,
+    s: usize,
+    e: usize,
+    rows: &[u32],
+    values: &[f64],
+    scratch: &[u32],
+    inverse: &[f64],
+) -> f64
+    requires { ⌜ Summing n pairs i j s e (now rows) (now values) (now scratch) (length (now inverse)) ⌝ }
+    ensures { λ x. ⌜ x ≡ sumBetween (now (rows .entry)) (now (values .entry)) j (inverseAt n (now (scratch .entry)) (now (inverse .entry)) i) s e ⌝ }
+{
+    sum_from(n, pairs, i, j, s, e, 0.0, rows, values, scratch, inverse)
+}
+
+// Whether one of the values from s to e is 0.0. The loop has one exit, so that it is compiled to vector instructions.
+pub fn has_zero(s: usize, e: usize, values: &[f64]) -> bool
+    requires { ⌜ (s ≤ e) × (e ≤ length (now values)) ⌝ }
+    ensures { λ b. ⌜ b ≡ anyIn (zeroAt (now (values .entry))) s e ⌝ }
+{
+    let mut found = false;
+    let mut p = s;
+    while p < e {
+        if values[p] == 0.0 {
+            found = true;
+        }
+        p += 1;
+    }
+    found
+}
+
+// The sum, continued by the products of the values from `first` to e and the entries of the inverse from `position` on.
+fn sum_run(
+    first: usize,
+    e: usize,
+    position: usize,
+    start: f64,
+    values: &[f64],
+    inverse: &[f64],
+) -> f64
+    requires { ⌜ RunRoom first e position (length (now values)) (length (now inverse)) ⌝ }
+    ensures { λ x. ⌜ Summed (now (values .entry)) (now (inverse .entry)) first e (runPositions first position) start x ⌝ }
+{
+    let mut sum = start;
+    let mut p = first;
+    let mut r = position;
+    while p < e {
+        sum = sum + values[p] * inverse[r];
+        p += 1;
+        r += 1;
+    }
+    sum
+}
+
+// The sum, continued by the products of the values from `first` to e and the entries of the inverse whose positions stand `shift` words past the rows.
+fn sum_rows(
+    shift: usize,
+    first: usize,
+    e: usize,
+    start: f64,
+    rows: &[u32],
+    values: &[f64],
+    scratch: &[u32],
+    inverse: &[f64],
+) -> f64
+    requires { ⌜ RowsRoom shift first e (now rows) (length (now values)) (now scratch) (length (now inverse)) ⌝ }
+    ensures { λ x. ⌜ Summed (now (values .entry)) (now (inverse .entry)) first e (rowPositions shift (now (rows .entry)) (now (scratch .entry))) start x ⌝ }
+{
+    let mut sum = start;
+    let mut p = first;
+    while p < e {
+        let position = at(scratch, shift + at(rows, p));
+        sum = sum + values[p] * inverse[position];
+        p += 1;
+    }
+    sum
+}
+
+// The sum, continued by l(k) Z(i, k) over the descendants k of column j that are stored from `first` to e, all greater than i. Where no value is 0.0
+// their entries of the inverse are read from column i, and from a run of it where the positions follow one another.
+pub fn sum_rest(
+    n: usize,
+    pairs: usize,
+    i: usize,
+    j: usize,
+    first: usize,
+    e: usize,
+    zeros: bool,
+    start: f64,
+    rows: &[u32],
+    values: &[f64],
+    scratch: &[u32],
+    inverse: &[f64],
+) -> f64
+    requires { ⌜ Rest n pairs i j first e zeros (now rows) (now values) (now scratch) (length (now inverse)) ⌝ }
+    ensures { λ x. ⌜ Continued (now (rows .entry)) (now (values .entry)) j (inverseAt n (now (scratch .entry)) (now (inverse .entry)) i) first e start x ⌝ }
+{
+    if !zeros {
+        let shift = pairs + column_shift(n, i);
+        let position = at(scratch, shift + at(rows, first));
+        let last = at(scratch, shift + at(rows, e - 1));
+        if last - position == e - 1 - first {
+            return sum_run(first, e, position, start, values, inverse);
+        }
+        return sum_rows(shift, first, e, start, rows, values, scratch, inverse);
+    }
+    sum_from(
+        n,
+        pairs,
+        i,
+        j,
+        first,
+        e,
+        start,
+        rows,
+        values,
+        scratch,
+        inverse,
+    )
+}

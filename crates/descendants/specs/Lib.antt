@@ -1,2 +1,0 @@
--- The descendants of a column of a factor.
-pub mod FactorPattern

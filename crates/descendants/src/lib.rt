@@ -1,1 +1,0 @@
-// A factor's pattern: the descendants of its columns. No code.

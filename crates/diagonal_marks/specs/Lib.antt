@@ -1,2 +1,0 @@
--- Marking all diagonals.
-pub mod Diagonals

@@ -1,0 +1,33 @@
+// A factor in compressed columns: refusals 1, 2 and 3.
+pub mod bounds;
+pub mod rows;
+pub mod starts;
+
+ghost use mathlib.Core.Path.{_≡_};
+ghost use Rattle.refusal.specs.Steps.{verdict};
+ghost use Rattle.refusal.specs.Refusal.{replyOf};
+ghost use Rattle.columns.specs.Columns.{columnSteps, factorSteps};
+use bounds::check_bounds;
+use refusal::Checked;
+use rows::check_rows;
+use starts::check_starts;
+
+// Steps 2 and 3.
+pub fn check_columns(n: usize, starts: &[u32], rows: &[u32], values: usize) -> Checked
+    ensures { λ r. ⌜ replyOf r ≡ verdict (columnSteps n (now (starts .entry)) (now (rows .entry)) values) ⌝ }
+{
+    match check_starts(n, starts, rows, values) {
+        Checked::Refused(why) => Checked::Refused(why),
+        Checked::Accepted => check_rows(n, starts, rows),
+    }
+}
+
+// Steps 1, 2 and 3.
+pub fn check_factor(n: usize, starts: &[u32], rows: &[u32], values: usize) -> Checked
+    ensures { λ r. ⌜ replyOf r ≡ verdict (factorSteps n (now (starts .entry)) (now (rows .entry)) values) ⌝ }
+{
+    match check_bounds(n, rows.len()) {
+        Checked::Refused(why) => Checked::Refused(why),
+        Checked::Accepted => check_columns(n, starts, rows, values),
+    }
+}

@@ -1,0 +1,6 @@
+-- The factor route: the recurrence over the kept pattern.
+pub mod ColumnMarks
+pub mod Walk
+pub mod RouteLayout
+pub mod Route
+pub mod RouteCall

@@ -1,0 +1,102 @@
+// The factor-pattern route of the selected inverse, taken where the closed set is the factor's kept pattern, after
+// `takahashi_selected_inverse_on_factor_pattern` of uncertainty.rs.
+pub mod column_marks;
+pub mod column_scatter;
+pub mod step;
+
+ghost use mathlib.Core.Path.{_≡_};
+ghost use Prim.Native.Nat.{_+_, _<_};
+ghost use lib.ListN.{length};
+ghost use lib.Ieee.{nan};
+ghost use Rattle.lists.specs.Overwrite.{overwrite};
+ghost use Rattle.columns.specs.Kept.{nonzero, keptPair, desc};
+ghost use Rattle.entries.specs.Entries.{entryValues, floatTable};
+ghost use Rattle.scatter.specs.Scatter.{Known};
+ghost use Rattle.factor_route.specs.Route.{RouteInput, AtRest, ColumnDone};
+use column_marks::mark_column;
+use column_marks::unmark_column;
+use column_scatter::scatter_columns;
+use kept_entries::diagonal::diagonal;
+use refusal::MAX_DIMENSION;
+use step::write_column;
+use words::at;
+
+// Column j of the result, from the columns after it. The marker comes empty and is left empty.
+fn pattern_column(
+    n: usize,
+    starts: &[u32],
+    rows: &[u32],
+    values: &[f64],
+    entry_starts: &[u32],
+    entry_rows: &[u32],
+    entry_values: &mut [f64],
+    j: usize,
+    marker: &mut [usize; MAX_DIMENSION],
+    weights: &mut [f64; MAX_DIMENSION],
+    sums: &mut [f64; MAX_DIMENSION],
+)
+    requires { ⌜ RouteInput n (now starts) (now rows) (now values) (now «entry_starts») (now «entry_rows») (length (now «entry_values»)) × (j < n) ⌝ }
+    requires { ⌜ AtRest (now marker) (now weights) (now sums) ⌝ }
+    requires { ⌜ Known nan n (desc (now starts) (now rows) (now values)) (now «entry_starts») (now «entry_rows»)
+        (floatTable n (now starts) (now rows) (now values)) (j + 1) (now «entry_values») ⌝ }
+    ensures { λ _. ⌜ ColumnDone n (now (starts .entry)) (now (rows .entry)) (now (values .entry)) (now («entry_starts» .entry)) j
+        (now («entry_values» .entry)) (now («entry_values» .exit)) (now (marker .exit)) (now (weights .exit)) (now (sums .exit)) ⌝ }
+{
+    let a = at(entry_starts, j);
+    let e = at(entry_starts, j + 1);
+    let s = at(starts, j);
+    let t = at(starts, j + 1);
+    let m = mark_column(j, rows, values, s, t, marker, weights, sums);
+    let b = a + 1;
+    scatter_columns(
+        entry_starts,
+        entry_rows,
+        entry_values,
+        b,
+        m,
+        marker,
+        weights,
+        sums,
+    );
+    let d = diagonal(n, starts, rows, values, j);
+    write_column(entry_values, a, e, weights, sums, d, m);
+    unmark_column(entry_rows, b, m, marker);
+}
+
+// The values of the selected inverse over the factor's kept pattern, columns from the last to the first.
+pub fn takahashi_selected_inverse_on_factor_pattern(
+    n: usize,
+    starts: &[u32],
+    rows: &[u32],
+    values: &[f64],
+    entry_starts: &[u32],
+    entry_rows: &[u32],
+    entry_values: &mut [f64],
+)
+    requires { ⌜ RouteInput n (now starts) (now rows) (now values) (now «entry_starts») (now «entry_rows») (length (now «entry_values»)) ⌝ }
+    ensures { λ _. ⌜ now («entry_values» .exit) ≡ overwrite
+        (entryValues n (keptPair (now (starts .entry)) (now (rows .entry)) (nonzero (now (values .entry))))
+        (floatTable n (now (starts .entry)) (now (rows .entry)) (now (values .entry))))
+        (now («entry_values» .entry)) ⌝ }
+{
+    let mut marker = [MAX_DIMENSION; MAX_DIMENSION];
+    let mut weights = [0.0f64; MAX_DIMENSION];
+    let mut sums = [0.0f64; MAX_DIMENSION];
+    let mut j = n;
+    while 0 < j {
+        j -= 1;
+        pattern_column(
+            n,
+            starts,
+            rows,
+            values,
+            entry_starts,
+            entry_rows,
+            entry_values,
+            j,
+            &mut marker,
+            &mut weights,
+            &mut sums,
+        );
+    }
+}

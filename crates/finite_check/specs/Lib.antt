@@ -1,2 +1,0 @@
--- Floats that are not finite.
-pub mod NotFinite

@@ -1,0 +1,12 @@
+use Prim.Native.Nat.{_-_}
+use Rattle.floor.proofs.positive_mean.max.Statement.{statement}
+use Rattle.floor.proofs.positive_mean.max.Tie as tie
+
+returns : tie.Need-returns
+returns c = rw (c .if1 .taken)
+
+returns-2 : tie.Need-returns-2
+returns-2 c = rw (c .if1 .left)
+
+pub max-spec : {M : Type 1} → statement M
+max-spec = tie.close (tie.spec returns returns-2)

@@ -1,3 +1,0 @@
--- Values raised to a floor.
-pub mod Floored
-pub mod Laws

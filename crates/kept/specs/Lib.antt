@@ -1,2 +1,0 @@
--- Entries above the diagonal.
-pub mod Above

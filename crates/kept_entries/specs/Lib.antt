@@ -1,0 +1,2 @@
+-- The kept entries of a factor.
+pub mod Above

@@ -1,2 +1,0 @@
--- The marked pairs listed.
-pub mod ListedMarks

@@ -1,0 +1,43 @@
+use native.Mathlib.Omega.{arith}
+use mathlib.Core.Path.{ap, sym, _∙_}
+use lib.Ieee.{nan}
+use borrow.Author.Needs.{needs}
+use Rattle.refusal.specs.Steps.{settle}
+use Rattle.columns.specs.Kept.{f0}
+use Rattle.result.specs.Laws.{diagonalOf-place}
+use Rattle.lookup.specs.Reply.{entryReply}
+use Rattle.lookup.proofs.diagonal_list.diagonal.Statement.{statement}
+use Rattle.lookup.proofs.diagonal_list.diagonal.Tie as tie
+
+column-value-requires : tie.Need-column-value-requires
+column-value-requires c κs =
+    let s = c .before .before .before in
+    (omega (arith, s .pre), s .pre .0 .column (s .args .c) (s .pre .1))
+
+enum-known-d : tie.Need-enum-known-d
+enum-known-d c = search needs
+
+enum-told : tie.Need-enum-told
+enum-told c = search needs
+
+returns : tie.Need-returns
+returns c =
+    let x = c .before in
+    let d = x .before .before in
+    let s = d .before .before .before .before in
+    let a = s .args in
+    sym
+    (diagonalOf-place nan (a .starts .now) (a .rows .now) (a .values .now) (s .pre .0) f0 (a .c) (s .pre .1)
+    ∙ ap (settle f0) (sym (d .column-value .ensures) ∙ ap entryReply (x .d .given .1)))
+
+returns-2 : tie.Need-returns-2
+returns-2 c =
+    let d = c .before .before in
+    let s = d .before .before .before .before in
+    let a = s .args in
+    sym
+    (diagonalOf-place nan (a .starts .now) (a .rows .now) (a .values .now) (s .pre .0) f0 (a .c) (s .pre .1)
+    ∙ ap (settle f0) (sym (d .column-value .ensures) ∙ ap entryReply (c .enum-told .given .1)))
+
+pub diagonal-spec : {M : Type 1} → statement M
+diagonal-spec = tie.close (tie.spec column-value-requires enum-known-d enum-told returns returns-2)

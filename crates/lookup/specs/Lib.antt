@@ -1,0 +1,2 @@
+-- The lookup and the diagonal list.
+pub mod Reply

@@ -1,0 +1,12 @@
+-- What a lookup's answer says: a value, or a refusal's number.
+-- Assumes nothing.
+use lib.Ieee.{Float}
+use Rattle.refusal.specs.Steps.{Reply, refused, answered}
+use Rattle.refusal.specs.Refusal.{refusalNumber}
+use Rattle.lookup.specs.declared.ordered.Entry.{Entry}
+use Rattle.lookup.specs.declared.ordered.Entry.the-variants.{Value, Refused}
+
+-- the value, or document 01's number
+abbrev pub entryReply : Entry → Reply Float
+entryReply (Value v) = answered v
+entryReply (Refused why) = refused (refusalNumber why)

@@ -1,0 +1,45 @@
+// The lookup in a selected-inverse result and its diagonal list, after `SparseSelectedInverse::get` and `diag` of uncertainty.rs.
+pub mod diagonal_list;
+pub mod ordered;
+
+ghost use mathlib.Core.Path.{_≡_};
+ghost use lib.ListN.{length};
+ghost use Rattle.lists.specs.Overwrite.{overwrite};
+ghost use Rattle.refusal.specs.Steps.{verdict, after};
+ghost use Rattle.refusal.specs.Refusal.{replyOf};
+ghost use Rattle.result.specs.Lookup.{lookup, diagSteps, diagonals};
+ghost use Rattle.lookup.specs.Reply.{entryReply};
+use column_search::result_check::check_result;
+use diagonal_list::write_diagonals;
+use ordered::Entry;
+use ordered::get_ordered;
+use refusal::Checked;
+use refusal::Refusal;
+
+// The entry at a row and a column, exchanged if row < column.
+pub fn get(starts: &[u32], rows: &[u32], values: &[f64], row: usize, col: usize) -> Entry
+    ensures { λ found. ⌜ entryReply found ≡ lookup (now (starts .entry)) (now (rows .entry)) (now (values .entry)) row col ⌝ }
+{
+    if row < col {
+        return get_ordered(starts, rows, values, col, row);
+    }
+    get_ordered(starts, rows, values, row, col)
+}
+
+// The diagonal list, written to the front of the output.
+pub fn diag(starts: &[u32], rows: &[u32], values: &[f64], output: &mut [f64]) -> Checked
+    ensures { λ r. ⌜ replyOf r ≡ verdict (diagSteps (now (starts .entry)) (now (rows .entry)) (length (now (values .entry))) (length (now (output .entry)))) ⌝ }
+    ensures { λ _. ⌜ now (output .exit) ≡ after (diagSteps (now (starts .entry)) (now (rows .entry)) (length (now (values .entry))) (length (now (output .entry))))
+        (overwrite (diagonals (now (starts .entry)) (now (rows .entry)) (now (values .entry))) (now (output .entry))) (now (output .entry)) ⌝ }
+{
+    match check_result(starts, rows, values.len()) {
+        Checked::Refused(why) => Checked::Refused(why),
+        Checked::Accepted => {
+            if output.len() < starts.len() - 1 {
+                return Checked::Refused(Refusal::TooShort);
+            }
+            write_diagonals(starts, rows, values, output);
+            Checked::Accepted
+        }
+    }
+}

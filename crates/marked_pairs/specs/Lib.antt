@@ -1,0 +1,2 @@
+-- Marked pairs of a scratch, and their queue.
+pub mod MarkedPairs

@@ -1,0 +1,130 @@
+use Prim.Native.Nat.{ℕ, _≤_, _<_, _-_, _+_}
+use native.Mathlib.Omega.{arith}
+use mathlib.Core.Path.{_≡_, ap, ap₂, sym, _∙_}
+use lib.ListN.{length}
+use lib.Ieee.{Float, binary64, add, mul}
+use denote.Ref.{now}
+use borrow.Author.Needs.{needs}
+use Rattle.columns.specs.Columns.{value}
+use Rattle.takahashi.specs.Recurrence as recurrence
+use Rattle.exact.specs.Exact.{floats}
+use Rattle.layout.specs.Position.{Reading, shift-fits}
+use Rattle.quadratic_form.specs.RowValue.{withTerms, withTerms-none, withTerms-next, columnAt}
+use Rattle.operator_values.specs.Reading.{placed}
+use Rattle.operator_values.proofs.row_value.add_terms.Statement.{statement}
+use Rattle.operator_values.proofs.row_value.add_terms.Tie as tie
+
+abbrev Inv-loop : tie.InvT-loop
+Inv-loop n pairs columns weights scratch inverse s e a first x i base sum₀ b₀ sum b =
+    (s ≤ b) × (b ≤ e) × (sum ≡ withTerms floats (columnAt columns) (value weights) (placed n scratch inverse) s b a first)
+
+abbrev μ-loop : tie.MeasureT-loop
+μ-loop n pairs columns weights scratch inverse s e a first x i base sum₀ b₀ sum b = e - b
+
+abbrev start : tie.After-column-shift Inv-loop μ-loop → tie.Start Inv-loop μ-loop
+start q = q .before .before .before .before .before .before .before
+
+-- the pair of the place's column with itself
+own : (t : tie.After-at Inv-loop μ-loop) →
+    let a = t .before .before .before .before .before .before .args in
+    Reading (a .n) (a .pairs) (columnAt (now (a .columns)) (a .a)) (columnAt (now (a .columns)) (a .a)) (now (a .scratch)) (length (now (a .inverse)))
+own t =
+    let s = t .before .before .before .before .before .before in
+    let h = s .pre .1 in
+    s .pre .0 .reads (s .args .a) (s .args .a) (h .0) (h .1) (h .0) (h .1)
+
+-- a place of the row
+place : (c : tie.In-loop Inv-loop μ-loop) → c .before .loop .b < start (c .before .before) .args .e
+place c = omega (arith, c .loop-test .taken)
+
+mul-x : tie.Need-mul-x Inv-loop μ-loop
+mul-x c = search needs
+
+shared-slice-read-x : tie.Need-shared-slice-read-x Inv-loop μ-loop
+shared-slice-read-x c = search needs
+
+at-requires : tie.Need-at-requires Inv-loop μ-loop
+at-requires c κs = search needs
+
+column-shift-requires : tie.Need-column-shift-requires Inv-loop μ-loop
+column-shift-requires c κs = (own c .small, omega (arith, c .at .ensures, own c .left))
+
+add-base : tie.Need-add-base Inv-loop μ-loop
+add-base c =
+    let t = c .before in
+    let a = start c .args in
+    omega (arith, shift-fits (a .n) (a .pairs) (t .at .result) (c .column-shift .result) (own t .small) (own t .all) (omega (arith, t .at .ensures, own t .left)) (c .column-shift .ensures))
+
+loop-holds : tie.Need-loop-holds Inv-loop μ-loop
+loop-holds c =
+    let s = start c in
+    (omega arith, s .pre .0 .ordered, sym (withTerms-none floats _ _ _ (s .args .s) (s .args .a) (s .args .first)))
+
+mul-y : tie.Need-mul-y Inv-loop μ-loop
+mul-y c = search needs
+
+shared-slice-read-y : tie.Need-shared-slice-read-y Inv-loop μ-loop
+shared-slice-read-y c = search needs
+
+at-requires-2 : tie.Need-at-requires-2 Inv-loop μ-loop
+at-requires-2 c κs = search needs
+
+pair-entry-requires : tie.Need-pair-entry-requires Inv-loop μ-loop
+pair-entry-requires c κs =
+    let t = c .before .before in
+    let q = t .before in
+    let d = q .before in
+    let s = start d in
+    let R = s .pre .0 .reads (s .args .a) (q .loop .b) (s .pre .1 .0) (s .pre .1 .1) (q .loop .inv .0) (place t) in
+    (omega (arith, d .column-shift .ensures), rw (d .before .at .ensures, c .at2 .ensures) R)
+
+add-b : tie.Need-add-b Inv-loop μ-loop
+add-b c = search needs
+
+loop-less : tie.Need-loop-less Inv-loop μ-loop
+loop-less c = search needs
+
+loop-again : tie.Need-loop-again Inv-loop μ-loop
+loop-again c =
+    let d = c .before in
+    let t = d .before .before in
+    let q = t .before in
+    let l = q .loop in
+    let a = start (q .before) .args in
+    let Z = placed (a .n) (now (a .scratch)) (now (a .inverse)) in
+    let w = value (now (a .weights)) in
+    let entry = c .pair-entry .ensures ∙ ap₂ (recurrence.at Z) (q .before .before .at .ensures) (d .at2 .ensures) in (
+      omega (arith, l .inv .0),
+      omega (arith, place t),
+      ap₂ (λ (x y : Float). add binary64 x (mul binary64 (mul binary64 (w (a .a)) (w (l .b))) y)) (l .inv .2) entry
+          ∙ sym (withTerms-next floats (columnAt (now (a .columns))) w Z (a .s) (l .b) (a .a) (a .first) (l .inv .0)),
+    )
+
+returns : tie.Need-returns Inv-loop μ-loop
+returns c =
+    let l = c .before .loop in
+    let a = start (c .before .before) .args in
+    let e : l .b ≡ a .e = omega (arith, c .loop-test .left, l .inv .1) in
+    let Z = placed (a .n) (now (a .scratch)) (now (a .inverse)) in
+    l .inv .2 ∙ ap (λ (k : ℕ). withTerms floats (columnAt (now (a .columns))) (value (now (a .weights))) Z (a .s) k (a .a) (a .first)) e
+
+pub add-terms-spec : {M : Type 1} → statement M
+add-terms-spec =
+    tie.close
+    (tie.spec
+    Inv-loop
+    μ-loop
+    mul-x
+    shared-slice-read-x
+    at-requires
+    column-shift-requires
+    add-base
+    loop-holds
+    mul-y
+    shared-slice-read-y
+    at-requires-2
+    pair-entry-requires
+    add-b
+    loop-less
+    loop-again
+    returns)

@@ -1,2 +1,0 @@
--- The answer of a lookup.
-pub mod Reply

@@ -1,2 +1,0 @@
--- Sets of pairs, marked by bits of words.
-pub mod Marking

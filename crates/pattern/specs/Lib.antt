@@ -1,3 +1,0 @@
--- Pattern lists: the pairs of a factor or of an operator.
-pub mod Pattern
-pub mod Laws

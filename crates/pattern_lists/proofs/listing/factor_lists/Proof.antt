@@ -1,0 +1,77 @@
+use native.Mathlib.Omega.{arith}
+use mathlib.Core.Path.{_≡_, refl, sym, ap, _∙_}
+use mathlib.Core.List.{List, _++_}
+use Prim.Native.Nat.{ℕ, _-_}
+use lib.ListN.{length, take, drop}
+use lib.Seq.{length-take-le}
+use denote.Ref.{now}
+use borrow.Author.Needs.{needs}
+use Rattle.pairs.specs.Pair.{pairTotal}
+use Rattle.pattern_lists.proofs.PatternLists.{scratch-short, scratch-part}
+use Rattle.pattern_lists.proofs.listing.factor_lists.Statement.{statement}
+use Rattle.pattern_lists.proofs.listing.factor_lists.Tie as tie
+
+abbrev start : tie.After-pair-total → tie.Start
+start q = q .before .before .before .before .before .before .before
+
+-- T, and the part's length
+total : (c : tie.After-pair-total) → c .pair-total .result - 0 ≡ pairTotal (start c .args .n)
+total c = omega (arith, c .pair-total .ensures .0)
+
+pair-total-requires : tie.Need-pair-total-requires
+pair-total-requires c κs = search needs
+
+returns : tie.Need-returns
+returns c =
+    let a = start (c .before) .args in
+    scratch-short (a .n) _ (now (a .scratch)) (now (a .pair-rows)) (now (a .pair-columns)) (omega (arith, c .if1 .taken, c .before .pair-total .ensures .0))
+
+sub-list-factor : tie.Need-sub-list-factor
+sub-list-factor c = search needs
+
+part-list-factor-start : tie.Need-part-list-factor-start
+part-list-factor-start c = search needs
+
+part-list-factor-end : tie.Need-part-list-factor-end
+part-list-factor-end c = search needs
+
+list-factor-requires : tie.Need-list-factor-requires
+list-factor-requires c κs =
+    let t = c .before .before .before in
+    let s = start (t .before) in
+    (s .pre .0, (s .pre .1, ap (λ (k : ℕ). length (take k (now (s .args .scratch)))) (total (t .before)) ∙ length-take-le (pairTotal (s .args .n)) (now (s .args .scratch)) (omega (arith, t .if1 .left, total (t .before)))))
+
+same-length : tie.Need-same-length
+same-length c = search needs
+
+same-length-2 : tie.Need-same-length-2
+same-length-2 c = search needs
+
+same-length-3 : tie.Need-same-length-3
+same-length-3 c = search needs
+
+returns-2 : tie.Need-returns-2
+returns-2 c =
+    let v = c .before .before .before .before .before .before in
+    let t = v .before .before .before .before in
+    let s = start (t .before) in
+    let a = s .args in
+    scratch-part (a .n) _ (now (a .scratch)) (now (a .pair-rows)) (now (a .pair-columns)) (omega (arith, t .if1 .left, total (t .before)))
+    (ap (λ (k : ℕ). take k (now (a .scratch))) (total (t .before)))
+    (ap (λ (k : ℕ). v .list-factor .last .1 .1 .1 .1 .0 ++ drop k (now (a .scratch))) (total (t .before)))
+    (v .list-factor .ensures)
+
+pub factor-lists-spec : {M : Type 1} → statement M
+factor-lists-spec =
+    tie.close
+    (tie.spec
+    pair-total-requires
+    returns
+    sub-list-factor
+    part-list-factor-start
+    part-list-factor-end
+    list-factor-requires
+    same-length
+    same-length-2
+    same-length-3
+    returns-2)

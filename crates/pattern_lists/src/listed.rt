@@ -1,0 +1,41 @@
+// The marked pairs listed, ascending by row then column, where there is room for them; the marks end 0.
+ghost use mathlib.Core.Path.{_≡_};
+ghost use Prim.Native.Nat.{_≤_};
+ghost use lib.ListN.{length};
+ghost use Rattle.refusal.specs.Bounds.{maxDimension};
+ghost use Rattle.pairs.specs.Pair.{pairTotal};
+ghost use Rattle.pairs.specs.Marks.{Marks, marking};
+ghost use Rattle.pattern_lists.specs.ListedMarks.{ListedMarks};
+use super::marks::list_pairs;
+use refusal::Refusal;
+use words::clear;
+
+// How many pairs are listed, or why none is.
+pub enum PatternPairs {
+    Listed(usize),
+    Refused(Refusal),
+}
+
+// Lists the `count` marked pairs if there is room for them, and clears the marks.
+pub fn list_marked(
+    n: usize,
+    count: usize,
+    marks: &mut [u32],
+    rows: &mut [u32],
+    columns: &mut [u32],
+) -> PatternPairs
+    requires { ⌜ (n ≤ maxDimension) × (length (now marks) ≡ pairTotal n) × Marks (now marks) count ⌝ }
+    ensures { λ r. ⌜ ListedMarks n (marking (now (marks .entry))) r (now (marks .entry)) (now (rows .entry)) (now (columns .entry)) (now (marks .exit)) (now (rows .exit)) (now (columns .exit)) ⌝ }
+{
+    if rows.len() < count {
+        clear(marks, marks.len());
+        return PatternPairs::Refused(Refusal::TooShort);
+    }
+    if columns.len() < count {
+        clear(marks, marks.len()); // also when an output is short
+        return PatternPairs::Refused(Refusal::TooShort);
+    }
+    let listed = list_pairs(n, marks, rows, columns);
+    clear(marks, marks.len()); // the marks end 0
+    PatternPairs::Listed(listed)
+}

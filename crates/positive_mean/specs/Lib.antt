@@ -1,3 +1,0 @@
--- The mean of the positive values.
-pub mod PositiveMean
-pub mod Laws

@@ -1,2 +1,0 @@
--- Closing the queue's pairs under their dependencies.
-pub mod Queue

@@ -1,1 +1,0 @@
-// What a lookup finds in the lists that a selected inverse fills. No code.

@@ -1,2 +1,0 @@
--- What is refused of requests.
-pub mod Requests

@@ -1,2 +1,0 @@
--- The finishing steps of a column of the inverse.
-pub mod Finish

@@ -1,2 +1,0 @@
--- An operator's values from entries read by position.
-pub mod Reading

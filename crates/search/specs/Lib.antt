@@ -1,2 +1,0 @@
--- The answer of a search.
-pub mod Reply

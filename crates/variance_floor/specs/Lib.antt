@@ -1,3 +1,0 @@
--- A floor that is asked for.
-pub mod VarianceFloor
-pub mod Laws

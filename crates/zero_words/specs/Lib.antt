@@ -1,2 +1,0 @@
--- Words that are 0.
-pub mod Zeros
