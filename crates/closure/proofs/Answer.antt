@@ -15,7 +15,7 @@ use Rattle.closed_set.specs.Size.{closureSize, requestedPairs, requestedPairs-w
 use Rattle.diagnostics.specs.Diagnosis.{statusOf}
 use Rattle.closed_set.specs.FactorPattern.{factor-pattern}
 use Rattle.closure.specs.declared.Closure.{Closure}
-use Rattle.closure.specs.Queue.{Within, Finished}
+use Rattle.closure.specs.Queue.{MarkedWithin, QueueClosed}
 use Rattle.closure.specs.Closure.{ClosureInput, Requested, closureOf, Closing, Closes}
 
 -- the answer with these counts
@@ -45,7 +45,7 @@ module _ {n : ℕ} {starts rows : List ℕ} {values : ℕ} {stops s : List ℕ} 
   P = factor-pattern nz (G .factor)
 
   module _ (req : ℕ → ℕ → Bool) (R : Requested n req s) where
-    requested-within : (S : ℕ → ℕ → Bool) → Holds req S → Within n S s
+    requested-within : (S : ℕ → ℕ → Bool) → Holds req S → MarkedWithin n S s
     requested-within S h r c o l e = h r c (sym (R .marks r c o l) ∙ e)
 
     requested-size : first ≡ requestedPairs n req
@@ -63,13 +63,13 @@ module _ {n : ℕ} {starts rows : List ℕ} {values : ℕ} {stops s : List ℕ} 
       record {
         long = refl;
         marks = λ low. absurd (omega (arith, requested-most));
-        listed = λ low. absurd (omega (arith, requested-most));
+        reached = λ low. absurd (omega (arith, requested-most));
         later = refl;
       },
     )
 
-    module _ {stops′ t : List ℕ} {count : ℕ} (E : Finished n starts rows nz limit s first stops′ t count) where
-      closed-within : Within n (member n desc req) t
+    module _ {stops′ t : List ℕ} {count : ℕ} (E : QueueClosed n starts rows nz limit s first stops′ t count) where
+      closed-within : MarkedWithin n (member n desc req) t
       closed-within = E .within (member n desc req) (member-closed n desc req P (R .ranged)) (requested-within (member n desc req) (member-holds n desc req P (R .ranged)))
 
       closed-most : count ≤ closureSize n desc req
@@ -84,7 +84,7 @@ module _ {n : ℕ} {starts rows : List ℕ} {values : ℕ} {stops s : List ℕ} 
         record {
           long = E .grown .long;
           marks = λ low. absurd (omega (arith, closed-most));
-          listed = λ low. absurd (omega (arith, closed-most));
+          reached = λ low. absurd (omega (arith, closed-most));
           later = E .grown .later;
         },
       )
@@ -94,7 +94,7 @@ module _ {n : ℕ} {starts rows : List ℕ} {values : ℕ} {stops s : List ℕ} 
       queue-complete l =
           let size = E .marked .size ∙ setSize-cong n (columnMarking n t) (member n desc req) same in (
             answer n desc req limit first count true requested-size (omega arith) (le-leb (closureSize n desc req) limit (omega arith)),
-            record { long = E .grown .long; marks = λ low. same; listed = λ low. E .listed l; later = E .grown .later },
+            record { long = E .grown .long; marks = λ low. same; reached = λ low. E .reached l; later = E .grown .later },
           )
         where
           holds : Holds req (columnMarking n t)

@@ -23,7 +23,7 @@ use Rattle.columns.specs.Factor.{Factor, starts-end}
 use Rattle.closed_set.specs.ClosedSet.{Closed, Pattern, descends}
 use Rattle.closure.specs.Nested.{Nested, Stop, StopFound}
 use Rattle.marked_pairs.specs.MarkedPairs.{packed, rowOf, columnOf, queueWord, Queued, Marked, Insert, Inserted, count-most}
-use Rattle.closure.specs.Queue.{Within, Grown, Waiting, EndRoom, EndOf, afterSpan, ColumnDone, Ended, Finished}
+use Rattle.closure.specs.Queue.{MarkedWithin, Grown, QueueInput, EndRoom, EndOf, afterSpan, EndColumnInput, ColumnEnded, QueueClosed}
 use Rattle.closed_set.specs.FactorPattern.{factor-pattern, entry-descends, descends-entry}
 
 -- ---- words that grow
@@ -56,7 +56,7 @@ module _ {n a b : ℕ} {s : List ℕ} {count : ℕ} {s′ : List ℕ} {count′ 
       I .also .gained .marks (max a b) (min a b) (omega arith) (omega arith)
       ∙ or-right (columnMarking n s (max a b) (min a b)) _ (is-ordered a b (max a b) (min a b) refl refl)
 
-  inserted-within : (S : ℕ → ℕ → Bool) → S (max a b) (min a b) ≡ true → Within n S s → Within n S s′
+  inserted-within : (S : ℕ → ℕ → Bool) → S (max a b) (min a b) ≡ true → MarkedWithin n S s → MarkedWithin n S s′
   inserted-within S q W r c h l e =
       ⊎-elim (W r c h l)
       (λ p. let o = ordered-is a b r c p in subst₂ (λ (x y : ℕ). S x y ≡ true) (sym (o .0)) (sym (o .1)) q)
@@ -215,7 +215,7 @@ module _ {n : ℕ} {starts rows : List ℕ} {values : ℕ} (nz : ℕ → Bool) (
 pub record Serving (n : ℕ) (starts rows : List ℕ) (nz : ℕ → Bool) (limit : ℕ) (s₀ : List ℕ) (first : ℕ) (s : List ℕ) (head count : ℕ) : Type 0 where
   pub marked : Marked n s count
   pub grown : Grown n s₀ first s count
-  pub within : (S : ℕ → ℕ → Bool) → Closed n (pattern starts rows nz) S → Within n S s₀ → Within n S s
+  pub within : (S : ℕ → ℕ → Bool) → Closed n (pattern starts rows nz) S → MarkedWithin n S s₀ → MarkedWithin n S s
   pub done : Done n starts rows nz s head
   pub behind : head ≤ count
   pub most : count ≤ limit + 1
@@ -223,7 +223,7 @@ pub record Serving (n : ℕ) (starts rows : List ℕ) (nz : ℕ → Bool) (limit
 -- a pair that is in every closed set that holds those marked is inserted
 pub serving-insert : {n : ℕ} {starts rows : List ℕ} {values limit : ℕ} (nz : ℕ → Bool) → Factor n starts rows values → {s₀ : List ℕ} {first : ℕ} {s : List ℕ}
     {head count a b : ℕ} {t : List ℕ} {count′ : ℕ} → Serving n starts rows nz limit s₀ first s head count → count ≤ limit → Inserted n a b s count t count′
-    → ((S : ℕ → ℕ → Bool) → Closed n (pattern starts rows nz) S → Within n S s → S (max a b) (min a b) ≡ true)
+    → ((S : ℕ → ℕ → Bool) → Closed n (pattern starts rows nz) S → MarkedWithin n S s → S (max a b) (min a b) ≡ true)
     → Serving n starts rows nz limit s₀ first t head count′
 serving-insert nz F {head = head} U low J h = record {
   marked = J .also .marked;
@@ -235,26 +235,26 @@ serving-insert nz F {head = head} U low J h = record {
 }
 
 -- the columns of the queue's words before head are listed
-abbrev pub ListedTo : ℕ → List ℕ → List ℕ → ℕ → Type 0
-ListedTo n s stops head = (j : ℕ) → j < head → 0 < getD stops (columnOf (queueWord n s j)) 0
+abbrev pub ReachedTo : ℕ → List ℕ → List ℕ → ℕ → Type 0
+ReachedTo n s stops head = (j : ℕ) → j < head → 0 < getD stops (columnOf (queueWord n s j)) 0
 
 -- the queue's words from `first` to below `end` are pairs of column a that its diagonal added, and its stop is listed
 pub record Span (n : ℕ) (starts rows : List ℕ) (nz : ℕ → Bool) (stops s : List ℕ) (count a first end : ℕ) : Type 0 where
   pub upto : end ≤ count
   pub words : (j : ℕ) → first ≤ j → j < end → (columnOf (queueWord n s j) ≡ a) × Shared n starts rows nz s (rowOf (queueWord n s j)) a
-  pub listed : first < end → 0 < getD stops a 0
+  pub reached : first < end → 0 < getD stops a 0
 
 -- so for each column
 abbrev pub Spans : ℕ → List ℕ → List ℕ → (ℕ → Bool) → List ℕ → List ℕ → List ℕ → List ℕ → ℕ → Type 0
-Spans n starts rows nz stops firsts ends s count = (a : ℕ) → a < n → Span n starts rows nz stops s count a (getD firsts a 0) (getD ends a 0)
+Spans n starts rows nz stops spanStarts spanEnds s count = (a : ℕ) → a < n → Span n starts rows nz stops s count a (getD spanStarts a 0) (getD spanEnds a 0)
 
 -- the outer loop
-pub record Ready (n : ℕ) (starts rows : List ℕ) (nz : ℕ → Bool) (limit : ℕ) (s₀ : List ℕ) (first : ℕ) (stops firsts ends s : List ℕ) (head count : ℕ) : Type 0 where
+pub record QueueLoop (n : ℕ) (starts rows : List ℕ) (nz : ℕ → Bool) (limit : ℕ) (s₀ : List ℕ) (first : ℕ) (stops spanStarts spanEnds s : List ℕ) (head count : ℕ) : Type 0 where
   pub serving : Serving n starts rows nz limit s₀ first s head count
-  pub listed : ListedTo n s stops head
-  pub spans : Spans n starts rows nz stops firsts ends s count
-  pub firsts-fit : n ≤ length firsts
-  pub ends-fit : n ≤ length ends
+  pub reached : ReachedTo n s stops head
+  pub spans : Spans n starts rows nz stops spanStarts spanEnds s count
+  pub spanStarts-fit : n ≤ length spanStarts
+  pub spanEnds-fit : n ≤ length spanEnds
 
 module _ {n : ℕ} {starts rows : List ℕ} {values : ℕ} (nz : ℕ → Bool) (F : Factor n starts rows values) where
   -- words that grow, and stops that are listed
@@ -266,21 +266,21 @@ module _ {n : ℕ} {starts rows : List ℕ} {values : ℕ} (nz : ℕ → Bool) (
         let o = P .words j lo hi in
         subst (λ (x : ℕ). (columnOf x ≡ a) × Shared n starts rows nz s′ (rowOf x) a) (sym (G .words j (omega (arith, P .upto))))
         (o .0, shared-grown nz F l G (o .1));
-    listed = λ h. kept (P .listed h);
+    reached = λ h. kept (P .reached h);
   }
 
   -- one more column's
-  spans-more : (firsts ends : List ℕ) {stops s : List ℕ} {count c first end : ℕ} → c < n → n ≤ length firsts → n ≤ length ends
-      → Spans n starts rows nz stops firsts ends s count → Span n starts rows nz stops s count c first end
-      → Spans n starts rows nz stops (set firsts c first) (set ends c end) s count
-  spans-more firsts ends {stops} {s} {count} {c} {first} {end} l f e A P a h =
+  spans-more : (spanStarts spanEnds : List ℕ) {stops s : List ℕ} {count c first end : ℕ} → c < n → n ≤ length spanStarts → n ≤ length spanEnds
+      → Spans n starts rows nz stops spanStarts spanEnds s count → Span n starts rows nz stops s count c first end
+      → Spans n starts rows nz stops (set spanStarts c first) (set spanEnds c end) s count
+  spans-more spanStarts spanEnds {stops} {s} {count} {c} {first} {end} l f e A P a h =
       elim (ℕ-discrete a c) [
         | yes q ↦
-            let v : getD (set firsts c first) a 0 ≡ first = ap (λ (y : ℕ). getD (set firsts c first) y 0) q ∙ getD-set-same firsts c first 0 (omega arith) in
-            let u : getD (set ends c end) a 0 ≡ end = ap (λ (y : ℕ). getD (set ends c end) y 0) q ∙ getD-set-same ends c end 0 (omega arith) in
+            let v : getD (set spanStarts c first) a 0 ≡ first = ap (λ (y : ℕ). getD (set spanStarts c first) y 0) q ∙ getD-set-same spanStarts c first 0 (omega arith) in
+            let u : getD (set spanEnds c end) a 0 ≡ end = ap (λ (y : ℕ). getD (set spanEnds c end) y 0) q ∙ getD-set-same spanEnds c end 0 (omega arith) in
             subst₂ (Span n starts rows nz stops s count a) (sym v) (sym u) (subst (λ (y : ℕ). Span n starts rows nz stops s count y first end) (sym q) P)
         | no m ↦
-            subst₂ (Span n starts rows nz stops s count a) (sym (getD-set-other firsts c a first 0 m)) (sym (getD-set-other ends c a end 0 m)) (A a h)
+            subst₂ (Span n starts rows nz stops s count a) (sym (getD-set-other spanStarts c a first 0 m)) (sym (getD-set-other spanEnds c a end 0 m)) (A a h)
       ]
 
 -- the word at head is w, and its dependencies by the entries before p are marked
@@ -290,7 +290,7 @@ pub record Taken (n : ℕ) (starts rows : List ℕ) (nz : ℕ → Bool) (s : Lis
   pub deps : DepsTo n starts rows nz s (rowOf w) (columnOf w) p
 
 -- the inner loop, which speaks of the words where it began; of a diagonal it adds pairs of its column and descendants
-pub record Column (n : ℕ) (starts rows : List ℕ) (nz : ℕ → Bool) (limit : ℕ) (s₀ : List ℕ) (first head w : ℕ) (s : List ℕ) (count p : ℕ) : Type 0 where
+pub record QueueColumn (n : ℕ) (starts rows : List ℕ) (nz : ℕ → Bool) (limit : ℕ) (s₀ : List ℕ) (first head w : ℕ) (s : List ℕ) (count p : ℕ) : Type 0 where
   pub ahead : head < count
   pub low : count ≤ limit
   pub serving : Serving n starts rows nz limit s₀ first s head count
@@ -300,11 +300,11 @@ pub record Column (n : ℕ) (starts rows : List ℕ) (nz : ℕ → Bool) (limit 
 
 -- the word is that of a marked pair
 column-word : {n : ℕ} {starts rows : List ℕ} {nz : ℕ → Bool} {limit : ℕ} {s₀ : List ℕ} {first head w : ℕ} {s : List ℕ} {count p : ℕ}
-    → Column n starts rows nz limit s₀ first head w s count p → Queued n s w
+    → QueueColumn n starts rows nz limit s₀ first head w s count p → Queued n s w
 column-word {n} {head = head} {s = s} K = subst (λ (x : ℕ). Queued n s x) (K .taken .here) (K .serving .marked .queued head (K .ahead))
 
-module _ {n pairs : ℕ} {starts rows : List ℕ} {values limit : ℕ} (nz : ℕ → Bool) {stops firsts ends s₀ : List ℕ} {first : ℕ}
-    (I : Waiting n pairs starts rows values nz stops firsts ends limit s₀ first) where
+module _ {n pairs : ℕ} {starts rows : List ℕ} {values limit : ℕ} (nz : ℕ → Bool) {stops spanStarts spanEnds s₀ : List ℕ} {first : ℕ}
+    (I : QueueInput n pairs starts rows values nz stops spanStarts spanEnds limit s₀ first) where
   pub serving-none : Serving n starts rows nz limit s₀ first s₀ 0 first
   serving-none = record {
     marked = I .marked;
@@ -342,7 +342,7 @@ module _ {n pairs : ℕ} {starts rows : List ℕ} {values limit : ℕ} (nz : ℕ
 
     -- the words at hand are those where the inner loop begins
     pub column-none : {w p : ℕ} → head < count → count ≤ limit → w ≡ getD s (pairs + head) 0 → p ≡ start starts (columnOf w)
-        → Column n starts rows nz limit s count head w s count p
+        → QueueColumn n starts rows nz limit s count head w s count p
     column-none {w} {p} l low e q = record {
       ahead = l;
       low = low;
@@ -374,7 +374,7 @@ module _ {n pairs : ℕ} {starts rows : List ℕ} {values limit : ℕ} (nz : ℕ
       most = U .most;
     }
 
-    module _ {w : ℕ} {t : List ℕ} {count′ p : ℕ} (K : Column n starts rows nz limit s count head w t count′ p) where
+    module _ {w : ℕ} {t : List ℕ} {count′ p : ℕ} (K : QueueColumn n starts rows nz limit s count head w t count′ p) where
       -- the word is done
       pub serving-next : {stop e : ℕ} → Stop starts rows nz (columnOf w) stop → EndOf starts rows stop (rowOf w) (columnOf w) e → e ≤ p
           → Serving n starts rows nz limit s₀ first t (head + 1) count′
@@ -401,8 +401,8 @@ module _ {n pairs : ℕ} {starts rows : List ℕ} {values limit : ℕ} (nz : ℕ
               inr (inl (record { place = d; nested = N; above = q .2; marked = subst₂ (λ (x y : ℕ). columnMarking n t x y ≡ true) e₁ e₂ m }))
 
       -- and its column is listed
-      pub listed-next : {stops₀ stops₁ : List ℕ} {stop : ℕ} → StopFound n (columnOf w) starts rows nz stops₀ stops₁ stop → ListedTo n s stops₀ head
-          → ListedTo n t stops₁ (head + 1)
+      pub listed-next : {stops₀ stops₁ : List ℕ} {stop : ℕ} → StopFound n (columnOf w) starts rows nz stops₀ stops₁ stop → ReachedTo n s stops₀ head
+          → ReachedTo n t stops₁ (head + 1)
       listed-next {stops₀} {stops₁} F L j l =
           ⊎-elim
           (λ q.
@@ -414,13 +414,13 @@ module _ {n pairs : ℕ} {starts rows : List ℕ} {values limit : ℕ} (nz : ℕ
           (eq-or-lt-of-le (le-of-suc-le-suc (rw add-one at l)))
 
     -- the queue is done
-    pub finished : {stops₁ : List ℕ} → ListedTo n s stops₁ head → count ≤ head → Finished n starts rows nz limit s₀ first stops₁ s count
+    pub finished : {stops₁ : List ℕ} → ReachedTo n s stops₁ head → count ≤ head → QueueClosed n starts rows nz limit s₀ first stops₁ s count
     finished {stops₁} L h = record {
       marked = U₀ .marked;
       grown = U₀ .grown;
       within = U₀ .within;
       closed = λ low. done-closed nz (I .factor) s count (I .small) (U₀ .marked) (λ j l. U₀ .done j (omega arith));
-      listed = λ low r c a b m.
+      reached = λ low r c a b m.
           let f = U₀ .marked .found r c a b m in
           let q : columnOf (queueWord n s (f .0)) ≡ c = omega (arith, f .2, I .small) in
           subst (λ (x : ℕ). 0 < getD stops₁ x 0) q (L (f .0) (omega (arith, f .1)));
@@ -429,44 +429,44 @@ module _ {n pairs : ℕ} {starts rows : List ℕ} {values limit : ℕ} (nz : ℕ
 
 -- ---- the outer loop
 
-module _ {n pairs : ℕ} {starts rows : List ℕ} {values limit : ℕ} (nz : ℕ → Bool) {stops firsts ends s₀ : List ℕ} {first : ℕ}
-    (I : Waiting n pairs starts rows values nz stops firsts ends limit s₀ first) where
-  pub ready-none : Ready n starts rows nz limit s₀ first stops firsts ends s₀ 0 first
+module _ {n pairs : ℕ} {starts rows : List ℕ} {values limit : ℕ} (nz : ℕ → Bool) {stops spanStarts spanEnds s₀ : List ℕ} {first : ℕ}
+    (I : QueueInput n pairs starts rows values nz stops spanStarts spanEnds limit s₀ first) where
+  pub ready-none : QueueLoop n starts rows nz limit s₀ first stops spanStarts spanEnds s₀ 0 first
   ready-none = record {
     serving = serving-none nz I;
-    listed = λ j l. absurd (not-suc-le-zero l);
+    reached = λ j l. absurd (not-suc-le-zero l);
     spans = λ a l.
         let u = I .unset a l in
-        record { upto = omega arith; words = λ j lo hi. absurd (omega arith); listed = λ h. absurd (omega arith) };
-    firsts-fit = I .firsts-fit;
-    ends-fit = I .ends-fit;
+        record { upto = omega arith; words = λ j lo hi. absurd (omega arith); reached = λ h. absurd (omega arith) };
+    spanStarts-fit = I .spanStarts-fit;
+    spanEnds-fit = I .spanEnds-fit;
   }
 
   -- the limit is passed
   pub finished-past : {stops₁ s : List ℕ} {head count : ℕ} → limit < count → Serving n starts rows nz limit s₀ first s head count
-      → Finished n starts rows nz limit s₀ first stops₁ s count
+      → QueueClosed n starts rows nz limit s₀ first stops₁ s count
   finished-past l U = record {
     marked = U .marked;
     grown = U .grown;
     within = U .within;
     closed = λ low. absurd (omega arith);
-    listed = λ low. absurd (omega arith);
+    reached = λ low. absurd (omega arith);
     most = U .most;
   }
 
-  module _ {stops₁ firsts₁ ends₁ s : List ℕ} {head count : ℕ} (R : Ready n starts rows nz limit s₀ first stops₁ firsts₁ ends₁ s head count) where
+  module _ {stops₁ spanStarts₁ spanEnds₁ s : List ℕ} {head count : ℕ} (R : QueueLoop n starts rows nz limit s₀ first stops₁ spanStarts₁ spanEnds₁ s head count) where
     -- the pairs that a diagonal added are passed over
-    pub ready-skip : {c next : ℕ} → c < n → next ≡ afterSpan firsts₁ ends₁ head c → head < next
-        → Ready n starts rows nz limit s₀ first stops₁ firsts₁ ends₁ s next count
-    ready-skip {c} {next} l e h = go (eqb (getD firsts₁ c 0) head) refl e
+    pub ready-skip : {c next : ℕ} → c < n → next ≡ afterSpan spanStarts₁ spanEnds₁ head c → head < next
+        → QueueLoop n starts rows nz limit s₀ first stops₁ spanStarts₁ spanEnds₁ s next count
+    ready-skip {c} {next} l e h = go (eqb (getD spanStarts₁ c 0) head) refl e
       where
-        P : Span n starts rows nz stops₁ s count c (getD firsts₁ c 0) (getD ends₁ c 0)
+        P : Span n starts rows nz stops₁ s count c (getD spanStarts₁ c 0) (getD spanEnds₁ c 0)
         P = R .spans c l
 
-        go : (b : Bool) → eqb (getD firsts₁ c 0) head ≡ b → next ≡ cond b (getD ends₁ c 0) head
-            → Ready n starts rows nz limit s₀ first stops₁ firsts₁ ends₁ s next count
+        go : (b : Bool) → eqb (getD spanStarts₁ c 0) head ≡ b → next ≡ cond b (getD spanEnds₁ c 0) head
+            → QueueLoop n starts rows nz limit s₀ first stops₁ spanStarts₁ spanEnds₁ s next count
         go true q m =
-            let f = eqb-true (getD firsts₁ c 0) head q in
+            let f = eqb-true (getD spanStarts₁ c 0) head q in
             record {
               serving = record {
                 marked = R .serving .marked;
@@ -482,23 +482,23 @@ module _ {n pairs : ℕ} {starts rows : List ℕ} {values limit : ℕ} (nz : ℕ
                 behind = omega (arith, P .upto);
                 most = R .serving .most;
               };
-              listed = λ j b.
+              reached = λ j b.
                   elim (decLe head j) [
-                    | yes x ↦ subst (λ (y : ℕ). 0 < getD stops₁ y 0) (sym (P .words j (omega arith) (omega arith) .0)) (P .listed (omega arith))
-                    | no x ↦ R .listed j (omega arith)
+                    | yes x ↦ subst (λ (y : ℕ). 0 < getD stops₁ y 0) (sym (P .words j (omega arith) (omega arith) .0)) (P .reached (omega arith))
+                    | no x ↦ R .reached j (omega arith)
                   ];
               spans = R .spans;
-              firsts-fit = R .firsts-fit;
-              ends-fit = R .ends-fit;
+              spanStarts-fit = R .spanStarts-fit;
+              spanEnds-fit = R .spanEnds-fit;
             }
         go false q m = absurd (omega arith)
 
-    module _ {w : ℕ} {t : List ℕ} {count′ p : ℕ} (K : Column n starts rows nz limit s count head w t count′ p) where
+    module _ {w : ℕ} {t : List ℕ} {count′ p : ℕ} (K : QueueColumn n starts rows nz limit s count head w t count′ p) where
       word : Queued n t w
       word = column-word K
 
       -- what the end of a column asks
-      pub column-done : {stop : ℕ} → Stop starts rows nz (columnOf w) stop → ColumnDone n (columnOf w) stop count count′ starts rows firsts₁ ends₁ t
+      pub column-done : {stop : ℕ} → Stop starts rows nz (columnOf w) stop → EndColumnInput n (columnOf w) stop count count′ starts rows spanStarts₁ spanEnds₁ t
       column-done T =
           let c< : columnOf w < n = omega (arith, word .ordered, word .inside) in
           record {
@@ -508,8 +508,8 @@ module _ {n pairs : ℕ} {starts rows : List ℕ} {values limit : ℕ} (nz : ℕ
             stored = starts-end (I .factor .starts-rise) (columnOf w + 1) (omega arith);
             rows-inside = I .factor .rows-ascend .inside;
             after = T .after;
-            firsts-fit = R .firsts-fit;
-            ends-fit = R .ends-fit;
+            spanStarts-fit = R .spanStarts-fit;
+            spanEnds-fit = R .spanEnds-fit;
             order = K .serving .grown .more;
             marked = K .serving .marked;
           }
@@ -517,13 +517,13 @@ module _ {n pairs : ℕ} {starts rows : List ℕ} {values limit : ℕ} (nz : ℕ
       -- the word is done
       module _ {stops₂ : List ℕ} {stop e : ℕ} (F : StopFound n (columnOf w) starts rows nz stops₁ stops₂ stop)
           (E : EndOf starts rows stop (rowOf w) (columnOf w) e) (h : e ≤ p) where
-        ready-column : Ready n starts rows nz limit s₀ first stops₂ firsts₁ ends₁ t (head + 1) count′
+        ready-column : QueueLoop n starts rows nz limit s₀ first stops₂ spanStarts₁ spanEnds₁ t (head + 1) count′
         ready-column = record {
           serving = serving-next nz I (R .serving) K (F .stop) E h;
-          listed = listed-next nz I (R .serving) K F (R .listed);
+          reached = listed-next nz I (R .serving) K F (R .reached);
           spans = λ a l. span-grown nz (I .factor) l (F .kept a) (K .serving .grown) (R .spans a l);
-          firsts-fit = R .firsts-fit;
-          ends-fit = R .ends-fit;
+          spanStarts-fit = R .spanStarts-fit;
+          spanEnds-fit = R .spanEnds-fit;
         }
 
         -- and so are those that a diagonal added, once the nested nested-descends's diagonal is inserted
@@ -550,7 +550,7 @@ module _ {n pairs : ℕ} {starts rows : List ℕ} {values limit : ℕ} (nz : ℕ
           lower : col < dia
           lower = factor-pattern nz (I .factor) .below col dia c< nested-descends
 
-          in-closed : (S : ℕ → ℕ → Bool) → Closed n (pattern starts rows nz) S → Within n S t → S (max dia dia) (min dia dia) ≡ true
+          in-closed : (S : ℕ → ℕ → Bool) → Closed n (pattern starts rows nz) S → MarkedWithin n S t → S (max dia dia) (min dia dia) ≡ true
           in-closed S C W =
               let e₁ : max (rowOf w) dia ≡ dia = omega (arith, lower) in
               let e₂ : min (rowOf w) dia ≡ col = omega (arith, lower) in
@@ -573,36 +573,36 @@ module _ {n pairs : ℕ} {starts rows : List ℕ} {values limit : ℕ} (nz : ℕ
                     marked = subst₂ (λ (y z : ℕ). columnMarking n t′ y z ≡ true) e₁ e₂ (inserted-here J d< d<);
                   },
                 );
-            listed = λ b. F .here (I .entered col c<);
+            reached = λ b. F .here (I .entered col c<);
           }
 
-          ready-diagonal : Ready n starts rows nz limit s₀ first stops₂ (set firsts₁ col count) (set ends₁ col count′) t′ (head + 1) m
+          ready-diagonal : QueueLoop n starts rows nz limit s₀ first stops₂ (set spanStarts₁ col count) (set spanEnds₁ col count′) t′ (head + 1) m
           ready-diagonal = record {
             serving = serving-insert nz (I .factor) (ready-column .serving) (K .low) J in-closed;
-            listed = λ j l.
-                subst (λ (x : ℕ). 0 < getD stops₂ (columnOf x) 0) (sym (J .words j (omega (arith, K .ahead)))) (ready-column .listed j l);
+            reached = λ j l.
+                subst (λ (x : ℕ). 0 < getD stops₂ (columnOf x) 0) (sym (J .words j (omega (arith, K .ahead)))) (ready-column .reached j l);
             spans =
-                spans-more nz (I .factor) firsts₁ ends₁ c< (R .firsts-fit) (R .ends-fit)
+                spans-more nz (I .factor) spanStarts₁ spanEnds₁ c< (R .spanStarts-fit) (R .spanEnds-fit)
                 (λ a l. span-grown nz (I .factor) l (λ x. x) (inserted-grown J) (ready-column .spans a l)) span;
-            firsts-fit = rw length-set (R .firsts-fit);
-            ends-fit = rw length-set (R .ends-fit);
+            spanStarts-fit = rw length-set (R .spanStarts-fit);
+            spanEnds-fit = rw length-set (R .spanEnds-fit);
           }
 
-        pub ready-next : {firsts₂ ends₂ t′ : List ℕ} {m : ℕ}
-            → Ended n (rowOf w) (columnOf w) stop count count′ starts rows firsts₁ ends₁ t firsts₂ ends₂ t′ m
-            → Ready n starts rows nz limit s₀ first stops₂ firsts₂ ends₂ t′ (head + 1) m
-        ready-next {firsts₂} {ends₂} {t′} (inl q) =
-            subst₂ (λ (x : List ℕ) (y : ℕ). Ready n starts rows nz limit s₀ first stops₂ firsts₂ ends₂ x (head + 1) y) (sym (q .3)) (sym (q .4))
-            (subst₂ (λ (x y : List ℕ). Ready n starts rows nz limit s₀ first stops₂ x y t (head + 1) count′) (sym (q .1)) (sym (q .2)) ready-column)
-        ready-next {firsts₂} {ends₂} {t′} {m} (inr q) =
-            subst₂ (λ (x y : List ℕ). Ready n starts rows nz limit s₀ first stops₂ x y t′ (head + 1) m) (sym (q .2)) (sym (q .3))
+        pub ready-next : {spanStarts₂ spanEnds₂ t′ : List ℕ} {m : ℕ}
+            → ColumnEnded n (rowOf w) (columnOf w) stop count count′ starts rows spanStarts₁ spanEnds₁ t spanStarts₂ spanEnds₂ t′ m
+            → QueueLoop n starts rows nz limit s₀ first stops₂ spanStarts₂ spanEnds₂ t′ (head + 1) m
+        ready-next {spanStarts₂} {spanEnds₂} {t′} (inl q) =
+            subst₂ (λ (x : List ℕ) (y : ℕ). QueueLoop n starts rows nz limit s₀ first stops₂ spanStarts₂ spanEnds₂ x (head + 1) y) (sym (q .3)) (sym (q .4))
+            (subst₂ (λ (x y : List ℕ). QueueLoop n starts rows nz limit s₀ first stops₂ x y t (head + 1) count′) (sym (q .1)) (sym (q .2)) ready-column)
+        ready-next {spanStarts₂} {spanEnds₂} {t′} {m} (inr q) =
+            subst₂ (λ (x y : List ℕ). QueueLoop n starts rows nz limit s₀ first stops₂ x y t′ (head + 1) m) (sym (q .2)) (sym (q .3))
             (ready-diagonal (q .0) (q .1) (q .4))
 
 -- ---- one stored entry
 
-module _ {n pairs : ℕ} {starts rows : List ℕ} {values limit : ℕ} (nz : ℕ → Bool) {stops firsts ends s₀ : List ℕ} {first : ℕ}
-    (I : Waiting n pairs starts rows values nz stops firsts ends limit s₀ first) {s₁ : List ℕ} {first₁ head w : ℕ} {s : List ℕ} {count p : ℕ}
-    (K : Column n starts rows nz limit s₁ first₁ head w s count p) where
+module _ {n pairs : ℕ} {starts rows : List ℕ} {values limit : ℕ} (nz : ℕ → Bool) {stops spanStarts spanEnds s₀ : List ℕ} {first : ℕ}
+    (I : QueueInput n pairs starts rows values nz stops spanStarts spanEnds limit s₀ first) {s₁ : List ℕ} {first₁ head w : ℕ} {s : List ℕ} {count p : ℕ}
+    (K : QueueColumn n starts rows nz limit s₁ first₁ head w s count p) where
   abbrev r : ℕ
   r = rowOf w
 
@@ -621,7 +621,7 @@ module _ {n pairs : ℕ} {starts rows : List ℕ} {values limit : ℕ} (nz : ℕ
     entry-values = omega (arith, entry-rows, I .factor .valued)
 
     -- one that is not kept below the diagonal is passed over
-    pub column-skip : keptBelow rows nz c p ≡ false → Column n starts rows nz limit s₁ first₁ head w s count (p + 1)
+    pub column-skip : keptBelow rows nz c p ≡ false → QueueColumn n starts rows nz limit s₁ first₁ head w s count (p + 1)
     column-skip e = record {
       ahead = K .ahead;
       low = K .low;
@@ -677,7 +677,7 @@ module _ {n pairs : ℕ} {starts rows : List ℕ} {values limit : ℕ} (nz : ℕ
                   (K .added q j lo (omega arith))
             ]
 
-        pub column-more : count′ ≤ limit → Column n starts rows nz limit s₁ first₁ head w t count′ (p + 1)
+        pub column-more : count′ ≤ limit → QueueColumn n starts rows nz limit s₁ first₁ head w t count′ (p + 1)
         column-more low =
             let Q = entry-word in
             record {

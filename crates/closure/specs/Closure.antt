@@ -19,7 +19,7 @@ use Rattle.closed_set.specs.ClosedSet.{member, Ranged}
 use Rattle.closed_set.specs.Size.{closureSize, requestedPairs}
 use Rattle.diagnostics.specs.Diagnosis.{statusOf}
 use Rattle.diagnostics.specs.declared.SelectedInverseStatus.the-variants.{Complete, ClosureTooLarge}
-use Rattle.marked_pairs.specs.MarkedPairs.{Marked, Listed}
+use Rattle.marked_pairs.specs.MarkedPairs.{Marked, ColumnsReached}
 use Rattle.closure.specs.declared.Closure.{Closure}
 
 -- a factor past its checks, a list for the stops of its columns, and words with `requested` marked pairs
@@ -61,7 +61,7 @@ closureOf n desc req limit = record {
 pub record Closing (n : ℕ) (desc : ℕ → List ℕ) (req : ℕ → ℕ → Bool) (limit : ℕ) (s₀ stops s : List ℕ) : Type 0 where
   pub long : length s ≡ length s₀
   pub marks : closureSize n desc req ≤ limit → (r c : ℕ) → c ≤ r → r < n → columnMarking n s r c ≡ member n desc req r c
-  pub listed : closureSize n desc req ≤ limit → Listed n s stops
+  pub reached : closureSize n desc req ≤ limit → ColumnsReached n s stops
   pub later : drop (pairTotal n + pairTotal n) s ≡ drop (pairTotal n + pairTotal n) s₀
 
 -- the answer and the words of closing the marked pairs of s₀, whatever set they are

@@ -187,7 +187,7 @@ module _ {starts rows : List ℕ} {nz : ℕ → Bool} where
     here = λ h.
         let v = getD-set-same stops c r 0 (omega (arith, S .fits)) in
         elim (decLe (start starts (c + 1)) r) [ yes q ↦ omega arith | no q ↦ omega (arith, T .after (omega arith)) ];
-    listed = record {
+    reached = record {
       fits = rw length-set (S .fits);
       stop = λ x l o.
           elim (ℕ-discrete c x) [

@@ -32,12 +32,12 @@ pub record Stops (n : ℕ) (starts rows : List ℕ) (nz : ℕ → Bool) (stops :
 pub record StopInput (n c : ℕ) (starts rows : List ℕ) (nz : ℕ → Bool) (values : ℕ) (stops : List ℕ) : Type 0 where
   pub factor : Factor n starts rows values
   pub inside : c < n
-  pub listed : Stops n starts rows nz stops
+  pub reached : Stops n starts rows nz stops
 
 -- the column's stop, and a list of stops after it, which has all that were listed and that of the column, if entries are stored up to its end
 pub record StopFound (n c : ℕ) (starts rows : List ℕ) (nz : ℕ → Bool) (stops₀ stops : List ℕ) (r : ℕ) : Type 0 where
   pub long : length stops ≡ length stops₀
-  pub listed : Stops n starts rows nz stops
+  pub reached : Stops n starts rows nz stops
   pub kept : (a : ℕ) → 0 < getD stops₀ a 0 → 0 < getD stops a 0
   pub here : 0 < start starts (c + 1) → 0 < getD stops c 0
   pub stop : Stop starts rows nz c r

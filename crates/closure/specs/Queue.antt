@@ -15,11 +15,11 @@ use Rattle.columns.specs.Factor.{Factor}
 use Rattle.columns.specs.Kept.{pattern}
 use Rattle.closed_set.specs.ClosedSet.{Closed}
 use Rattle.closure.specs.Nested.{Stops}
-use Rattle.marked_pairs.specs.MarkedPairs.{queueWord, Marked, Listed, Inserted}
+use Rattle.marked_pairs.specs.MarkedPairs.{queueWord, Marked, ColumnsReached, Inserted}
 
 -- each marked pair is in the set
-abbrev pub Within : ℕ → (ℕ → ℕ → Bool) → List ℕ → Type 0
-Within n S s = (r c : ℕ) → c ≤ r → r < n → columnMarking n s r c ≡ true → S r c ≡ true
+abbrev pub MarkedWithin : ℕ → (ℕ → ℕ → Bool) → List ℕ → Type 0
+MarkedWithin n S s = (r c : ℕ) → c ≤ r → r < n → columnMarking n s r c ≡ true → S r c ≡ true
 
 -- marks and queue words stay, and so do the words behind the queue
 pub record Grown (n : ℕ) (s : List ℕ) (count : ℕ) (s′ : List ℕ) (count′ : ℕ) : Type 0 where
@@ -30,15 +30,15 @@ pub record Grown (n : ℕ) (s : List ℕ) (count : ℕ) (s′ : List ℕ) (count
   pub later : drop (pairTotal n + pairTotal n) s′ ≡ drop (pairTotal n + pairTotal n) s
 
 -- a factor with entries up to the end of each column, stops of its columns, two lists with 0 for each column, and marked pairs that are within the limit
-pub record Waiting (n pairs : ℕ) (starts rows : List ℕ) (values : ℕ) (nz : ℕ → Bool) (stops firsts ends : List ℕ) (limit : ℕ) (s : List ℕ) (count : ℕ) : Type 0 where
+pub record QueueInput (n pairs : ℕ) (starts rows : List ℕ) (values : ℕ) (nz : ℕ → Bool) (stops spanStarts spanEnds : List ℕ) (limit : ℕ) (s : List ℕ) (count : ℕ) : Type 0 where
   pub small : n ≤ maxDimension
   pub all : pairs ≡ pairTotal n
   pub factor : Factor n starts rows values
   pub entered : (c : ℕ) → c < n → 0 < start starts (c + 1)
   pub stopped : Stops n starts rows nz stops
-  pub firsts-fit : n ≤ length firsts
-  pub ends-fit : n ≤ length ends
-  pub unset : (c : ℕ) → c < n → getD ends c 0 ≡ 0
+  pub spanStarts-fit : n ≤ length spanStarts
+  pub spanEnds-fit : n ≤ length spanEnds
+  pub unset : (c : ℕ) → c < n → getD spanEnds c 0 ≡ 0
   pub marked : Marked n s count
   pub low : count ≤ limit
 
@@ -55,34 +55,34 @@ EndOf starts rows stop r c e =
 
 -- the queue's words that closing column c's diagonal added stand from its first to below its end: where the queue goes on from head
 abbrev pub afterSpan : List ℕ → List ℕ → ℕ → ℕ → ℕ
-afterSpan firsts ends head c = cond (eqb (getD firsts c 0) head) (getD ends c 0) head
+afterSpan spanStarts spanEnds head c = cond (eqb (getD spanStarts c 0) head) (getD spanEnds c 0) head
 
 -- the words, once the entries of column c are closed with some row, the queue having had `before` words when that began
-pub record ColumnDone (n c stop before count : ℕ) (starts rows firsts ends s : List ℕ) : Type 0 where
+pub record EndColumnInput (n c stop before count : ℕ) (starts rows spanStarts spanEnds s : List ℕ) : Type 0 where
   pub small : n ≤ maxDimension
   pub inside : c < n
   pub next : c + 1 < length starts
   pub stored : start starts (c + 1) ≤ length rows
   pub rows-inside : (p : ℕ) → p < length rows → row rows p < n
   pub after : stop < start starts (c + 1) → 0 < stop
-  pub firsts-fit : n ≤ length firsts
-  pub ends-fit : n ≤ length ends
+  pub spanStarts-fit : n ≤ length spanStarts
+  pub spanEnds-fit : n ≤ length spanEnds
   pub order : before ≤ count
   pub marked : Marked n s count
 
 -- of a diagonal whose column has a stop before its end the words added are noted, and the diagonal of the descendant there is inserted; else nothing is done
-abbrev pub Ended : ℕ → ℕ → ℕ → ℕ → ℕ → ℕ → List ℕ → List ℕ → List ℕ → List ℕ → List ℕ → List ℕ → List ℕ → List ℕ → ℕ → Type 0
-Ended n r c stop before count starts rows firsts ends s firsts′ ends′ s′ m =
-    ((r ≡ c → start starts (c + 1) ≤ stop) × (firsts′ ≡ firsts) × (ends′ ≡ ends) × (s′ ≡ s) × (m ≡ count))
-    ⊎ ((r ≡ c) × (stop < start starts (c + 1)) × (firsts′ ≡ set firsts c before) × (ends′ ≡ set ends c count)
+abbrev pub ColumnEnded : ℕ → ℕ → ℕ → ℕ → ℕ → ℕ → List ℕ → List ℕ → List ℕ → List ℕ → List ℕ → List ℕ → List ℕ → List ℕ → ℕ → Type 0
+ColumnEnded n r c stop before count starts rows spanStarts spanEnds s spanStarts′ spanEnds′ s′ m =
+    ((r ≡ c → start starts (c + 1) ≤ stop) × (spanStarts′ ≡ spanStarts) × (spanEnds′ ≡ spanEnds) × (s′ ≡ s) × (m ≡ count))
+    ⊎ ((r ≡ c) × (stop < start starts (c + 1)) × (spanStarts′ ≡ set spanStarts c before) × (spanEnds′ ≡ set spanEnds c count)
     × Inserted n (row rows (stop - 1)) (row rows (stop - 1)) s count s′ m)
 
 -- each pair added is in every closed set that holds those marked before; within the limit the marked pairs are closed, and the stops of their
 -- columns are listed
-pub record Finished (n : ℕ) (starts rows : List ℕ) (nz : ℕ → Bool) (limit : ℕ) (s₀ : List ℕ) (first : ℕ) (stops s : List ℕ) (count : ℕ) : Type 0 where
+pub record QueueClosed (n : ℕ) (starts rows : List ℕ) (nz : ℕ → Bool) (limit : ℕ) (s₀ : List ℕ) (first : ℕ) (stops s : List ℕ) (count : ℕ) : Type 0 where
   pub marked : Marked n s count
   pub grown : Grown n s₀ first s count
-  pub within : (S : ℕ → ℕ → Bool) → Closed n (pattern starts rows nz) S → Within n S s₀ → Within n S s
+  pub within : (S : ℕ → ℕ → Bool) → Closed n (pattern starts rows nz) S → MarkedWithin n S s₀ → MarkedWithin n S s
   pub closed : count ≤ limit → Closed n (pattern starts rows nz) (columnMarking n s)
-  pub listed : count ≤ limit → Listed n s stops
+  pub reached : count ≤ limit → ColumnsReached n s stops
   pub most : count ≤ limit + 1

@@ -43,8 +43,8 @@ pub fn takahashi_dependency_closure(
             status: SelectedInverseStatus::ClosureTooLarge,
         };
     }
-    let mut firsts = [0; MAX_DIMENSION];
-    let mut ends = [0; MAX_DIMENSION];
+    let mut span_starts = [0; MAX_DIMENSION];
+    let mut span_ends = [0; MAX_DIMENSION];
     let pairs = pair_total(n);
     let count = close_queue(
         n,
@@ -55,8 +55,8 @@ pub fn takahashi_dependency_closure(
         limit,
         requested_pairs,
         stops,
-        &mut firsts,
-        &mut ends,
+        &mut span_starts,
+        &mut span_ends,
         scratch,
     );
     if limit < count {

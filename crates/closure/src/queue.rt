@@ -4,7 +4,7 @@ ghost use mathlib.Core.Path.{_≡_};
 ghost use Prim.Native.Nat.{_<_};
 ghost use lib.ListN.{length};
 ghost use Rattle.columns.specs.Kept.{nonzero};
-ghost use Rattle.closure.specs.Queue.{Waiting, EndRoom, EndOf, afterSpan, ColumnDone, Ended, Finished};
+ghost use Rattle.closure.specs.Queue.{QueueInput, EndRoom, EndOf, afterSpan, EndColumnInput, ColumnEnded, QueueClosed};
 use super::stops::find_stop;
 use marked_pairs::PACKING;
 use marked_pairs::insert_closure_pair;
@@ -25,12 +25,12 @@ fn column_end(r: usize, c: usize, stop: usize, starts: &[u32], rows: &[u32]) -> 
 }
 
 // Where the queue goes on: behind the pairs that closing column c's diagonal added, if they start at `head`; else there.
-fn after_span(head: usize, c: usize, firsts: &[u32], ends: &[u32]) -> usize
-    requires { ⌜ (c < length (now firsts)) × (c < length (now ends)) ⌝ }
-    ensures { λ m. ⌜ m ≡ afterSpan (now (firsts .entry)) (now (ends .entry)) head c ⌝ }
+fn after_span(head: usize, c: usize, span_starts: &[u32], span_ends: &[u32]) -> usize
+    requires { ⌜ (c < length (now «span_starts»)) × (c < length (now «span_ends»)) ⌝ }
+    ensures { λ m. ⌜ m ≡ afterSpan (now («span_starts» .entry)) (now («span_ends» .entry)) head c ⌝ }
 {
-    if at(firsts, c) == head {
-        return at(ends, c);
+    if at(span_starts, c) == head {
+        return at(span_ends, c);
     }
     head
 }
@@ -46,13 +46,13 @@ fn end_column(
     count: usize,
     starts: &[u32],
     rows: &[u32],
-    firsts: &mut [u32],
-    ends: &mut [u32],
+    span_starts: &mut [u32],
+    span_ends: &mut [u32],
     scratch: &mut [u32],
 ) -> usize
-    requires { ⌜ ColumnDone n c stop before count (now starts) (now rows) (now firsts) (now ends) (now scratch) ⌝ }
-    ensures { λ m. ⌜ Ended n r c stop before count (now (starts .entry)) (now (rows .entry)) (now (firsts .entry)) (now (ends .entry)) (now (scratch .entry))
-        (now (firsts .exit)) (now (ends .exit)) (now (scratch .exit)) m ⌝ }
+    requires { ⌜ EndColumnInput n c stop before count (now starts) (now rows) (now «span_starts») (now «span_ends») (now scratch) ⌝ }
+    ensures { λ m. ⌜ ColumnEnded n r c stop before count (now (starts .entry)) (now (rows .entry)) (now («span_starts» .entry)) (now («span_ends» .entry)) (now (scratch .entry))
+        (now («span_starts» .exit)) (now («span_ends» .exit)) (now (scratch .exit)) m ⌝ }
 {
     if r != c {
         return count;
@@ -60,8 +60,8 @@ fn end_column(
     if at(starts, c + 1) <= stop {
         return count;
     }
-    firsts[c] = before as u32;
-    ends[c] = count as u32;
+    span_starts[c] = before as u32;
+    span_ends[c] = count as u32;
     let d = at(rows, stop - 1);
     insert_closure_pair(n, d, d, count, scratch)
 }
@@ -78,13 +78,13 @@ pub fn close_queue(
     limit: usize,
     first: usize,
     stops: &mut [u32],
-    firsts: &mut [u32],
-    ends: &mut [u32],
+    span_starts: &mut [u32],
+    span_ends: &mut [u32],
     scratch: &mut [u32],
 ) -> usize
-    requires { ⌜ Waiting n pairs (now starts) (now rows) (length (now values)) (nonzero (now values)) (now stops) (now firsts) (now ends) limit
+    requires { ⌜ QueueInput n pairs (now starts) (now rows) (length (now values)) (nonzero (now values)) (now stops) (now «span_starts») (now «span_ends») limit
         (now scratch) first ⌝ }
-    ensures { λ m. ⌜ Finished n (now (starts .entry)) (now (rows .entry)) (nonzero (now (values .entry))) limit
+    ensures { λ m. ⌜ QueueClosed n (now (starts .entry)) (now (rows .entry)) (nonzero (now (values .entry))) limit
         (now (scratch .entry)) first (now (stops .exit)) (now (scratch .exit)) m ⌝ }
 {
     let mut count = first;
@@ -93,7 +93,7 @@ pub fn close_queue(
         let w = at(scratch, pairs + head);
         let r = w / PACKING;
         let c = w % PACKING;
-        let next = after_span(head, c, firsts, ends);
+        let next = after_span(head, c, span_starts, span_ends);
         if head < next {
             head = next;
             continue 'queue;
@@ -126,8 +126,8 @@ pub fn close_queue(
             count,
             starts,
             rows,
-            firsts,
-            ends,
+            span_starts,
+            span_ends,
             scratch,
         );
         count = total;

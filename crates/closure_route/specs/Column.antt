@@ -28,7 +28,7 @@ use Rattle.entries.specs.Entries.{columnCount, position, floatTable}
 use Rattle.entries.specs.Descendants.{float-solves}
 use Rattle.entries.specs.Position.{columnCount-mono, position-first, position-in, position-below, position-rises, position-found}
 use Rattle.column_sums.specs.Part.{putIf, putIf-length, putIf-other}
-use Rattle.column_sums.specs.Sums.{positionWord, inverseAt, sumBetween, sumBetween-cong, entrySum, Summing}
+use Rattle.column_sums.specs.Sums.{positionOf, inverseAt, sumBetween, sumBetween-cong, entrySum, Summing}
 use Rattle.column_sums.specs.Stored.{Storing, SumsStored}
 use Rattle.closure_route.specs.Finish.{PartDivided, DiagonalRoom}
 use Rattle.closure_route.specs.Route.{ClosureRoute, SolvedFrom, Solved}
@@ -78,7 +78,7 @@ module _ {n : ℕ} {starts rows : List ℕ} {values : List Float} {firsts listed
       G .closed r j (row rows p) h l d t
 
   -- its position stands behind the marks
-  word-is : (r k : ℕ) → r < n → k < n → S (max r k) (min r k) ≡ true → positionWord n scratch r k ≡ position n S (max r k) (min r k)
+  word-is : (r k : ℕ) → r < n → k < n → S (max r k) (min r k) ≡ true → positionOf n scratch r k ≡ position n S (max r k) (min r k)
   word-is r k a b t = G .positions (max r k) (min r k) (omega arith) (omega arith) t
 
   -- what a sum asks
@@ -153,7 +153,7 @@ module _ {n : ℕ} {starts rows : List ℕ} {values : List Float} {firsts listed
             | no h ↦ omega arith
           ]
 
-      later : (r p : ℕ) → j < r → r < n → S r j ≡ true → Kept j p → columnCount n S (j + 1) ≤ positionWord n scratch r (row rows p)
+      later : (r p : ℕ) → j < r → r < n → S r j ≡ true → Kept j p → columnCount n S (j + 1) ≤ positionOf n scratch r (row rows p)
       later r p h l t k =
           let b = row-inside j p jn (k .0) (k .1) in
           let u = row-below j p k in
@@ -163,7 +163,7 @@ module _ {n : ℕ} {starts rows : List ℕ} {values : List Float} {firsts listed
 
       -- down the column of a descendant
       down : (r r′ p : ℕ) → j < r → r < r′ → r′ < n → S r j ≡ true → S r′ j ≡ true → Kept j p → row rows p ≤ r
-          → positionWord n scratch r (row rows p) < positionWord n scratch r′ (row rows p)
+          → positionOf n scratch r (row rows p) < positionOf n scratch r′ (row rows p)
       down r r′ p h less l t t′ k up =
           let x = row rows p in
           let b = row-inside j p jn (k .0) (k .1) in
@@ -181,7 +181,7 @@ module _ {n : ℕ} {starts rows : List ℕ} {values : List Float} {firsts listed
 
       -- along the column of the row
       along : (r p p′ : ℕ) → j < r → r < n → S r j ≡ true → Kept j p → Kept j p′ → p < p′ → r < row rows p
-          → positionWord n scratch r (row rows p) < positionWord n scratch r (row rows p′)
+          → positionOf n scratch r (row rows p) < positionOf n scratch r (row rows p′)
       along r p p′ h l t k k′ less up =
           let x = row rows p in
           let x′ = row rows p′ in

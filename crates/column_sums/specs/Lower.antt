@@ -12,11 +12,11 @@ use borrow.Author.Tests.{lt-leb}
 use Rattle.lists.specs.Test.{anyIn, anyIn-none, anyIn-more}
 use Rattle.columns.specs.Columns.{row, value, outsideAt}
 use Rattle.columns.specs.Kept.{f0, nonzero, keptBelow}
-use Rattle.columns.specs.Factor.{FirstFrom}
+use Rattle.columns.specs.Factor.{Ascends, FirstFrom}
 use Rattle.column_sums.specs.Part.{PartSet}
-use Rattle.column_sums.specs.Products.{columnTerms, ColumnRoom}
+use Rattle.column_sums.specs.Products.{columnTerms, ColumnProductsRoom}
 use Rattle.column_sums.specs.Sums.{inverseAt, entrySum, withProduct, withProduct-above, withProduct-zero, withProduct-kept, sumBetween, sumBetween-none, sumBetween-next, product-same, Summing, summing-entry, adding-read}
-use Rattle.column_sums.specs.Stored.{Ascends, Sums, first-less, later-row}
+use Rattle.column_sums.specs.Stored.{Sums, first-less, later-row}
 
 -- the stored entry at p, and the sums from q to below last, to which its product can be added
 pub record StoredRoom (n pairs j p q last : ℕ) (rows : List ℕ) (values : List Float) (entryRows scratch : List ℕ) (size : ℕ) : Type 0 where
@@ -27,7 +27,7 @@ pub record StoredRoom (n pairs j p q last : ℕ) (rows : List ℕ) (values : Lis
   pub below : (i : ℕ) → q ≤ i → i < last → j < row entryRows i
   pub ascends : Ascends entryRows q last
   pub column : (from : ℕ) → q ≤ from → from < last → row rows p ≤ row entryRows from → keptBelow rows (nonzero values) j p ≡ true
-      → ColumnRoom n pairs (row rows p) from last entryRows scratch size
+      → ColumnProductsRoom n pairs (row rows p) from last entryRows scratch size
 
 -- the sums from m to below last, whose rows are not less than p's, have the product of the stored entry at p; all others are as they were
 pub record Stepped (n j p q m last : ℕ) (rows : List ℕ) (values : List Float) (entryRows scratch : List ℕ) (z z′ : List Float) : Type 0 where
@@ -46,15 +46,15 @@ pub record SumsRoom (n pairs j first last s e : ℕ) (rows : List ℕ) (values :
   pub cleared : (q : ℕ) → first ≤ q → q < last → getD z q nan ≡ f0
 
 -- each entry from first to below last is its sum over the stored entries up to its row, of those from s to below p
-pub record Lowered (n j first last s p : ℕ) (rows : List ℕ) (values : List Float) (entryRows scratch : List ℕ) (z₀ z : List Float) : Type 0 where
+pub record ProductsAdded (n j first last s p : ℕ) (rows : List ℕ) (values : List Float) (entryRows scratch : List ℕ) (z₀ z : List Float) : Type 0 where
   pub long : length z ≡ length z₀
   pub sums : (q : ℕ) → first ≤ q → q < last
       → (f : ℕ) × FirstFrom (row entryRows q + 1) rows s p f × (getD z q nan ≡ entrySum n j s f rows values scratch z₀ (row entryRows q))
   pub after : (q : ℕ) → last ≤ q → getD z q nan ≡ getD z₀ q nan
 
 -- the rows from first to below q are less than those of the stored entries from p on
-abbrev pub Passed : ℕ → ℕ → ℕ → ℕ → List ℕ → List ℕ → Type 0
-Passed first q p e rows entryRows = (i t : ℕ) → first ≤ i → i < q → p ≤ t → t < e → row entryRows i < row rows t
+abbrev pub RowsBefore : ℕ → ℕ → ℕ → ℕ → List ℕ → List ℕ → Type 0
+RowsBefore first q p e rows entryRows = (i t : ℕ) → first ≤ i → i < q → p ≤ t → t < e → row entryRows i < row rows t
 
 -- ---- one stored entry
 
@@ -115,7 +115,7 @@ module _ {n pairs j p q last : ℕ} {rows : List ℕ} {values : List Float} {ent
       after = A .after;
     }
 
-    pub step-room : m < last → keptBelow rows (nonzero values) j p ≡ true → ColumnRoom n pairs (row rows p) m last entryRows scratch size
+    pub step-room : m < last → keptBelow rows (nonzero values) j p ≡ true → ColumnProductsRoom n pairs (row rows p) m last entryRows scratch size
     step-room h k = R .column m (F .from) h (F .stops h) k
 
 -- ---- all stored entries
@@ -153,7 +153,7 @@ module _ {n pairs j first last s e : ℕ} {rows : List ℕ} {values : List Float
           omega (arith, h, later-row entryRows first last (R .storing .ascends) m i a c d)
 
   -- before the first
-  pub lowered-none : (z : List Float) → ((q : ℕ) → first ≤ q → q < last → getD z q nan ≡ f0) → Lowered n j first last s s rows values entryRows scratch z z
+  pub lowered-none : (z : List Float) → ((q : ℕ) → first ≤ q → q < last → getD z q nan ≡ f0) → ProductsAdded n j first last s s rows values entryRows scratch z z
   lowered-none z C = record {
     long = refl;
     sums = λ q lo hi. (
@@ -165,9 +165,9 @@ module _ {n pairs j first last s e : ℕ} {rows : List ℕ} {values : List Float
   }
 
   -- one more
-  module _ {z₀ z z′ : List Float} {p q m : ℕ} (lo : s ≤ p) (hi : p < e) (P : Passed first q p e rows entryRows)
-      (D : Lowered n j first last s p rows values entryRows scratch z₀ z) (A : Stepped n j p q m last rows values entryRows scratch z z′) where
-    pub passed-more : Passed first m (p + 1) e rows entryRows
+  module _ {z₀ z z′ : List Float} {p q m : ℕ} (lo : s ≤ p) (hi : p < e) (P : RowsBefore first q p e rows entryRows)
+      (D : ProductsAdded n j first last s p rows values entryRows scratch z₀ z) (A : Stepped n j p q m last rows values entryRows scratch z z′) where
+    pub passed-more : RowsBefore first m (p + 1) e rows entryRows
     passed-more i t a b c d =
         elim (decLe q i) [
           | yes l ↦ omega (arith, A .passed i l b, R .storing .column .ascends p t lo (omega arith) d)
@@ -226,7 +226,7 @@ module _ {n pairs j first last s e : ℕ} {rows : List ℕ} {values : List Float
               ∙ sym (sumBetween-next rows values j r₀ s p lo),
         )
 
-    pub lowered-more : Lowered n j first last s (p + 1) rows values entryRows scratch z₀ z′
+    pub lowered-more : ProductsAdded n j first last s (p + 1) rows values entryRows scratch z₀ z′
     lowered-more = record {
       long = A .long ∙ D .long;
       sums = λ i a b. elim (decLe m i) [ yes h ↦ next-sum i a b h | no h ↦ kept-sum i a b (omega arith) ];

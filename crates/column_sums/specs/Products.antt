@@ -10,7 +10,7 @@ use Rattle.refusal.specs.Bounds.{maxDimension}
 use Rattle.pairs.specs.Pair.{pairTotal, maxPairs}
 use Rattle.pairs.specs.ColumnOrder.{colStart, columnPlace}
 use Rattle.columns.specs.Columns.{row}
-use Rattle.layout.specs.Position.{positionWord, Reading, reading-inside, shift-fits, word-right}
+use Rattle.layout.specs.Position.{positionOf, Reading, reading-inside, shift-fits, word-right}
 use Rattle.column_sums.specs.Part.{PartSet, part-more, part-same}
 use Rattle.layout.specs.Run.{run-apart, run-is}
 
@@ -28,29 +28,29 @@ rowTerms base l entryRows scratch z q = withTerm z q l (getD scratch (base + row
 
 -- the entry at q, with the product of l and the inverse's entry for its row and k
 abbrev pub columnTerms : ℕ → ℕ → Float → List ℕ → List ℕ → List Float → ℕ → Float
-columnTerms n k l entryRows scratch z q = withTerm z q l (positionWord n scratch (row entryRows q) k)
+columnTerms n k l entryRows scratch z q = withTerm z q l (positionOf n scratch (row entryRows q) k)
 
 -- the entries from `from` to below last, and as many from a position behind them
-pub record RunRoom (from last position size : ℕ) : Type 0 where
+pub record RunProductsRoom (from last position size : ℕ) : Type 0 where
   pub ordered : from ≤ last
   pub behind : last ≤ position
   pub fits : position + (last - from) ≤ size
 
 -- the entry at q and the one whose position is the word
-pub record WordRoom (q word : ℕ) (scratch : List ℕ) (size : ℕ) : Type 0 where
+pub record WordProductRoom (q word : ℕ) (scratch : List ℕ) (size : ℕ) : Type 0 where
   pub fits : q < size
   pub inside : word < length scratch
   pub known : getD scratch word 0 < size
 
 -- the entries from `from` to below last, and for the row of each a word with a position behind them
-pub record RowsRoom (base from last : ℕ) (entryRows scratch : List ℕ) (size : ℕ) : Type 0 where
+pub record RowsProductsRoom (base from last : ℕ) (entryRows scratch : List ℕ) (size : ℕ) : Type 0 where
   pub ordered : from ≤ last
   pub listed : last ≤ length entryRows
-  pub words : (q : ℕ) → from ≤ q → q < last → WordRoom q (base + row entryRows q) scratch size
+  pub words : (q : ℕ) → from ≤ q → q < last → WordProductRoom q (base + row entryRows q) scratch size
   pub behind : (q : ℕ) → from ≤ q → q < last → last ≤ getD scratch (base + row entryRows q) 0
 
 -- the entries from `from` to below last, to which the products of the descendant k can be added, made of entries behind them that rise with the row
-pub record ColumnRoom (n pairs k from last : ℕ) (entryRows scratch : List ℕ) (size : ℕ) : Type 0 where
+pub record ColumnProductsRoom (n pairs k from last : ℕ) (entryRows scratch : List ℕ) (size : ℕ) : Type 0 where
   pub small : n ≤ maxDimension
   pub all : pairs ≡ pairTotal n
   pub right : k < n
@@ -59,9 +59,9 @@ pub record ColumnRoom (n pairs k from last : ℕ) (entryRows scratch : List ℕ)
   pub listed : last ≤ length entryRows
   pub below : (q : ℕ) → from ≤ q → q < last → k ≤ row entryRows q
   pub reads : (q : ℕ) → from ≤ q → q < last → Reading n pairs (row entryRows q) k scratch size
-  pub behind : (q : ℕ) → from ≤ q → q < last → last ≤ positionWord n scratch (row entryRows q) k
+  pub behind : (q : ℕ) → from ≤ q → q < last → last ≤ positionOf n scratch (row entryRows q) k
   pub rises : (q q′ : ℕ) → from ≤ q → q < q′ → q′ < last
-      → positionWord n scratch (row entryRows q) k < positionWord n scratch (row entryRows q′) k
+      → positionOf n scratch (row entryRows q) k < positionOf n scratch (row entryRows q′) k
 
 -- one product more, of an entry at r: neither the sum nor that entry was changed
 pub product-more : {from q : ℕ} (position : ℕ → ℕ) (l : Float) {z₀ z : List Float} {r : ℕ}
@@ -74,9 +74,9 @@ product-more {from} {q} position l {z₀} {z} {r} D lo fits e behind =
 
 -- where the inverse's entry for the row at q and k stands
 abbrev pub columnPosition : ℕ → ℕ → List ℕ → List ℕ → ℕ → ℕ
-columnPosition n k entryRows scratch q = positionWord n scratch (row entryRows q) k
+columnPosition n k entryRows scratch q = positionOf n scratch (row entryRows q) k
 
-module _ {n pairs k from last : ℕ} {entryRows scratch : List ℕ} {size : ℕ} (R : ColumnRoom n pairs k from last entryRows scratch size) where
+module _ {n pairs k from last : ℕ} {entryRows scratch : List ℕ} {size : ℕ} (R : ColumnProductsRoom n pairs k from last entryRows scratch size) where
   -- the shift of column k fits, past the marks
   pub column-base : (shift : ℕ) → shift + k ≡ colStart n k → pairs + shift ≤ maxPairs + maxPairs
   column-base shift e = shift-fits n pairs k shift (R .small) (R .all) (R .right) e
@@ -89,7 +89,7 @@ module _ {n pairs k from last : ℕ} {entryRows scratch : List ℕ} {size : ℕ}
     word-holds : getD scratch (base + row entryRows q) 0 ≡ columnPosition n k entryRows scratch q
     word-holds = ap (λ (x : ℕ). getD scratch x 0) word-is
 
-    word-room : WordRoom q (base + row entryRows q) scratch size
+    word-room : WordProductRoom q (base + row entryRows q) scratch size
     word-room = record {
       fits = omega (arith, R .fits);
       inside = omega (arith, word-is, reading-inside (R .reads q lo hi));
@@ -105,7 +105,7 @@ module _ {n pairs k from last : ℕ} {entryRows scratch : List ℕ} {size : ℕ}
 
   -- the products by words
   module _ (base : ℕ) (shifted : base + k ≡ pairs + colStart n k) where
-    pub column-rows : RowsRoom base from last entryRows scratch size
+    pub column-rows : RowsProductsRoom base from last entryRows scratch size
     column-rows = record {
       ordered = omega (arith, R .some);
       listed = R .listed;
@@ -126,7 +126,7 @@ module _ {n pairs k from last : ℕ} {entryRows scratch : List ℕ} {size : ℕ}
 
     -- the products of a run
     module _ (apart : b - a ≡ last - 1 - from) where
-      pub column-run : RunRoom from last a size
+      pub column-run : RunProductsRoom from last a size
       column-run = record {
         ordered = omega (arith, R .some);
         behind = omega (arith, R .behind from (omega arith) (R .some));

@@ -16,7 +16,7 @@ use Rattle.columns.specs.Columns.{row, value}
 use Rattle.columns.specs.Kept.{f0, nonzero, nonzero-not, keptBelow}
 use Rattle.layout.specs.Position.{word-left, word-position, word-reads}
 use Rattle.layout.specs.Run.{run-apart, run-is}
-use Rattle.column_sums.specs.Sums.{positionWord, inverseAt, Reading, Summing, summing-entry, adding-read, Continued, sumBetween, sumBetween-next, withProduct-kept}
+use Rattle.column_sums.specs.Sums.{positionOf, inverseAt, Reading, Summing, summing-entry, adding-read, Continued, sumBetween, sumBetween-next, withProduct-kept}
 
 -- the value at p is 0.0
 abbrev pub zeroAt : List Float → ℕ → Bool
@@ -27,13 +27,13 @@ pub none-zero : (values : List Float) (s e : ℕ) → anyIn (zeroAt values) s e 
 none-zero values s e h p lo hi = nonzero-not values p (anyIn-below (zeroAt values) s e p h lo hi)
 
 -- as many entries of the inverse, from `position` on, as values from `first` to below e
-pub record RunRoom (first e position values size : ℕ) : Type 0 where
+pub record RestRunRoom (first e position values size : ℕ) : Type 0 where
   pub ordered : first ≤ e
   pub weighed : e ≤ values
   pub fits : position + (e - first) ≤ size
 
 -- a word for the row of each value from `first` to below e, `shift` words past it, with a position of the inverse
-pub record RowsRoom (shift first e : ℕ) (rows : List ℕ) (values : ℕ) (scratch : List ℕ) (size : ℕ) : Type 0 where
+pub record RestRowsRoom (shift first e : ℕ) (rows : List ℕ) (values : ℕ) (scratch : List ℕ) (size : ℕ) : Type 0 where
   pub ordered : first ≤ e
   pub stored : e ≤ length rows
   pub weighed : e ≤ values
@@ -62,7 +62,7 @@ pub record Rest (n pairs i j first e : ℕ) (zeros : Bool) (rows : List ℕ) (va
   pub above : (p : ℕ) → first ≤ p → p < e → i < row rows p
   pub whole : zeros ≡ false → (p : ℕ) → first ≤ p → p < e → nonzero values p ≡ true
   pub rises : (p q : ℕ) → first ≤ p → p < q → q < e → keptBelow rows (nonzero values) j p ≡ true → keptBelow rows (nonzero values) j q ≡ true
-      → positionWord n scratch i (row rows p) < positionWord n scratch i (row rows q)
+      → positionOf n scratch i (row rows p) < positionOf n scratch i (row rows q)
 
 module _ {n pairs i j first e : ℕ} {zeros : Bool} {rows : List ℕ} {values : List Float} {scratch : List ℕ} {size : ℕ}
     (R : Rest n pairs i j first e zeros rows values scratch size) (none : zeros ≡ false) where
@@ -82,11 +82,11 @@ module _ {n pairs i j first e : ℕ} {zeros : Bool} {rows : List ℕ} {values : 
     pub rest-word : (shift + row rows p < length scratch) × (getD scratch (shift + row rows p) 0 < size)
     rest-word = word-reads (rest-read p lo hi) word-is
 
-    pub rest-position : getD scratch (shift + row rows p) 0 ≡ positionWord n scratch i (row rows p)
+    pub rest-position : getD scratch (shift + row rows p) 0 ≡ positionOf n scratch i (row rows p)
     rest-position = word-position (rest-read p lo hi) word-is
 
   abbrev at : ℕ → ℕ
-  at p = positionWord n scratch i (row rows p)
+  at p = positionOf n scratch i (row rows p)
 
   rises : (p q : ℕ) → first ≤ p → p < q → q < e → at p < at q
   rises p q lo l hi = R .rises p q lo l hi (rest-kept p lo (omega arith)) (rest-kept q (omega arith) hi)
@@ -108,7 +108,7 @@ module _ {n pairs i j first e : ℕ} {zeros : Bool} {rows : List ℕ} {values : 
 
   -- read from the words
   module _ (shift : ℕ) (w : shift + i ≡ pairs + colStart n i) where
-    pub rows-room : RowsRoom shift first e rows (length values) scratch size
+    pub rows-room : RestRowsRoom shift first e rows (length values) scratch size
     rows-room = record {
       ordered = omega (arith, R .some);
       stored = R .summing .column .stored;
@@ -122,7 +122,7 @@ module _ {n pairs i j first e : ℕ} {zeros : Bool} {rows : List ℕ} {values : 
 
   -- read from a run: where the first position and the last are as far apart as their places, all follow one another
   module _ (ends : at (e - 1) ≡ at first + (e - 1 - first)) where
-    pub run-room : RunRoom first e (at first) (length values) size
+    pub run-room : RestRunRoom first e (at first) (length values) size
     run-room = record {
       ordered = omega (arith, R .some);
       weighed = R .summing .column .weighed;

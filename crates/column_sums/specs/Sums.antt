@@ -17,7 +17,7 @@ use Rattle.columns.specs.Factor.{Column}
 use Rattle.takahashi.specs.Recurrence.{Arithmetic, Entry, run, dot}
 use Rattle.exact.specs.Multiple.{zero-float}
 use Rattle.exact.specs.Exact.{floats}
-pub use Rattle.layout.specs.Position.{positionWord, inverseAt, Reading}
+pub use Rattle.layout.specs.Position.{positionOf, inverseAt, Reading}
 
 -- the entries at some stored places
 abbrev pub entriesAt : List ℕ → List Float → List ℕ → List (Entry Float)
@@ -48,7 +48,7 @@ pub record Adding (n pairs i j p : ℕ) (rows : List ℕ) (values : List Float) 
   pub weighed : p < length values
   pub inside : row rows p < n
   pub room : pairTotal n + pairTotal n ≤ length scratch
-  pub known : keptBelow rows (nonzero values) j p ≡ true → positionWord n scratch i (row rows p) < size
+  pub known : keptBelow rows (nonzero values) j p ≡ true → positionOf n scratch i (row rows p) < size
 
 -- stored entries whose products can be taken
 pub record Summing (n pairs i j s e : ℕ) (rows : List ℕ) (values : List Float) (scratch : List ℕ) (size : ℕ) : Type 0 where
@@ -58,7 +58,7 @@ pub record Summing (n pairs i j s e : ℕ) (rows : List ℕ) (values : List Floa
   pub column : Column rows (length values) s e
   pub inside : (p : ℕ) → s ≤ p → p < e → row rows p < n
   pub room : pairTotal n + pairTotal n ≤ length scratch
-  pub known : (p : ℕ) → s ≤ p → p < e → keptBelow rows (nonzero values) j p ≡ true → positionWord n scratch i (row rows p) < size
+  pub known : (p : ℕ) → s ≤ p → p < e → keptBelow rows (nonzero values) j p ≡ true → positionOf n scratch i (row rows p) < size
 
 -- one of them
 pub summing-entry : {n pairs i j s e : ℕ} {rows : List ℕ} {values : List Float} {scratch : List ℕ} {size : ℕ}

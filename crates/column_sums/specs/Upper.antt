@@ -19,7 +19,7 @@ use Rattle.column_sums.specs.Part.{PartSet, zeros}
 use Rattle.column_sums.specs.Sums.{inverseAt, entrySum, sumBetween, Continued, summing-from}
 use Rattle.column_sums.specs.Rest.{zeroAt, none-zero, Rest}
 use Rattle.column_sums.specs.Stored.{Sums, SumsStored, first-less, first-only, unread, later-row}
-use Rattle.column_sums.specs.Lower.{Lowered}
+use Rattle.column_sums.specs.Lower.{ProductsAdded}
 
 -- the sum at q, and the stored entries from p to below e, whose greater rows can be added
 pub record EntryRoom (n pairs j p e q : ℕ) (zero : Bool) (rows : List ℕ) (values : List Float) (entryRows scratch : List ℕ) (size : ℕ) : Type 0 where
@@ -32,7 +32,7 @@ pub record EntryRoom (n pairs j p e q : ℕ) (zero : Bool) (rows : List ℕ) (va
   pub rest : (m : ℕ) → FirstFrom (row entryRows q + 1) rows p e m → m < e → Rest n pairs (row entryRows q) j m e zero rows values scratch size
 
 -- m is where the rows greater than that of q start, and the sum at q is continued by them; all others are as they were
-pub record Rested (n j p e q m : ℕ) (rows : List ℕ) (values : List Float) (entryRows scratch : List ℕ) (z z′ : List Float) : Type 0 where
+pub record RestAdded (n j p e q m : ℕ) (rows : List ℕ) (values : List Float) (entryRows scratch : List ℕ) (z z′ : List Float) : Type 0 where
   pub first : FirstFrom (row entryRows q + 1) rows p e m
   pub long : length z′ ≡ length z
   pub value : Continued rows values j (inverseAt n scratch z (row entryRows q)) m e (getD z q nan) (getD z′ q nan)
@@ -59,7 +59,7 @@ Reached s p q last rows entryRows = (t i : ℕ) → s ≤ t → t < p → q ≤ 
 
 module _ {n j p e q m : ℕ} {rows : List ℕ} {values : List Float} {entryRows scratch : List ℕ} (F : FirstFrom (row entryRows q + 1) rows p e m) where
   -- no row is greater
-  pub rested-none : (z : List Float) → e ≤ m → Rested n j p e q m rows values entryRows scratch z z
+  pub rested-none : (z : List Float) → e ≤ m → RestAdded n j p e q m rows values entryRows scratch z z
   rested-none z h = record {
     first = F;
     long = refl;
@@ -68,7 +68,7 @@ module _ {n j p e q m : ℕ} {rows : List ℕ} {values : List Float} {entryRows 
   }
 
   pub rested-set : (z : List Float) (x : Float) → q < length z
-      → Continued rows values j (inverseAt n scratch z (row entryRows q)) m e (getD z q nan) x → Rested n j p e q m rows values entryRows scratch z (set z q x)
+      → Continued rows values j (inverseAt n scratch z (row entryRows q)) m e (getD z q nan) x → RestAdded n j p e q m rows values entryRows scratch z (set z q x)
   rested-set z x fits C = record {
     first = F;
     long = length-set z q x;
@@ -112,7 +112,7 @@ module _ {n pairs j first last s e : ℕ} {zero : Bool} {rows : List ℕ} {value
 
   -- one more
   module _ {z₀ z z′ : List Float} {p q m : ℕ} (lo : first ≤ q) (hi : q < last) (from : s ≤ p) (P : Reached s p q last rows entryRows)
-      (D : RestsAdded n j first q s e rows values entryRows scratch z₀ z) (A : Rested n j p e q m rows values entryRows scratch z z′) where
+      (D : RestsAdded n j first q s e rows values entryRows scratch z₀ z) (A : RestAdded n j p e q m rows values entryRows scratch z z′) where
     -- m is the first of all the column's entries
     whole : FirstFrom (row entryRows q + 1) rows s e m
     whole = record {
@@ -177,7 +177,7 @@ module _ {n pairs j first last s e : ℕ} {rows : List ℕ} {values : List Float
 -- both passes, once the entries are cleared
 pub sums-stored : {n pairs j first last s e : ℕ} {rows : List ℕ} {values : List Float} {entryRows scratch : List ℕ} {size : ℕ}
     → Sums n pairs j first last s e rows values entryRows scratch size → {z₀ z₁ z₂ z₃ : List Float} → PartSet first last zeros z₀ z₁
-    → Lowered n j first last s e rows values entryRows scratch z₁ z₂ → RestsAdded n j first last s e rows values entryRows scratch z₂ z₃
+    → ProductsAdded n j first last s e rows values entryRows scratch z₁ z₂ → RestsAdded n j first last s e rows values entryRows scratch z₂ z₃
     → SumsStored n j first last s e rows values entryRows scratch z₀ z₃
 sums-stored {n} {pairs} {j} {first} {last} {s} {e} R {z₀} {z₁} {z₂} {z₃} C L A = record {
   long = A .long ∙ L .long ∙ C .long;

@@ -11,8 +11,8 @@ ghost use Rattle.columns.specs.Columns.{outsideAt};
 ghost use Rattle.columns.specs.Factor.{Column};
 ghost use Rattle.column_sums.specs.Part.{PartSet, zeros};
 ghost use Rattle.column_sums.specs.Stored.{Storing, SumsStored};
-ghost use Rattle.column_sums.specs.Lower.{StoredRoom, Stepped, SumsRoom, Lowered};
-ghost use Rattle.column_sums.specs.Upper.{EntryRoom, Rested, RestsRoom, RestsAdded};
+ghost use Rattle.column_sums.specs.Lower.{StoredRoom, Stepped, SumsRoom, ProductsAdded};
+ghost use Rattle.column_sums.specs.Upper.{EntryRoom, RestAdded, RestsRoom, RestsAdded};
 use kept_entries::diagonal::first_from;
 use products::add_column;
 use sums::has_zero;
@@ -81,7 +81,7 @@ fn add_products(
     inverse: &mut [f64],
 )
     requires { ⌜ SumsRoom n pairs j first last s e (now rows) (now values) (now «entry_rows») (now scratch) (now inverse) ⌝ }
-    ensures { λ _. ⌜ Lowered n j first last s e (now (rows .entry)) (now (values .entry)) (now («entry_rows» .entry)) (now (scratch .entry))
+    ensures { λ _. ⌜ ProductsAdded n j first last s e (now (rows .entry)) (now (values .entry)) (now («entry_rows» .entry)) (now (scratch .entry))
         (now (inverse .entry)) (now (inverse .exit)) ⌝ }
 {
     let mut q = first;
@@ -120,7 +120,7 @@ fn add_rest(
     inverse: &mut [f64],
 ) -> usize
     requires { ⌜ EntryRoom n pairs j p e q zeros (now rows) (now values) (now «entry_rows») (now scratch) (length (now inverse)) ⌝ }
-    ensures { λ m. ⌜ Rested n j p e q m (now (rows .entry)) (now (values .entry)) (now («entry_rows» .entry)) (now (scratch .entry))
+    ensures { λ m. ⌜ RestAdded n j p e q m (now (rows .entry)) (now (values .entry)) (now («entry_rows» .entry)) (now (scratch .entry))
         (now (inverse .entry)) (now (inverse .exit)) ⌝ }
 {
     let i = at(entry_rows, q);

@@ -2,13 +2,13 @@
 ghost use mathlib.Core.Path.{_≡_};
 ghost use lib.ListN.{length, getD, set};
 ghost use Rattle.column_sums.specs.Part.{PartSet};
-ghost use Rattle.column_sums.specs.Products.{withTerm, runTerms, rowTerms, columnTerms, RunRoom, WordRoom, RowsRoom, ColumnRoom};
+ghost use Rattle.column_sums.specs.Products.{withTerm, runTerms, rowTerms, columnTerms, RunProductsRoom, WordProductRoom, RowsProductsRoom, ColumnProductsRoom};
 use layout::positions::column_shift;
 use words::at;
 
 // Adds to each entry from `from` to last the product of l and an entry, the first at the position, each next one place further.
 fn add_run(from: usize, last: usize, position: usize, l: f64, inverse: &mut [f64])
-    requires { ⌜ RunRoom from last position (length (now inverse)) ⌝ }
+    requires { ⌜ RunProductsRoom from last position (length (now inverse)) ⌝ }
     ensures { λ _. ⌜ PartSet from last (runTerms from position l (now (inverse .entry))) (now (inverse .entry)) (now (inverse .exit)) ⌝ }
 {
     let mut q = from;
@@ -22,7 +22,7 @@ fn add_run(from: usize, last: usize, position: usize, l: f64, inverse: &mut [f64
 
 // Adds to the entry at q the product of l and the entry whose position is the word.
 fn add_at(q: usize, word: usize, l: f64, scratch: &[u32], inverse: &mut [f64])
-    requires { ⌜ WordRoom q word (now scratch) (length (now inverse)) ⌝ }
+    requires { ⌜ WordProductRoom q word (now scratch) (length (now inverse)) ⌝ }
     ensures { λ _. ⌜ now (inverse .exit) ≡ set (now (inverse .entry)) q (withTerm (now (inverse .entry)) q l (getD (now (scratch .entry)) word 0)) ⌝ }
 {
     let position = at(scratch, word);
@@ -40,7 +40,7 @@ fn add_rows(
     scratch: &[u32],
     inverse: &mut [f64],
 )
-    requires { ⌜ RowsRoom base from last (now «entry_rows») (now scratch) (length (now inverse)) ⌝ }
+    requires { ⌜ RowsProductsRoom base from last (now «entry_rows») (now scratch) (length (now inverse)) ⌝ }
     ensures { λ _. ⌜ PartSet from last (rowTerms base l (now («entry_rows» .entry)) (now (scratch .entry)) (now (inverse .entry)))
         (now (inverse .entry)) (now (inverse .exit)) ⌝ }
 {
@@ -67,7 +67,7 @@ pub fn add_column(
     scratch: &[u32],
     inverse: &mut [f64],
 )
-    requires { ⌜ ColumnRoom n pairs k from last (now «entry_rows») (now scratch) (length (now inverse)) ⌝ }
+    requires { ⌜ ColumnProductsRoom n pairs k from last (now «entry_rows») (now scratch) (length (now inverse)) ⌝ }
     ensures { λ _. ⌜ PartSet from last (columnTerms n k l (now («entry_rows» .entry)) (now (scratch .entry)) (now (inverse .entry)))
         (now (inverse .entry)) (now (inverse .exit)) ⌝ }
 {

@@ -5,7 +5,7 @@ ghost use Prim.Native.Nat.{_+_, _≤_, _<_};
 ghost use lib.ListN.{length};
 ghost use Rattle.lists.specs.Test.{anyIn};
 ghost use Rattle.column_sums.specs.Sums.{inverseAt, Adding, Summing, withProduct, sumBetween, Continued};
-ghost use Rattle.column_sums.specs.Rest.{zeroAt, Summed, runPositions, rowPositions, RunRoom, RowsRoom, Rest};
+ghost use Rattle.column_sums.specs.Rest.{zeroAt, Summed, runPositions, rowPositions, RestRunRoom, RestRowsRoom, Rest};
 use layout::positions::column_shift;
 use layout::positions::read_entry;
 use words::at;
@@ -107,7 +107,7 @@ fn sum_run(
     values: &[f64],
     inverse: &[f64],
 ) -> f64
-    requires { ⌜ RunRoom first e position (length (now values)) (length (now inverse)) ⌝ }
+    requires { ⌜ RestRunRoom first e position (length (now values)) (length (now inverse)) ⌝ }
     ensures { λ x. ⌜ Summed (now (values .entry)) (now (inverse .entry)) first e (runPositions first position) start x ⌝ }
 {
     let mut sum = start;
@@ -132,7 +132,7 @@ fn sum_rows(
     scratch: &[u32],
     inverse: &[f64],
 ) -> f64
-    requires { ⌜ RowsRoom shift first e (now rows) (length (now values)) (now scratch) (length (now inverse)) ⌝ }
+    requires { ⌜ RestRowsRoom shift first e (now rows) (length (now values)) (now scratch) (length (now inverse)) ⌝ }
     ensures { λ x. ⌜ Summed (now (values .entry)) (now (inverse .entry)) first e (rowPositions shift (now (rows .entry)) (now (scratch .entry))) start x ⌝ }
 {
     let mut sum = start;

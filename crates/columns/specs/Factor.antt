@@ -14,8 +14,12 @@ use Rattle.refusal.specs.Bounds.{maxDimension, maxEntries}
 use Rattle.columns.specs.Columns.{start, row, falls, outsideAt, notAbove, unsorted}
 use Rattle.columns.specs.Columns.{boundSteps, brokenSteps, startsSteps, rowsSteps, columnSteps, factorSteps}
 
+-- the rows from s to below e ascend
+abbrev pub Ascends : List ℕ → ℕ → ℕ → Type 0
+Ascends rows s e = (q p : ℕ) → s ≤ q → q < p → p < e → row rows q < row rows p
+
 -- past 1
-pub record Bounded (n entries : ℕ) : Type 0 where
+pub record FactorBounded (n entries : ℕ) : Type 0 where
   pub small : n ≤ maxDimension
   pub few : entries ≤ maxEntries
 
@@ -59,13 +63,13 @@ pub record FirstFrom (c : ℕ) (rows : List ℕ) (s e r : ℕ) : Type 0 where
   pub stops : r < e → c ≤ row rows r
 
 -- ---- the steps pass exactly if the records hold
-pub boundSteps-sound : (n entries : ℕ) → Passed (boundSteps n entries) → Bounded n entries
+pub boundSteps-sound : (n entries : ℕ) → Passed (boundSteps n entries) → FactorBounded n entries
 unfolding boundSteps
 boundSteps-sound n entries e =
     let d = passed-clear (boundSteps n entries) e in
     record { small = ltb-false _ _ (d .0); few = ltb-false _ _ (d .1 .0) }
 
-pub boundSteps-passed : (n entries : ℕ) → Bounded n entries → Passed (boundSteps n entries)
+pub boundSteps-passed : (n entries : ℕ) → FactorBounded n entries → Passed (boundSteps n entries)
 unfolding boundSteps
 boundSteps-passed n entries B = clear-passed (boundSteps n entries) (le-ltb _ _ (B .small), (le-ltb _ _ (B .few), tt))
 
@@ -151,7 +155,7 @@ module _ (n : ℕ) (starts rows : List ℕ) (values : ℕ) where
       (startsSteps-passed n starts rows values (F .starts-rise) (F .valued))
       (rowsSteps-passed n starts rows (F .rows-ascend))
 
-  pub factorSteps-bounded : Passed (factorSteps n starts rows values) → Bounded n (length rows)
+  pub factorSteps-bounded : Passed (factorSteps n starts rows values) → FactorBounded n (length rows)
   unfolding factorSteps
   factorSteps-bounded e = boundSteps-sound n (length rows) (passed-front (boundSteps n (length rows)) (columnSteps n starts rows values) e)
 
@@ -159,7 +163,7 @@ module _ (n : ℕ) (starts rows : List ℕ) (values : ℕ) where
   unfolding factorSteps
   factorSteps-sound e = columnSteps-sound (passed-back (boundSteps n (length rows)) (columnSteps n starts rows values) e)
 
-  pub factorSteps-passed : Bounded n (length rows) → Factor n starts rows values → Passed (factorSteps n starts rows values)
+  pub factorSteps-passed : FactorBounded n (length rows) → Factor n starts rows values → Passed (factorSteps n starts rows values)
   unfolding factorSteps
   factorSteps-passed B F =
       passed-append (boundSteps n (length rows)) (columnSteps n starts rows values) (boundSteps-passed n (length rows) B) (columnSteps-passed F)

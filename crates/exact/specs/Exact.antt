@@ -8,7 +8,7 @@ use native.Mathlib.Nat.{lt-of-le-of-lt}
 use lib.IntN.{ℤ, pos, negℤ, _+ℤ_, _-ℤ_, _*ℤ_, zero-*ℤ}
 use lib.Ieee.{Float, binary64, low, add, sub, mul, div, neg}
 use Rattle.integers.specs.Integer.{+ℤ-*ℤ, negℤ-*ℤ, *ℤ-assoc, *ℤ-cancel-r, *ℤ-nonzero}
-use Rattle.takahashi.specs.Recurrence.{Arithmetic, Entry, Each, run, dot, at, Closed, closed-induction, Solves}
+use Rattle.takahashi.specs.Recurrence.{Arithmetic, Entry, Each, run, dot, at, RecurrenceClosed, closed-induction, Solves}
 use Rattle.exact.specs.Multiple.{Multiple, Small, zero-float, one-float, unit-nonzero}
 use Rattle.exact.specs.Multiple.{multiple-mul, multiple-add, multiple-neg, multiple-sub, multiple-div, multiple-zero, multiple-one}
 
@@ -126,7 +126,7 @@ module _ (s : ℕ) (sl : s ≤ low binary64) where
 
   -- ---- f64's entries are the exact ones
   pub floats-exact : (n : ℕ) (diag : ℕ → ℤ) (desc : ℕ → List (Entry ℤ)) (P : ℕ → ℕ → Type 0) (z : ℕ → ℕ → ℤ)
-      → ((j : ℕ) → j < n → diag j ≢ pos 0) → Closed n desc P → Recurs (pos (2 ^ s)) diag desc P z → Bounded s diag desc P z
+      → ((j : ℕ) → j < n → diag j ≢ pos 0) → RecurrenceClosed n desc P → Recurs (pos (2 ^ s)) diag desc P z → Bounded s diag desc P z
       → (fdiag : ℕ → Float) (fdesc : ℕ → List (Entry Float))
       → ((j : ℕ) → j < n → Multiple s (fdiag j) (diag j)) → ((j : ℕ) → j < n → Alike s (fdesc j) (desc j))
       → (Z : ℕ → ℕ → Float) → Solves floats float-off float-on fdiag fdesc P Z → (i j : ℕ) → P i j → Multiple s (Z i j) (z i j)

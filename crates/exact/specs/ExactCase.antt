@@ -12,7 +12,7 @@ use Rattle.integers.specs.Integer.{*ℤ-idl, *ℤ-idr, pos-nonzero}
 use Rattle.integers.specs.Matrix.{Matrix, identity}
 use Rattle.integers.specs.Inverse.{Inverse, WholeInverse, numerators, denominator, inverse-exists, unit-inverse-exists}
 use Rattle.takahashi.specs.Entries.{Ascend, ascend-rows}
-use Rattle.takahashi.specs.Recurrence.{Entry, run, dot, at, Lower, Closed, table, Solves, table-solves, solves-part}
+use Rattle.takahashi.specs.Recurrence.{Entry, run, dot, at, Lower, RecurrenceClosed, table, Solves, table-solves, solves-part}
 use Rattle.exact.specs.Multiple.{Multiple, Whole, Small, unit-nonzero}
 use Rattle.exact.specs.Exact.{integers, floats, float-off, float-on, Alike, Recurs, Products, RunningSums, Kept, Bounded, floats-exact}
 use Rattle.exact.specs.Factor.{factor, factor-diagonal, factor-triangular}
@@ -54,7 +54,7 @@ module _ (s n : ℕ) (diag : ℕ → ℤ) (desc : ℕ → List (Entry ℤ)) (non
   )
 
   -- where the exact recurrence keeps to multiples of 2 ^ -s by at most 2 ^ 53 over the set, f64's entries are its own, z / 2 ^ s, and these are the inverse's
-  pub dyadic : s ≤ low binary64 → (In : ℕ → ℕ → Type 0) → Closed n desc In → (z : Matrix) → Recurs (pos (2 ^ s)) diag desc In z → Bounded s diag desc In z
+  pub dyadic : s ≤ low binary64 → (In : ℕ → ℕ → Type 0) → RecurrenceClosed n desc In → (z : Matrix) → Recurs (pos (2 ^ s)) diag desc In z → Bounded s diag desc In z
       → (fdiag : ℕ → Float) (fdesc : ℕ → List (Entry Float))
       → ((j : ℕ) → j < n → Multiple s (fdiag j) (diag j)) → ((j : ℕ) → j < n → Alike s (fdesc j) (desc j))
       → (Z : ℕ → ℕ → Float) → Solves floats float-off float-on fdiag fdesc In Z → (P : Matrix) (Q : ℕ) → Inverse n (pos (2 ^ s)) (factor diag desc) P Q
@@ -101,7 +101,7 @@ module _ (n : ℕ) (desc : ℕ → List (Entry ℤ)) (ascend : (j : ℕ) → j <
   nonzero : (j : ℕ) → j < n → ones j ≢ pos 0
   nonzero j jn = pos-nonzero 1 (zero-lt-suc 0)
 
-  unit-recurs : (In : ℕ → ℕ → Type 0) → Closed n desc In → Recurs (pos 1) ones desc In (unit-table n desc)
+  unit-recurs : (In : ℕ → ℕ → Type 0) → RecurrenceClosed n desc In → Recurs (pos 1) ones desc In (unit-table n desc)
   unit-recurs In closed = record {
     below-is = λ i j p ji. *ℤ-idr (z i j) ∙ solves .below-is i j p ji;
     diagonal-is = λ j p. *ℤ-idr (z j j) ∙ solves .diagonal-is j p ∙ ap (λ (x : ℤ). pos 1 -ℤ x) (sym (*ℤ-idr (dot integers (λ k. z k j) (desc j))));
@@ -123,7 +123,7 @@ module _ (n : ℕ) (desc : ℕ → List (Entry ℤ)) (ascend : (j : ℕ) → j <
   )
 
   -- where the exact recurrence stays within 2 ^ 53 over the set, f64's entries are the inverse's, and so are the exact recurrence's
-  pub exact-case : (In : ℕ → ℕ → Type 0) → Closed n desc In → WithinBound n desc In
+  pub exact-case : (In : ℕ → ℕ → Type 0) → RecurrenceClosed n desc In → WithinBound n desc In
       → (X : Matrix) → WholeInverse n (factor ones desc) X
       → (fdiag : ℕ → Float) (fdesc : ℕ → List (Entry Float)) → ((j : ℕ) → j < n → Whole (fdiag j) (pos 1)) → ((j : ℕ) → j < n → Alike 0 (fdesc j) (desc j))
       → (Z : ℕ → ℕ → Float) → Solves floats float-off float-on fdiag fdesc In Z

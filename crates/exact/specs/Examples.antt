@@ -14,7 +14,7 @@ use Rattle.integers.specs.Integer.{pos-nonzero}
 use Rattle.integers.specs.Matrix.{Matrix}
 use Rattle.integers.specs.Inverse.{Inverse, WholeInverse, numerators, denominator}
 use Rattle.takahashi.specs.Entries.{Ascend}
-use Rattle.takahashi.specs.Recurrence.{Entry, Rows, dot, at, Lower, Closed, lower-closed, table, Solves, table-solves}
+use Rattle.takahashi.specs.Recurrence.{Entry, Rows, dot, at, Lower, RecurrenceClosed, lower-closed, table, Solves, table-solves}
 use Rattle.exact.specs.Multiple.{Multiple, Whole, Small, one-float}
 use Rattle.exact.specs.Exact.{integers, floats, float-off, float-on, Alike, Recurs, Products, RunningSums, Kept, Bounded}
 use Rattle.exact.specs.Factor.{factor}
@@ -104,7 +104,7 @@ pairs₂ G a b c (suc zero) (suc (suc j)) p = absurd (omega arith)
 pairs₂ G a b c (suc (suc i)) j p = absurd (omega arith)
 
 -- ---- `exact-case` at F2, over all its pairs
-F2-closed : Closed 2 F2 (Lower 2)
+F2-closed : RecurrenceClosed 2 F2 (Lower 2)
 F2-closed = lower-closed 2 F2 (columns₂ (λ j. Rows 2 j (F2 j)) (lit< tt, lit< tt, tt) tt)
 
 F2-within : WithinBound 2 F2 (Lower 2)
@@ -215,7 +215,7 @@ nothing j = []
 abbrev Corner : ℕ → ℕ → Type 0
 Corner i j = (i ≡ 1) × (j ≡ 1)
 
-corner-closed : Closed {W = ℤ} 2 nothing Corner
+corner-closed : RecurrenceClosed {W = ℤ} 2 nothing Corner
 corner-closed = record { inside = λ i j p. omega arith; rows = λ i j p. tt; below = λ i j p ji. tt; diagonal = λ j p. tt }
 
 at-corner : (G : ℕ → Type 0) → G 1 → (j : ℕ) → Corner j j → G j

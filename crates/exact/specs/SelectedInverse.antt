@@ -13,7 +13,7 @@ use Rattle.integers.specs.Sum.{sum-cong}
 use Rattle.integers.specs.Matrix.{Matrix, product, LowerTriangular}
 use Rattle.integers.specs.Inverse.{Inverse, inverse-symmetric, inverse-below, inverse-diagonal}
 use Rattle.takahashi.specs.Entries.{Ascend}
-use Rattle.takahashi.specs.Recurrence.{Entry, Each, run, dot, at, at-sym, at-lower, Closed, closed-induction}
+use Rattle.takahashi.specs.Recurrence.{Entry, Each, run, dot, at, at-sym, at-lower, RecurrenceClosed, closed-induction}
 use Rattle.exact.specs.Exact.{integers, Recurs}
 use Rattle.exact.specs.Factor.{factor, factor-diagonal, factor-triangular, factor-column}
 
@@ -95,7 +95,7 @@ module _ (n : ℕ) (c : ℤ) (c0 : c ≢ pos 0) (diag : ℕ → ℤ) (desc : ℕ
   scale r s j h = run-scale c (pos Q) r s (pos 0) (pos 0) (desc j) h (zero-*ℤ (pos Q) ∙ sym (*ℤ-zero c))
 
   -- what solves the exact recurrence over a closed set is the inverse there
-  pub recurs-inverse : (In : ℕ → ℕ → Type 0) → Closed n desc In → (z : Matrix) → Recurs c diag desc In z → (i j : ℕ) → In i j → z i j *ℤ pos Q ≡ c *ℤ P i j
+  pub recurs-inverse : (In : ℕ → ℕ → Type 0) → RecurrenceClosed n desc In → (z : Matrix) → Recurs c diag desc In z → (i j : ℕ) → In i j → z i j *ℤ pos Q ≡ c *ℤ P i j
   recurs-inverse In closed z rec =
       closed-induction n desc In closed (λ i j. z i j *ℤ pos Q ≡ c *ℤ P i j)
       (λ i j p ji h.

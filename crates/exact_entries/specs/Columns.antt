@@ -14,7 +14,7 @@ use Rattle.columns.specs.Factor.{Factor}
 use Rattle.entries.specs.Descendants.{desc-at}
 use Rattle.closed_set.specs.ClosedSet.{Needed, dependency, needed-range, Pattern, Ranged, descends, descends-at}
 use Rattle.takahashi.specs.Entries.{Entry, Each, Ascend, each-map, ascend-rows}
-use Rattle.takahashi.specs.Recurrence.{Closed}
+use Rattle.takahashi.specs.Recurrence.{RecurrenceClosed}
 use Rattle.exact.specs.Exact.{Alike}
 
 -- ---- lists of entries made from places
@@ -51,7 +51,7 @@ module _ (n : ℕ) (pat : ℕ → List ℕ) (req : ℕ → ℕ → Bool) (P : Pa
   column-in : (i j : ℕ) → Needed pat req i j → j < n
   column-in i j p = let g = needed-range pat req n P R p in omega arith
 
-  pub needed-closed : Closed n es (Needed pat req)
+  pub needed-closed : RecurrenceClosed n es (Needed pat req)
   needed-closed = record {
     inside = λ i j p. needed-range pat req n P R p;
     rows = λ i j p. ascend-rows n j (suc j) (es j) (le-refl (suc j)) (ascend j (column-in i j p));

@@ -16,7 +16,7 @@ use Rattle.integers.specs.Integer.{*ℤ-idl, pos-nonzero}
 use Rattle.integers.specs.Matrix.{Matrix, identity}
 use Rattle.integers.specs.Inverse.{WholeInverse, inverse-symmetric}
 use Rattle.takahashi.specs.Entries.{Entry, Ascend}
-use Rattle.takahashi.specs.Recurrence.{at, Closed}
+use Rattle.takahashi.specs.Recurrence.{at, RecurrenceClosed}
 use Rattle.exact.specs.Multiple.{Whole}
 use Rattle.exact.specs.Exact.{Alike}
 use Rattle.exact.specs.Factor.{factor, factor-triangular}
@@ -52,7 +52,7 @@ module _ (x : Selection) (lent : Lent) (A : Accepted x (roomOf lent)) (whole : �
   ascend : (j : ℕ) → j < x .n → Ascend (x .n) (suc j) (whole j)
   ascend j jn = alike-ascend 0 (x .n) (suc j) (desc (x .starts) (x .rows) (x .values) j) (whole j) (E .entries j jn) (desc-ascend (x .values) (A .factor) j jn)
 
-  closed : Closed (x .n) whole (Selected x)
+  closed : RecurrenceClosed (x .n) whole (Selected x)
   closed =
       needed-closed (x .n) pat (x .requests) (selected-pattern x lent A) (A .requests) whole ascend
       (λ j jn. alike-each 0 _ (desc (x .starts) (x .rows) (x .values) j) (whole j) (E .entries j jn) (desc-descends (x .values) (A .factor) j jn))

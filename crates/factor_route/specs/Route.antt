@@ -20,10 +20,10 @@ use Rattle.closed_set.specs.ClosedSet.{Closed}
 use Rattle.entries.specs.Entries.{entryStarts, entryRows, entryValues, floatTable}
 use Rattle.exact.specs.Exact.{floats, float-off, float-on}
 use Rattle.exact.specs.Multiple.{zero-float}
-use Rattle.scatter.specs.Scatter.{rowAt, weigh, clear, marks, unmarks, scatterAll, stepped, Pattern, Laid, Known, Filled, columnOf}
+use Rattle.scatter.specs.Scatter.{rowAt, weigh, clear, marks, unmarks, scatterAll, stepped, ClosedPattern, Laid, Known, Filled, columnOf}
 use Rattle.scatter.specs.Marks.{empties, weigh-long, unmarks-empties}
 use Rattle.scatter.specs.Sums.{Between}
-use Rattle.scatter.specs.Pattern.{degree, degree-small, cell-is, cell-fits, width, next-le}
+use Rattle.scatter.specs.ClosedPattern.{degree, degree-small, cell-is, cell-fits, width, next-le}
 use Rattle.scatter.specs.Column.{scattered, column-right}
 use Rattle.scatter.specs.Values.{filled-none, filled-next, filled-end}
 use Rattle.factor_route.specs.ColumnMarks.{descBetween, ColumnMarked, Stored}
@@ -42,7 +42,7 @@ pub record RouteInput (n : ℕ) (starts rows : List ℕ) (values : List Float) (
   pub room : setSize n (keptPair starts rows (nonzero values)) ≤ total
 
 -- the work rows between two columns: an empty marker, and as many weights and sums
-pub record AtRest (marker : List ℕ) (weights sums : List Float) : Type 0 where
+pub record WorkRows (marker : List ℕ) (weights sums : List Float) : Type 0 where
   pub marker-is : marker ≡ empties
   pub weights-long : length weights ≡ maxDimension
   pub sums-long : length sums ≡ maxDimension
@@ -56,14 +56,14 @@ abbrev pub columnAt : ℕ → List ℕ → List ℕ → List Float → ℕ → L
 columnAt n starts rows values j = columnOf (floatTable n starts rows values) (desc starts rows values) j
 
 -- after column j: it is written, and the work rows are at rest
-pub record ColumnDone (n : ℕ) (starts rows : List ℕ) (values : List Float) (es : List ℕ) (j : ℕ) (v v′ : List Float)
+pub record ColumnWritten (n : ℕ) (starts rows : List ℕ) (values : List Float) (es : List ℕ) (j : ℕ) (v v′ : List Float)
     (marker : List ℕ) (weights sums : List Float) : Type 0 where
-  pub rest : AtRest marker weights sums
+  pub rest : WorkRows marker weights sums
   pub values-are : v′ ≡ splice (getD es j 0) (columnAt n starts rows values j) v
 
 -- ---- one column
 module _ {n : ℕ} {starts rows : List ℕ} {values : List Float} {es er : List ℕ} {total : ℕ} (R : RouteInput n starts rows values es er total) where
-  P : Pattern nan n (desc starts rows values)
+  P : ClosedPattern nan n (desc starts rows values)
   P = kept-pattern n starts rows values (R .factor) (R .diagonals) (R .small) (R .closed)
 
   L : Laid nan n (desc starts rows values) es er
@@ -149,14 +149,14 @@ module _ {n : ℕ} {starts rows : List ℕ} {values : List Float} {es er : List 
       -- what the calls of the column leave
       pub route-column : (e : ℕ) (d : Float) (v v′ : List Float) (marker : List ℕ) (weights sums : List Float) (marker₁ : List ℕ)
           (weights₁ sums₁ sums₂ : List Float)
-          (marker₂ : List ℕ) → e ≡ getD es (j + 1) 0 → AtRest marker weights sums → length v ≡ total
+          (marker₂ : List ℕ) → e ≡ getD es (j + 1) 0 → WorkRows marker weights sums → length v ≡ total
           → Known nan n (desc starts rows values) es er (floatTable n starts rows values) (j + 1) v
           → ColumnMarked (descBetween rows values j s t) m marker weights sums marker₁ weights₁ sums₁
           → sums₂ ≡ scatterAll floats nan es er v (a + 1) marker₁ weights₁ sums₁ m
           → d ≡ diag starts rows values j
           → v′ ≡ splice a (stepped floats float-off float-on nan d weights₁ sums₂ (take (e - a) (drop a v)) m) v
           → marker₂ ≡ unmarks er (a + 1) marker₁ m
-          → ColumnDone n starts rows values es j v v′ marker₂ weights₁ sums₂
+          → ColumnWritten n starts rows values es j v v′ marker₂ weights₁ sums₂
       unfolding floatTable
       route-column e d v v′ marker weights sums marker₁ weights₁ sums₁ sums₂ marker₂ ee W lv Kn M esum ed ev eu = record {
         rest = record {
@@ -217,7 +217,7 @@ module _ {n : ℕ} {starts rows : List ℕ} {values : List Float} {es er : List 
         subst (λ (k : ℕ). Done n starts rows values es er old k v) q F
 
     pub route-next : (j : ℕ) (v v′ : List Float) (marker : List ℕ) (weights sums : List Float) → j < n → Done n starts rows values es er old (j + 1) v
-        → ColumnDone n starts rows values es j v v′ marker weights sums → Done n starts rows values es er old j v′
+        → ColumnWritten n starts rows values es j v v′ marker weights sums → Done n starts rows values es er old j v′
     route-next j v v′ marker weights sums jn F D =
         subst (λ (l : List Float). Done n starts rows values es er old j l) (sym (D .values-are))
         (filled-next nan n (desc starts rows values) es er L (floatTable n starts rows values) old room-old j v jn F)

@@ -25,7 +25,7 @@ use Rattle.columns.specs.Pattern.{keptPair-diagonal}
 use Rattle.closed_set.specs.ClosedSet.{Closed, descends-at}
 use Rattle.entries.specs.Entries.{columnCount, entryStarts, entryRows, entryValues, entryStarts-length, entryRows-length}
 use Rattle.takahashi.specs.Recurrence.{Entry}
-use Rattle.scatter.specs.Scatter.{blank, rowAt, Pattern, Laid, columnOf, columnsOf}
+use Rattle.scatter.specs.Scatter.{blank, rowAt, ClosedPattern, Laid, columnOf, columnsOf}
 
 -- ---- lists of cells
 module _ (S : ℕ → ℕ → Bool) (lo hi : ℕ → ℕ) {A : Type 0} (f : ℕ → ℕ → A) (d : A) where
@@ -109,7 +109,7 @@ module _ (n : ℕ) (starts rows : List ℕ) (values : List Float) (F : Factor n 
       keptPair-below nz (F .starts-rise) k (lt-trans below inside) i below
       (subst₂ (λ (a b : ℕ). K a b ≡ true) (max-eq-left (le-of-lt below)) (min-eq-right (le-of-lt below)) t)
 
-  pub kept-pattern : n ≤ maxDimension → Closed n rowsOf K → Pattern nan n (desc starts rows values)
+  pub kept-pattern : n ≤ maxDimension → Closed n rowsOf K → ClosedPattern nan n (desc starts rows values)
   kept-pattern small C = record {
     small = small;
     under = λ j p jn h. subst (λ (k : ℕ). j < k) (sym (desc-row j p h)) (pattern-above nz (F .starts-rise) j jn p (in-pattern j p h));

@@ -7,7 +7,7 @@ use lib.ListN.{length, getD}
 use Rattle.refusal.specs.Bounds.{maxDimension}
 
 -- one column of the result, len entries from a on; `total` is the number of values
-pub record Span (rows : List ℕ) (total a len : ℕ) : Type 0 where
+pub record ColumnSpan (rows : List ℕ) (total a len : ℕ) : Type 0 where
   pub stored : a + len ≤ length rows
   pub valued : a + len ≤ total
   pub fits : (x : ℕ) → x < len → getD rows (a + x) 0 < maxDimension
@@ -18,7 +18,7 @@ pub record Walk (starts rows : List ℕ) (total b m : ℕ) : Type 0 where
   pub inside : b + m ≤ length rows
   pub column : (p : ℕ) → p < m → getD rows (b + p) 0 + 1 < length starts
   pub ordered : (p : ℕ) → p < m → getD starts (getD rows (b + p) 0) 0 ≤ getD starts (getD rows (b + p) 0 + 1) 0
-  pub span : (p : ℕ) → p < m → Span rows total (getD starts (getD rows (b + p) 0) 0)
+  pub span : (p : ℕ) → p < m → ColumnSpan rows total (getD starts (getD rows (b + p) 0) 0)
       (getD starts (getD rows (b + p) 0 + 1) 0 - getD starts (getD rows (b + p) 0) 0)
 
 -- ---- the column at hand
@@ -29,5 +29,5 @@ module _ (starts rows : List ℕ) (total b m : ℕ) (W : Walk starts rows total 
   pub walk-ordered : (a e : ℕ) → a ≡ getD starts c 0 → e ≡ getD starts (c + 1) 0 → a ≤ e
   walk-ordered a e u v = rw (u, v, q) (W .ordered p h)
 
-  pub walk-span : (a e : ℕ) → a ≡ getD starts c 0 → e ≡ getD starts (c + 1) 0 → Span rows total a (e - a)
+  pub walk-span : (a e : ℕ) → a ≡ getD starts c 0 → e ≡ getD starts (c + 1) 0 → ColumnSpan rows total a (e - a)
   walk-span a e u v = rw (u, v, q) (W .span p h)

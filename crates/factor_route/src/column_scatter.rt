@@ -7,7 +7,7 @@ ghost use lib.Ieee.{nan};
 ghost use Rattle.refusal.specs.Bounds.{maxDimension};
 ghost use Rattle.exact.specs.Exact.{floats};
 ghost use Rattle.scatter.specs.Scatter.{scatterOne, scatterRun, scatterAll};
-ghost use Rattle.factor_route.specs.Walk.{Span, Walk};
+ghost use Rattle.factor_route.specs.Walk.{ColumnSpan, Walk};
 use refusal::MAX_DIMENSION;
 use words::at;
 
@@ -45,7 +45,7 @@ fn scatter_column(
     c: usize,
     sums: &mut [f64; MAX_DIMENSION],
 )
-    requires { ⌜ Span (now rows) (length (now values)) a len × (c < maxDimension) ⌝ }
+    requires { ⌜ ColumnSpan (now rows) (length (now values)) a len × (c < maxDimension) ⌝ }
     ensures { λ _. ⌜ now (sums .exit) ≡ scatterRun floats nan (now (rows .entry)) (now (values .entry)) a
         (now (marker .entry)) (now (weights .entry)) c (now (sums .entry)) len ⌝ }
 {

@@ -12,7 +12,7 @@ ghost use Rattle.lists.specs.Overwrite.{overwrite};
 ghost use Rattle.columns.specs.Kept.{nonzero, keptPair, desc};
 ghost use Rattle.entries.specs.Entries.{entryValues, floatTable};
 ghost use Rattle.scatter.specs.Scatter.{Known};
-ghost use Rattle.factor_route.specs.Route.{RouteInput, AtRest, ColumnDone};
+ghost use Rattle.factor_route.specs.Route.{RouteInput, WorkRows, ColumnWritten};
 use column_marks::mark_column;
 use column_marks::unmark_column;
 use column_scatter::scatter_columns;
@@ -36,10 +36,10 @@ fn pattern_column(
     sums: &mut [f64; MAX_DIMENSION],
 )
     requires { ⌜ RouteInput n (now starts) (now rows) (now values) (now «entry_starts») (now «entry_rows») (length (now «entry_values»)) × (j < n) ⌝ }
-    requires { ⌜ AtRest (now marker) (now weights) (now sums) ⌝ }
+    requires { ⌜ WorkRows (now marker) (now weights) (now sums) ⌝ }
     requires { ⌜ Known nan n (desc (now starts) (now rows) (now values)) (now «entry_starts») (now «entry_rows»)
         (floatTable n (now starts) (now rows) (now values)) (j + 1) (now «entry_values») ⌝ }
-    ensures { λ _. ⌜ ColumnDone n (now (starts .entry)) (now (rows .entry)) (now (values .entry)) (now («entry_starts» .entry)) j
+    ensures { λ _. ⌜ ColumnWritten n (now (starts .entry)) (now (rows .entry)) (now (values .entry)) (now («entry_starts» .entry)) j
         (now («entry_values» .entry)) (now («entry_values» .exit)) (now (marker .exit)) (now (weights .exit)) (now (sums .exit)) ⌝ }
 {
     let a = at(entry_starts, j);

@@ -19,7 +19,7 @@ use Rattle.entries.specs.Position.{position-cong, entryStarts-cong, entryRows-c
 use Rattle.diagnostics.specs.declared.SelectedInverseDiagnostics.{SelectedInverseDiagnostics}
 use Rattle.diagnostics.specs.declared.SelectedInverseStatus.the-variants.{Complete, ClosureTooLarge}
 use Rattle.layout.specs.Position.{Positioned}
-use Rattle.marked_pairs.specs.MarkedPairs.{Listed}
+use Rattle.marked_pairs.specs.MarkedPairs.{ColumnsReached}
 use Rattle.closure.specs.Closure.{Closing}
 use Rattle.closed_set.specs.FactorPattern.{factor-pattern}
 use Rattle.layout.specs.Layout.{LayOut, LaidOut}
@@ -66,8 +66,8 @@ module _ (x : Selection) (lent : Lent) (A : Accepted x (roomOf lent)) where
         rows-fit = omega (arith, size, most, A .rows-room);
       }
 
-      pub fill-listed : Listed (x .n) s₁ stops
-      fill-listed = K .listed within
+      pub fill-listed : ColumnsReached (x .n) s₁ stops
+      fill-listed = K .reached within
 
       module _ {rs rr s₂ : List ℕ} {count : ℕ} (L : LaidOut (x .n) (lent .resultStarts) (lent .resultRows) s₁ rs rr s₂ count) where
         laid : (r c : ℕ) → c ≤ r → r < x .n → columnMarking (x .n) s₁ r c ≡ columnMarking (x .n) s₂ r c

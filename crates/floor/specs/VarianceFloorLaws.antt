@@ -16,14 +16,14 @@ use Rattle.floor.specs.NotFinite.{notFinite}
 use Rattle.floor.specs.declared.variance_floor.VarianceFloor.{VarianceFloor}
 use Rattle.floor.specs.VarianceFloor.{badScale, floorSteps}
 
-pub record Accepted (floor : VarianceFloor) (values : List Float) (room : ℕ) : Type 0 where
+pub record FloorAccepted (floor : VarianceFloor) (values : List Float) (room : ℕ) : Type 0 where
   pub small : length values ≤ maxEntries
   pub all-finite : (i : ℕ) → i < length values → finite (value values i) ≡ true
   pub good-scale : badScale floor ≡ false
   pub fits : length values ≤ room
 
 module _ (floor : VarianceFloor) (values : List Float) (room : ℕ) where
-  pub accepted : Passed (floorSteps floor values room) → Accepted floor values room
+  pub accepted : Passed (floorSteps floor values room) → FloorAccepted floor values room
   accepted p =
       let c = passed-clear (floorSteps floor values room) p in
       record {
@@ -33,7 +33,7 @@ module _ (floor : VarianceFloor) (values : List Float) (room : ℕ) where
         fits = ltb-false _ _ (c .1 .1 .1 .0);
       }
 
-  pub accepts : Accepted floor values room → Passed (floorSteps floor values room)
+  pub accepts : FloorAccepted floor values room → Passed (floorSteps floor values room)
   accepts A =
       clear-passed (floorSteps floor values room) (
         le-ltb _ _ (A .small),

@@ -20,7 +20,7 @@ use Rattle.refusal.specs.Bounds.{maxDimension}
 use Rattle.pairs.specs.Pair.{pairTotal, maxPairs, pairTotal-small}
 use Rattle.pairs.specs.ColumnOrder.{colStart, colStart-next, colStart-mono, colStart-total, colStart-least, columnPlace, columnPlace-column, columnPlace-below}
 use Rattle.pairs.specs.ColumnOrder.{columnMarking, byColumn, columnFirst, columnEnd, setSize, setSize-most}
-use Rattle.marked_pairs.specs.MarkedPairs.{Listed}
+use Rattle.marked_pairs.specs.MarkedPairs.{ColumnsReached}
 use Rattle.layout.specs.ColumnRows.{columnTest, ColumnRoom, ColumnListed}
 use Rattle.entries.specs.Entries.{columnCount, position, entryStarts, entryRows}
 use Rattle.entries.specs.Position.{columnCount-none, columnCount-next, columnCount-mono, tally-strict, select-tally}
@@ -130,14 +130,14 @@ module _ {n pairs place c first : ℕ} {rows₀ s₀ : List ℕ} (O : LayColumn 
         omega (arith, row-at q h l, word-is (getD listed (q - first) 0) (picked q h l .from), picked q h l .below));
   }
 
--- a column that is not listed has no marked pair
-abbrev pub ListedColumn : ℕ → ℕ → List ℕ → List ℕ → Type 0
-ListedColumn n c listed s = (r : ℕ) → c ≤ r → r < n → columnMarking n s r c ≡ true → 0 < getD listed c 0
+-- a column that closing did not reach has no marked pair
+abbrev pub ReachedColumn : ℕ → ℕ → List ℕ → List ℕ → Type 0
+ReachedColumn n c reached s = (r : ℕ) → c ≤ r → r < n → columnMarking n s r c ≡ true → 0 < getD reached c 0
 
 -- and so no row and no position
-pub column-unlisted : (listed : List ℕ) {n c first : ℕ} {rows s : List ℕ} → c < n → ListedColumn n c listed s → getD listed c 0 ≡ 0
+pub column-unreached : (reached : List ℕ) {n c first : ℕ} {rows s : List ℕ} → c < n → ReachedColumn n c reached s → getD reached c 0 ≡ 0
     → ColumnLaid n c first rows s rows s first
-column-unlisted listed {n} {c} {first} {rows} {s} l L e = record {
+column-unreached reached {n} {c} {first} {rows} {s} l L e = record {
   listed = record {
     count-is = omega (arith, ap length rows-none);
     rows-is = sym (ap (λ (x : List ℕ). splice first x rows) rows-none ∙ splice-none first rows);
@@ -231,8 +231,8 @@ module _ {n : ℕ} {starts₀ rows₀ s₀ : List ℕ} (M : LayOut n starts₀ r
   }
 
   -- a list that has the columns of the set's pairs has that of the column's
-  pub columns-listed : (listed : List ℕ) → Listed n s₀ listed → ListedColumn n c listed s
-  columns-listed listed H r h l t = H r c h l (sym (same-set r c h l) ∙ t)
+  pub columns-reached : (reached : List ℕ) → ColumnsReached n s₀ reached → ReachedColumn n c reached s
+  columns-reached reached H r h l t = H r c h l (sym (same-set r c h l) ∙ t)
 
   -- the column's start is written
   start-written : c ≤ n → set starts c count ≡ filled (columnCount n S) (c + 1) starts₀

@@ -18,12 +18,12 @@ abbrev pub Positioned : ℕ → (ℕ → ℕ → Bool) → List ℕ → Type 0
 Positioned n S s = (r c : ℕ) → c ≤ r → r < n → S r c ≡ true → getD s (pairTotal n + columnPlace n r c) 0 ≡ position n S r c
 
 -- the word with the position of the pair of i and k, put in order
-abbrev pub positionWord : ℕ → List ℕ → ℕ → ℕ → ℕ
-positionWord n s i k = getD s (pairTotal n + columnPlace n (max i k) (min i k)) 0
+abbrev pub positionOf : ℕ → List ℕ → ℕ → ℕ → ℕ
+positionOf n s i k = getD s (pairTotal n + columnPlace n (max i k) (min i k)) 0
 
 -- the inverse's entry at that position
 abbrev pub inverseAt : ℕ → List ℕ → List Float → ℕ → ℕ → Float
-inverseAt n s inverse i k = getD inverse (positionWord n s i k) nan
+inverseAt n s inverse i k = getD inverse (positionOf n s i k) nan
 
 -- an entry of the inverse that can be read: `size` is the number of its entries
 pub record Reading (n pairs i k : ℕ) (scratch : List ℕ) (size : ℕ) : Type 0 where
@@ -32,7 +32,7 @@ pub record Reading (n pairs i k : ℕ) (scratch : List ℕ) (size : ℕ) : Type 
   pub left : i < n
   pub right : k < n
   pub room : pairTotal n + pairTotal n ≤ length scratch
-  pub known : positionWord n scratch i k < size
+  pub known : positionOf n scratch i k < size
 
 -- the pair in either order
 pub place-ordered : (n i k : ℕ) → k ≤ i → columnPlace n i k ≡ columnPlace n (max i k) (min i k)
@@ -77,7 +77,7 @@ shift-fits n pairs c shift small all h e =
 -- a word that has the position of the pair, and can be read
 module _ {n pairs i k : ℕ} {scratch : List ℕ} {size : ℕ} (R : Reading n pairs i k scratch size) {word : ℕ}
     (w : word ≡ pairTotal n + columnPlace n (max i k) (min i k)) where
-  pub word-position : getD scratch word 0 ≡ positionWord n scratch i k
+  pub word-position : getD scratch word 0 ≡ positionOf n scratch i k
   word-position = ap (λ (x : ℕ). getD scratch x 0) w
 
   pub word-reads : (word < length scratch) × (getD scratch word 0 < size)

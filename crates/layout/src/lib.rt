@@ -6,8 +6,8 @@ pub mod zero_words;
 
 ghost use Prim.Native.Nat.{_≤_, _<_};
 ghost use lib.ListN.{length};
-ghost use Rattle.marked_pairs.specs.MarkedPairs.{Listed};
-ghost use Rattle.layout.specs.Layout.{PositionsRoom, PositionsLaid, LayColumn, ColumnLaid, ListedColumn, LayOut, LaidOut};
+ghost use Rattle.marked_pairs.specs.MarkedPairs.{ColumnsReached};
+ghost use Rattle.layout.specs.Layout.{PositionsRoom, PositionsLaid, LayColumn, ColumnLaid, ReachedColumn, LayOut, LaidOut};
 use column_rows::list_column;
 use scratch::pair_total;
 use words::at;
@@ -43,36 +43,36 @@ fn lay_column(
     next
 }
 
-// The same for a column that is listed; one that is not has no marked pair, and is passed over.
-fn lay_listed_column(
+// The same for a column that closing reached; any other has no marked pair, and is passed over.
+fn lay_reached_column(
     n: usize,
     pairs: usize,
     place: usize,
     c: usize,
     first: usize,
-    listed: &[u32],
+    reached: &[u32],
     rows: &mut [u32],
     scratch: &mut [u32],
 ) -> usize
-    requires { ⌜ LayColumn n pairs place c first (now rows) (now scratch) × (c < length (now listed)) × ListedColumn n c (now listed) (now scratch) ⌝ }
+    requires { ⌜ LayColumn n pairs place c first (now rows) (now scratch) × (c < length (now reached)) × ReachedColumn n c (now reached) (now scratch) ⌝ }
     ensures { λ m. ⌜ ColumnLaid n c first (now (rows .entry)) (now (scratch .entry)) (now (rows .exit)) (now (scratch .exit)) m ⌝ }
 {
-    if at(listed, c) == 0 {
+    if at(reached, c) == 0 {
         return first;
     }
     lay_column(n, pairs, place, c, first, rows, scratch)
 }
 
 // Writes the starts and rows of the set that the marks say, and each member's position T words past its place; returns how many members it has.
-// Columns that are 0 in the list have no marked pair, and are passed over.
+// Columns that closing did not reach, 0 in the list, have no marked pair, and are passed over.
 pub fn lay_out(
     n: usize,
-    listed: &[u32],
+    reached: &[u32],
     starts: &mut [u32],
     rows: &mut [u32],
     scratch: &mut [u32],
 ) -> usize
-    requires { ⌜ LayOut n (now starts) (now rows) (now scratch) × (n ≤ length (now listed)) × Listed n (now scratch) (now listed) ⌝ }
+    requires { ⌜ LayOut n (now starts) (now rows) (now scratch) × (n ≤ length (now reached)) × ColumnsReached n (now scratch) (now reached) ⌝ }
     ensures { λ m. ⌜ LaidOut n (now (starts .entry)) (now (rows .entry)) (now (scratch .entry))
         (now (starts .exit)) (now (rows .exit)) (now (scratch .exit)) m ⌝ }
 {
@@ -82,7 +82,7 @@ pub fn lay_out(
     let mut c = 0;
     while c < n {
         starts[c] = count as u32;
-        count = lay_listed_column(n, pairs, place, c, count, listed, rows, scratch);
+        count = lay_reached_column(n, pairs, place, c, count, reached, rows, scratch);
         place += n - c;
         c += 1;
     }

@@ -50,9 +50,9 @@ pub record Marked (n : ℕ) (s : List ℕ) (count : ℕ) : Type 0 where
   pub queued : (j : ℕ) → j < count → Queued n s (queueWord n s j)
   pub found : (r c : ℕ) → c ≤ r → r < n → columnMarking n s r c ≡ true → (j : ℕ) × (j < count) × (queueWord n s j ≡ packed r c)
 
--- each column that a marked pair is in is listed: its number in the list is not 0
-abbrev pub Listed : ℕ → List ℕ → List ℕ → Type 0
-Listed n s list = (r c : ℕ) → c ≤ r → r < n → columnMarking n s r c ≡ true → 0 < getD list c 0
+-- closing reached each column that a marked pair is in: its number in the list is not 0
+abbrev pub ColumnsReached : ℕ → List ℕ → List ℕ → Type 0
+ColumnsReached n s reached = (r c : ℕ) → c ≤ r → r < n → columnMarking n s r c ≡ true → 0 < getD reached c 0
 
 -- the words s′ mark what s marks and the pairs of a set; the words behind 2T are as they were
 pub record Gained (n : ℕ) (S : ℕ → ℕ → Bool) (s s′ : List ℕ) : Type 0 where

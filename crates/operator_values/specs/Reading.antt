@@ -12,7 +12,7 @@ use Rattle.pairs.specs.ColumnOrder.{columnPlace}
 use Rattle.columns.specs.Columns.{start}
 use Rattle.columns.specs.Factor.{starts-end}
 use Rattle.columns.specs.Operator.{operatorRows, OperatorRows}
-use Rattle.layout.specs.Position.{positionWord, Reading}
+use Rattle.layout.specs.Position.{positionOf, Reading}
 use Rattle.quadratic_form.specs.RowValue.{columnAt}
 
 -- the entry at the position of row r and column c, r at least c
@@ -32,7 +32,7 @@ pub record OperatorReading (n : ℕ) (rowStarts columns : List ℕ) (weights : �
   pub operator : OperatorRows n rowStarts columns weights
   pub words : pairTotal n + pairTotal n ≤ length scratch
   pub known : (i a b : ℕ) → i < operatorRows rowStarts → start rowStarts i ≤ a → a < start rowStarts (i + 1) → start rowStarts i ≤ b → b < start rowStarts (i + 1)
-      → positionWord n scratch (columnAt columns a) (columnAt columns b) < size
+      → positionOf n scratch (columnAt columns a) (columnAt columns b) < size
   pub fits : operatorRows rowStarts ≤ room
 
 -- one of its rows

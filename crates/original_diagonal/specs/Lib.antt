@@ -1,3 +1,3 @@
 -- The diagonal in original order: refusals, reply, lists and the exact case.
 pub mod Original
-pub mod Exact
+pub mod ExactDiagonal

@@ -22,7 +22,7 @@ use Rattle.selection.specs.Selection.{ResultLists}
 use Rattle.selection.specs.Call.{fill-accepted}
 use Rattle.selected.specs.declared.Selected.{Selected}
 use Rattle.selected.specs.Selected.{selectedReplyOf}
-use Rattle.request_marks.specs.Diagonals.{diagonalPairs, diagonals-ranged}
+use Rattle.request_marks.specs.DiagonalMarks.{diagonalPairs, diagonals-ranged}
 
 -- what a call is handed to read: a factor and a permutation, orig_to_perm
 pub record OriginalCall : Type 0 where

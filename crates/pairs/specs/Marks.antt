@@ -114,7 +114,7 @@ wordsWith zero s p = set s p 1
 wordsWith (suc m) s p = s
 
 -- a pair that has a mark
-pub record Spot (r c count : ℕ) (s : List ℕ) : Type 0 where
+pub record MarkPairInput (r c count : ℕ) (s : List ℕ) : Type 0 where
   pub ordered : c ≤ r
   pub small : r ≤ maxDimension
   pub inside : rowPlace r c < length s

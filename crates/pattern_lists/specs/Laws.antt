@@ -9,7 +9,7 @@ use borrow.Author.Tests.{ltb-false}
 use Rattle.refusal.specs.Bounds.{maxDimension}
 use Rattle.refusal.specs.Steps.{Passed, passed-clear, passed-front, passed-back}
 use Rattle.columns.specs.Operator.{operatorBoundSteps, operatorSteps, OperatorRows, operatorSteps-sound}
-use Rattle.pattern_lists.specs.Pattern.{operatorChecks}
+use Rattle.pattern_lists.specs.PatternCalls.{operatorChecks}
 
 module _ (ncols : ℕ) (rowStarts columns : List ℕ) (weights : ℕ) (p : Passed (operatorChecks ncols rowStarts columns weights)) where
   pub operatorChecks-small : ncols ≤ maxDimension

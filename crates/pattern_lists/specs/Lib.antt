@@ -3,5 +3,5 @@ pub mod Listing
 pub mod PatternMarks
 pub mod ListedMarks
 pub mod PatternLists
-pub mod Pattern
+pub mod PatternCalls
 pub mod Laws

@@ -55,7 +55,7 @@ pub record RowListed (marks : List ℕ) (r e count : ℕ) (rows columns rows′ 
   pub columns-is : columns′ ≡ splice count (map (λ c. c) (select (marking marks r) 0 e)) columns
 
 -- the marked pairs of the rows below m
-pub record Listed (marks : List ℕ) (m : ℕ) (rows columns rows′ columns′ : List ℕ) (count : ℕ) : Type 0 where
+pub record PairsListed (marks : List ℕ) (m : ℕ) (rows columns rows′ columns′ : List ℕ) (count : ℕ) : Type 0 where
   pub count-is : count ≡ pairCount m (marking marks)
   pub rows-is : rows′ ≡ overwrite (pairRows m (marking marks)) rows
   pub columns-is : columns′ ≡ overwrite (pairColumns m (marking marks)) columns
@@ -99,7 +99,7 @@ module _ {marks : List ℕ} {r e count : ℕ} {rows columns rows′ columns′ :
             columns-is = P .columns-is ∙ R .columns-is ∙ ap (λ (l : List ℕ). splice count (map (λ c. c) l) columns) (sym q);
           }
 
-pub listed-none : (marks rows columns : List ℕ) → Listed marks 0 rows columns rows columns 0
+pub listed-none : (marks rows columns : List ℕ) → PairsListed marks 0 rows columns rows columns 0
 unfolding cellCount Rattle.lists.specs.Sum.sumTo
 listed-none marks rows columns = record {
   count-is = refl;
@@ -108,7 +108,7 @@ listed-none marks rows columns = record {
 }
 
 -- room for a row
-pub listed-room : {marks : List ℕ} {n r : ℕ} {rows columns rows′ columns′ : List ℕ} {count : ℕ} → PairsRoom marks n rows columns → r < n → Listed marks r rows columns rows′ columns′ count
+pub listed-room : {marks : List ℕ} {n r : ℕ} {rows columns rows′ columns′ : List ℕ} {count : ℕ} → PairsRoom marks n rows columns → r < n → PairsListed marks r rows columns rows′ columns′ count
     → length rows′ ≡ length rows → length columns′ ≡ length columns → RowRoom marks r count rows′ columns′
 listed-room {marks} {n} {r} {rows} {columns} {rows′} {columns′} {count} P l L er ec =
     let next = cellCount-next (marking marks) rowStart rowEnd r in
@@ -135,7 +135,7 @@ row-room {marks} {r} {c} {count} {rows} {columns} {rows′} {columns′} {m} R l
 
 -- one row more
 pub listed-more : {marks : List ℕ} {r : ℕ} {rows columns rows′ columns′ : List ℕ} {count : ℕ} {rows″ columns″ : List ℕ} {k : ℕ}
-    → Listed marks r rows columns rows′ columns′ count → RowListed marks r (r + 1) count rows′ columns′ rows″ columns″ k → Listed marks (r + 1) rows columns rows″ columns″ k
+    → PairsListed marks r rows columns rows′ columns′ count → RowListed marks r (r + 1) count rows′ columns′ rows″ columns″ k → PairsListed marks (r + 1) rows columns rows″ columns″ k
 listed-more {marks} {r} {rows} {columns} {rows′} {columns′} {count} {rows″} {columns″} {k} L R = record {
   count-is = R .count-is ∙ ap (λ (j : ℕ). j + tally (marking marks r) 0 (r + 1)) (L .count-is) ∙ sym (cellCount-next (marking marks) rowStart rowEnd r);
   rows-is = go (λ r c. r) rows rows′ rows″ (L .rows-is) (R .rows-is);

@@ -13,7 +13,7 @@ use borrow.Author.Tests.{le-leb, lt-leb, eqb-true, eq-eqb}
 use Rattle.lists.specs.Test.{any, anyIn, any-none, any-next, any-hit, any-found, anyIn-none, anyIn-next, anyIn-hit, anyIn-found, and-left, and-right, and-both, same-truth}
 use Rattle.refusal.specs.Bounds.{maxDimension}
 use Rattle.pairs.specs.Pair.{pairTotal, rowPlace, rowPlace-below, ordered, ordered-is, is-ordered}
-use Rattle.pairs.specs.Marks.{Marks, Added, Agree, Spot, single, either, added-none, added-also, added-agree}
+use Rattle.pairs.specs.Marks.{Marks, Added, Agree, MarkPairInput, single, either, added-none, added-also, added-agree}
 use Rattle.columns.specs.Columns.{start, row}
 use Rattle.columns.specs.Kept.{kept, keptRow, keptPair}
 use Rattle.columns.specs.Factor.{Starts, Factor, Column, factor-column}
@@ -22,10 +22,10 @@ use Rattle.columns.specs.OperatorPair.{occurs, operatorPair}
 
 -- ---- a factor
 
-module _ (rows : List ℕ) (live : ℕ → Bool) where
+module _ (rows : List ℕ) (nz : ℕ → Bool) where
   -- the pair of the entry at p of column c, if it is kept
   abbrev pub entrySet : ℕ → ℕ → ℕ → ℕ → Bool
-  entrySet c p r c′ = kept rows live c p && single (row rows p) c r c′
+  entrySet c p r c′ = kept rows nz c p && single (row rows p) c r c′
 
   -- the pairs of the entries of column c from s to below e
   abbrev pub columnSet : ℕ → ℕ → ℕ → ℕ → ℕ → Bool
@@ -33,23 +33,23 @@ module _ (rows : List ℕ) (live : ℕ → Bool) where
 
 -- the pairs of the first m columns
 abbrev pub columnsSet : List ℕ → List ℕ → (ℕ → Bool) → ℕ → ℕ → ℕ → Bool
-columnsSet starts rows live m r c′ = any (λ c. columnSet rows live c (start starts c) (start starts (c + 1)) r c′) m
+columnsSet starts rows nz m r c′ = any (λ c. columnSet rows nz c (start starts c) (start starts (c + 1)) r c′) m
 
-module _ (rows : List ℕ) (live : ℕ → Bool) (c p : ℕ) where
+module _ (rows : List ℕ) (nz : ℕ → Bool) (c p : ℕ) where
   -- an entry above the diagonal or of value 0 is dropped, and marks nothing
-  pub dropped-above : row rows p < c → kept rows live c p ≡ false
+  pub dropped-above : row rows p < c → kept rows nz c p ≡ false
   dropped-above h = rw (lt-leb c (row rows p) h)
 
-  pub dropped-zero : live p ≡ false → kept rows live c p ≡ false
+  pub dropped-zero : nz p ≡ false → kept rows nz c p ≡ false
   dropped-zero e = ap (λ (b : Bool). leb c (row rows p) && b) e ∙ and-false (leb c (row rows p))
 
-  pub kept-entry : c ≤ row rows p → live p ≡ true → kept rows live c p ≡ true
-  kept-entry h e = and-both (leb c (row rows p)) (live p) (le-leb c (row rows p) h) e
+  pub kept-entry : c ≤ row rows p → nz p ≡ true → kept rows nz c p ≡ true
+  kept-entry h e = and-both (leb c (row rows p)) (nz p) (le-leb c (row rows p) h) e
 
-  pub entry-dropped : {s : List ℕ} {count : ℕ} → kept rows live c p ≡ false → Marks s count → Added (entrySet rows live c p) s s count
+  pub entry-dropped : {s : List ℕ} {count : ℕ} → kept rows nz c p ≡ false → Marks s count → Added (entrySet rows nz c p) s s count
   entry-dropped e M = added-none _ (λ r c′ _ _. ap (λ (b : Bool). b && single (row rows p) c r c′) e) M
 
-  pub entry-kept : {s s′ : List ℕ} {count : ℕ} → kept rows live c p ≡ true → Added (single (row rows p) c) s s′ count → Added (entrySet rows live c p) s s′ count
+  pub entry-kept : {s s′ : List ℕ} {count : ℕ} → kept rows nz c p ≡ true → Added (single (row rows p) c) s s′ count → Added (entrySet rows nz c p) s s′ count
   entry-kept e A = added-agree A (λ r c′ _ _. ap (λ (b : Bool). b && single (row rows p) c r c′) e)
 
 -- the entry at p, if it is kept, has a mark
@@ -95,30 +95,30 @@ module _ {s s′ s″ : List ℕ} {count′ count″ : ℕ} (test : ℕ → ℕ 
   below-more P Q = added-also P Q (λ r c _ _. any-next (λ p. test p r c) k)
 
 -- the pairs of all columns are the factor's
-pub columnsSet-keptPair : (starts rows : List ℕ) (live : ℕ → Bool) (n r c : ℕ) → c < n → columnsSet starts rows live n r c ≡ keptPair starts rows live r c
+pub columnsSet-keptPair : (starts rows : List ℕ) (nz : ℕ → Bool) (n r c : ℕ) → c < n → columnsSet starts rows nz n r c ≡ keptPair starts rows nz r c
 unfolding keptPair
-columnsSet-keptPair starts rows live n r c h = same-truth _ _ there back
+columnsSet-keptPair starts rows nz n r c h = same-truth _ _ there back
   where
-    there : columnsSet starts rows live n r c ≡ true → anyIn (keptRow rows live r c) (start starts c) (start starts (c + 1)) ≡ true
+    there : columnsSet starts rows nz n r c ≡ true → anyIn (keptRow rows nz r c) (start starts c) (start starts (c + 1)) ≡ true
     there e =
         let f = any-found _ n e in
         let g = anyIn-found _ _ _ (f .2) in
         let p = g .0 in
-        let k = and-left (kept rows live (f .0) p) _ (g .3) in
-        let s = and-right (kept rows live (f .0) p) (single (row rows p) (f .0) r c) (g .3) in
+        let k = and-left (kept rows nz (f .0) p) _ (g .3) in
+        let s = and-right (kept rows nz (f .0) p) (single (row rows p) (f .0) r c) (g .3) in
         let q : f .0 ≡ c = eqb-true _ _ (and-right (eqb (row rows p) r) (eqb (f .0) c) s) in
-        anyIn-hit (keptRow rows live r c) _ _ p
+        anyIn-hit (keptRow rows nz r c) _ _ p
         (subst (λ (j : ℕ). start starts j ≤ p) q (g .1))
         (subst (λ (j : ℕ). p < start starts (j + 1)) q (g .2))
-        (and-both _ _ (and-left (eqb (row rows p) r) _ s) (subst (λ (j : ℕ). kept rows live j p ≡ true) q k))
+        (and-both _ _ (and-left (eqb (row rows p) r) _ s) (subst (λ (j : ℕ). kept rows nz j p ≡ true) q k))
 
-    back : anyIn (keptRow rows live r c) (start starts c) (start starts (c + 1)) ≡ true → columnsSet starts rows live n r c ≡ true
+    back : anyIn (keptRow rows nz r c) (start starts c) (start starts (c + 1)) ≡ true → columnsSet starts rows nz n r c ≡ true
     back e =
         let g = anyIn-found _ _ _ e in
         let p = g .0 in
         any-hit _ n c h
         (anyIn-hit _ _ _ p (g .1) (g .2)
-        (and-both _ _ (and-right (eqb (row rows p) r) (kept rows live c p) (g .3)) (and-both _ _ (and-left (eqb (row rows p) r) _ (g .3)) (eq-eqb c c refl))))
+        (and-both _ _ (and-right (eqb (row rows p) r) (kept rows nz c p) (g .3)) (and-both _ _ (and-left (eqb (row rows p) r) _ (g .3)) (eq-eqb c c refl))))
 
 -- ---- an operator
 

@@ -12,7 +12,7 @@ ghost use Rattle.columns.specs.Columns.{factorSteps};
 ghost use Rattle.columns.specs.Kept.{nonzero, keptPair};
 ghost use Rattle.columns.specs.OperatorPair.{operatorPair};
 ghost use Rattle.pattern_lists.specs.PatternLists.{PatternLists};
-ghost use Rattle.pattern_lists.specs.Pattern.{operatorChecks};
+ghost use Rattle.pattern_lists.specs.PatternCalls.{operatorChecks};
 use listed::PatternPairs;
 use listing::factor_lists;
 use listing::operator_lists;

@@ -5,8 +5,8 @@ ghost use lib.Dec.{eqb};
 ghost use lib.ListN.{length, getD};
 ghost use Rattle.refusal.specs.Bounds.{maxDimension};
 ghost use Rattle.pairs.specs.Pair.{rowPlace};
-ghost use Rattle.pairs.specs.Marks.{Added, Spot, single, countWith, wordsWith};
-ghost use Rattle.pattern_lists.specs.Listing.{PairRoom, PairListed, RowRoom, RowListed, PairsRoom, Listed};
+ghost use Rattle.pairs.specs.Marks.{Added, MarkPairInput, single, countWith, wordsWith};
+ghost use Rattle.pattern_lists.specs.Listing.{PairRoom, PairListed, RowRoom, RowListed, PairsRoom, PairsListed};
 use scratch::pair_total;
 
 // The place of (r, c).
@@ -31,7 +31,7 @@ fn set_mark(p: usize, count: usize, marks: &mut [u32]) -> usize
 
 // Marks the pair (r, c); returns how many pairs are marked.
 pub fn mark_pair(r: usize, c: usize, count: usize, marks: &mut [u32]) -> usize
-    requires { ⌜ Spot r c count (now marks) ⌝ }
+    requires { ⌜ MarkPairInput r c count (now marks) ⌝ }
     ensures { λ m. ⌜ Added (single r c) (now (marks .entry)) (now (marks .exit)) m ⌝ }
 {
     set_mark(row_place(r, c), count, marks)
@@ -77,7 +77,7 @@ fn list_row(r: usize, first: usize, marks: &[u32], rows: &mut [u32], columns: &m
 // Lists the marked pairs of n columns ascending by row then column; returns how many there are.
 pub fn list_pairs(n: usize, marks: &[u32], rows: &mut [u32], columns: &mut [u32]) -> usize
     requires { ⌜ PairsRoom (now marks) n (now rows) (now columns) ⌝ }
-    ensures { λ m. ⌜ Listed (now (marks .entry)) n (now (rows .entry)) (now (columns .entry)) (now (rows .exit)) (now (columns .exit)) m ⌝ }
+    ensures { λ m. ⌜ PairsListed (now (marks .entry)) n (now (rows .entry)) (now (columns .entry)) (now (rows .exit)) (now (columns .exit)) m ⌝ }
 {
     let mut count = 0;
     let mut r = 0;

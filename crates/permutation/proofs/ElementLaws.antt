@@ -16,19 +16,19 @@ use Rattle.refusal.specs.Steps.{Step, Reply, refused, each, verdict, Passed, fi
 use Rattle.factor_order.specs.Permutation.{index, among, indexSteps, inverseSteps, elementSteps}
 
 -- before element i: no fault so far, and the indices seen are marked
-pub record Looked (compared : Bool) (perm inv : List ℕ) (i : ℕ) (seen : List Bool) : Type 0 where
+pub record ElementsChecked (compared : Bool) (perm inv : List ℕ) (i : ℕ) (seen : List Bool) : Type 0 where
   pub long : length seen ≡ maxDimension
   pub passed : Passed (each (elementSteps compared perm inv) i)
   pub marked : (k : ℕ) → k < maxDimension → getD seen k false ≡ among perm i k
 
-pub looked-none : (compared : Bool) (perm inv : List ℕ) → Looked compared perm inv 0 (replicate maxDimension false)
+pub looked-none : (compared : Bool) (perm inv : List ℕ) → ElementsChecked compared perm inv 0 (replicate maxDimension false)
 looked-none compared perm inv = record {
   long = refl;
   passed = each-none (elementSteps compared perm inv);
   marked = λ k l. getD-replicate maxDimension k false false l ∙ sym (any-none _);
 }
 
-module _ (compared : Bool) (perm inv : List ℕ) (i : ℕ) (seen : List Bool) (L : Looked compared perm inv i seen) where
+module _ (compared : Bool) (perm inv : List ℕ) (i : ℕ) (seen : List Bool) (L : ElementsChecked compared perm inv i seen) where
   pub element-large : length perm ≤ index perm i → verdict (elementSteps compared perm inv i) ≡ refused 10
   element-large h = first-hit 10 _ tt (le-leb _ _ h)
 
@@ -54,7 +54,7 @@ module _ (compared : Bool) (perm inv : List ℕ) (i : ℕ) (seen : List Bool) (L
           go true r = first-skip 12 [] tt (ap (λ (k : ℕ). not (eqb (index inv k) i)) (sym e) ∙ r) (first-end tt)
           go false r = first-end tt
 
-      pub looked-more : (compared && not (eqb (index inv p) i)) ≡ false → Looked compared perm inv (i + 1) (set seen p true)
+      pub looked-more : (compared && not (eqb (index inv p) i)) ≡ false → ElementsChecked compared perm inv (i + 1) (set seen p true)
       looked-more q = record {
         long = length-set seen p true ∙ L .long;
         passed = each-more (elementSteps compared perm inv) i (L .passed) (element-passed q);

@@ -10,7 +10,7 @@ ghost use Rattle.result.specs.Lookup.{lookup, diagSteps, diagonals};
 ghost use Rattle.factor_order.specs.Permutation.{validateSteps, invertSteps, permuteSteps, inverseOf, reordered};
 ghost use Rattle.columns.specs.OperatorPair.{operatorPair};
 ghost use Rattle.pattern_lists.specs.PatternLists.{PatternLists};
-ghost use Rattle.pattern_lists.specs.Pattern.{operatorChecks};
+ghost use Rattle.pattern_lists.specs.PatternCalls.{operatorChecks};
 ghost use Rattle.floor.specs.Floored.{floored};
 ghost use Rattle.floor.specs.VarianceFloor.{floorSteps, floorOf};
 ghost use Rattle.floor.specs.declared.variance_floor.VarianceFloor.the-variants.{Zero, PositiveMean};

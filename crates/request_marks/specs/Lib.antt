@@ -1,5 +1,5 @@
 -- The requests of each operation, marked as pairs.
-pub mod Requests
-pub mod Diagonals
+pub mod RequestMarks
+pub mod DiagonalMarks
 pub mod OperatorRequests
 pub mod OperatorMarks

@@ -1,6 +1,6 @@
 // All diagonals, marked as pairs.
 ghost use Rattle.marked_pairs.specs.MarkedPairs.{MarkedPairs};
-ghost use Rattle.request_marks.specs.Diagonals.{DiagonalsInput, diagonalPairs};
+ghost use Rattle.request_marks.specs.DiagonalMarks.{DiagonalsInput, diagonalPairs};
 use marked_pairs::clear_pairs;
 use marked_pairs::insert_closure_pair;
 

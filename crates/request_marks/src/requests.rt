@@ -1,7 +1,7 @@
 // Requests given as two lists, marked as pairs.
 ghost use Rattle.closed_set.specs.Requests.{requested};
 ghost use Rattle.marked_pairs.specs.MarkedPairs.{MarkedPairs};
-ghost use Rattle.request_marks.specs.Requests.{RequestsInput};
+ghost use Rattle.request_marks.specs.RequestMarks.{RequestsInput};
 use marked_pairs::clear_pairs;
 use marked_pairs::insert_closure_pair;
 use words::at;

@@ -16,6 +16,7 @@ use Rattle.lists.specs.Test.{anyIn, anyIn-none, anyIn-hit, anyIn-found, not-so}
 use Rattle.lists.specs.Place.{placeFrom, placeFrom-at}
 use Rattle.refusal.specs.Steps.{Reply, refused, answered, first, first-hit, first-skip, first-end}
 use Rattle.columns.specs.Columns.{row}
+use Rattle.columns.specs.Factor.{Ascends}
 
 -- the row at p is r
 abbrev pub isRow : List ℕ → ℕ → ℕ → Bool
@@ -41,10 +42,6 @@ shifted b (answered p) = answered (b + p)
 -- the place of r in a part of the rows that starts at b
 abbrev pub sought : ℕ → List ℕ → ℕ → Reply ℕ
 sought b part r = shifted b (placeIn part r 0 (length part))
-
--- the rows from s to below e ascend
-abbrev pub Ascends : List ℕ → ℕ → ℕ → Type 0
-Ascends rows s e = (q p : ℕ) → s ≤ q → q < p → p < e → row rows q < row rows p
 
 -- a part of the rows ascends
 abbrev pub Ascending : List ℕ → Type 0

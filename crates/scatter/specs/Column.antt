@@ -10,11 +10,11 @@ use lib.Seq.{getD-set-same, getD-set-other, ext-getD, take-length}
 use Rattle.lists.specs.Select.{getD-mapped}
 use Rattle.refusal.specs.Bounds.{maxDimension}
 use Rattle.takahashi.specs.Recurrence.{Arithmetic, Entry, run, dot, at, Lower, Solves, table, table-solves}
-use Rattle.scatter.specs.Scatter.{blank, rowAt, valueAt, marks, weigh, clear, scatterRun, scatterAll, steps, stepSum, stepped, Pattern, Laid}
+use Rattle.scatter.specs.Scatter.{blank, rowAt, valueAt, marks, weigh, clear, scatterRun, scatterAll, steps, stepSum, stepped, ClosedPattern, Laid}
 use Rattle.scatter.specs.Scatter.{Known, columnOf}
-use Rattle.scatter.specs.Sums.{run-take, Between, Holds, scatter-run}
+use Rattle.scatter.specs.Sums.{run-take, Between, ColumnValues, scatter-run}
 use Rattle.scatter.specs.Marks.{empties, clear-long, clear-at, weigh-at, marks-marked}
-use Rattle.scatter.specs.Pattern.{pattern-rows, degree-small, cell, cell-fits, cell-up, cell-is, width}
+use Rattle.scatter.specs.ClosedPattern.{pattern-rows, degree-small, cell, cell-fits, cell-up, cell-is, width}
 
 module _ (A : Arithmetic) (off on : A .Carrier → A .Carrier → A .Carrier) (none : A .Carrier) where
   -- ---- the column step
@@ -88,13 +88,13 @@ module _ (A : Arithmetic) (off on : A .Carrier → A .Carrier → A .Carrier) (n
             ∙ sym (getD-mapped (λ (y : Entry (A .Carrier)). Z (y .row) j) ds p (blank none) none pm)
 
   -- ---- all of it
-  module _ (n : ℕ) (desc : ℕ → List (Entry (A .Carrier))) (P : Pattern none n desc) (starts rows : List ℕ) (L : Laid none n desc starts rows)
+  module _ (n : ℕ) (desc : ℕ → List (Entry (A .Carrier))) (P : ClosedPattern none n desc) (starts rows : List ℕ) (L : Laid none n desc starts rows)
       (diag : ℕ → A .Carrier) where
     abbrev pub tableOf : ℕ → ℕ → A .Carrier
     tableOf = table A off on n diag desc
 
     holds : (j : ℕ) (vals : List (A .Carrier)) → j < n → Known none n desc starts rows tableOf (suc j) vals → (pc : ℕ) → pc < length (desc j)
-        → Holds A none tableOf (desc j) rows vals pc (getD starts (rowAt none (desc j) pc) 0) (suc (length (desc (rowAt none (desc j) pc))))
+        → ColumnValues A none tableOf (desc j) rows vals pc (getD starts (rowAt none (desc j) pc) 0) (suc (length (desc (rowAt none (desc j) pc))))
     holds j vals jn K pc pm =
         let c : ℕ = rowAt none (desc j) pc in
         let cn : c < n = P .fits j pc jn pm in

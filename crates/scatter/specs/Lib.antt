@@ -1,7 +1,7 @@
 -- The factor-pattern route over any arithmetic.
 pub mod Scatter
 pub mod Order
-pub mod Pattern
+pub mod ClosedPattern
 pub mod Sums
 pub mod Held
 pub mod Marks

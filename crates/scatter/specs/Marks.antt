@@ -11,7 +11,7 @@ use lib.ListN.{length, getD, set, replicate, length-set, length-replicate, getD-
 use lib.Seq.{getD-set-same, getD-set-other, ext-getD, getD-append-seam}
 use Rattle.refusal.specs.Bounds.{maxDimension}
 use Rattle.takahashi.specs.Recurrence.{Entry}
-use Rattle.scatter.specs.Scatter.{blank, rowAt, valueAt, marks, weigh, clear, unmarks, Marked}
+use Rattle.scatter.specs.Scatter.{blank, rowAt, valueAt, marks, weigh, clear, unmarks, RowsMarked}
 
 -- the marker at rest: shut, so that no goal writes its places out
 unfoldable pub empties : List ℕ
@@ -108,7 +108,7 @@ module _ {W : Type 0} (none : W) where
           (more p i (getD (marks none ds empties p) i 0) (marks-kind p i (le-of-lt h) l))
     ]
 
-    pub marks-marked : Marked none ds (marks none ds empties (length ds))
+    pub marks-marked : RowsMarked none ds (marks none ds empties (length ds))
     unfolding Kind
     marks-marked = record {
       marked = λ p h. marks-at (length ds) p (le-refl (length ds)) h;

@@ -36,7 +36,7 @@ module _ {W : Type 0} (none : W) where
   weigh es weights (suc p) = set (weigh es weights p) p (valueAt es p)
 
   -- the marker names the positions of the rows of es, and no others
-  pub record Marked (es : List (Entry W)) (marker : List ℕ) : Type 0 where
+  pub record RowsMarked (es : List (Entry W)) (marker : List ℕ) : Type 0 where
     pub marked : (p : ℕ) → p < length es → getD marker (rowAt es p) 0 ≡ p
     pub only : (i : ℕ) → i < maxDimension → getD marker i 0 < maxDimension → (getD marker i 0 < length es) × (rowAt es (getD marker i 0) ≡ i)
 
@@ -97,7 +97,7 @@ module _ (A : Arithmetic) (off on : A .Carrier → A .Carrier → A .Carrier) (n
 -- ---- what the route runs on
 module _ {W : Type 0} (none : W) where
   -- rows ascend below each column's own and stay below n; of two descendants of a column the later is one of the earlier's
-  pub record Pattern (n : ℕ) (desc : ℕ → List (Entry W)) : Type 0 where
+  pub record ClosedPattern (n : ℕ) (desc : ℕ → List (Entry W)) : Type 0 where
     pub small : n ≤ maxDimension
     pub under : (j p : ℕ) → j < n → p < length (desc j) → j < rowAt none (desc j) p
     pub fits : (j p : ℕ) → j < n → p < length (desc j) → rowAt none (desc j) p < n

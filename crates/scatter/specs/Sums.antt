@@ -11,7 +11,7 @@ use lib.Seq.{getD-set-same, getD-set-other}
 use borrow.Author.Tests.{lt-ltb, le-ltb, eq-eqb, ne-eqb}
 use Rattle.refusal.specs.Bounds.{maxDimension}
 use Rattle.takahashi.specs.Recurrence.{Arithmetic, Entry, run, at, at-sym, at-lower}
-use Rattle.scatter.specs.Scatter.{blank, rowAt, valueAt, Marked, addAt, scatterOne, scatterRun}
+use Rattle.scatter.specs.Scatter.{blank, rowAt, valueAt, RowsMarked, addAt, scatterOne, scatterRun}
 use Rattle.scatter.specs.Order.{Front, front-start, front-skip, front-met, front-meet, front-end}
 
 -- the running sum over one entry more
@@ -37,14 +37,14 @@ module _ (A : Arithmetic) (none : A .Carrier) (Z : ℕ → ℕ → A .Carrier) (
     pub rest : (p : ℕ) → pc ≤ p → p < length ds → getD s p none ≡ part p pc
 
   -- in the column at pc, past the rows before s
-  pub record Within (pc t : ℕ) (s : List (A .Carrier)) : Type 0 where
+  pub record InColumn (pc t : ℕ) (s : List (A .Carrier)) : Type 0 where
     pub long : length s ≡ maxDimension
     pub done : (p : ℕ) → p < pc → getD s p none ≡ part p (length ds)
     pub here : getD s pc none ≡ part pc t
     pub over : (p : ℕ) → pc < p → p < t → getD s p none ≡ part p (suc pc)
     pub rest : (p : ℕ) → pc < p → t ≤ p → p < length ds → getD s p none ≡ part p pc
 
-  pub enter : (pc : ℕ) (s : List (A .Carrier)) → pc < length ds → Between pc s → Within pc pc s
+  pub enter : (pc : ℕ) (s : List (A .Carrier)) → pc < length ds → Between pc s → InColumn pc pc s
   enter pc s h B = record {
     long = B .long;
     done = B .done;
@@ -53,7 +53,7 @@ module _ (A : Arithmetic) (none : A .Carrier) (Z : ℕ → ℕ → A .Carrier) (
     rest = λ p a b c. B .rest p (le-of-lt a) c;
   }
 
-  pub leave : (pc t : ℕ) (s : List (A .Carrier)) → t ≡ length ds → Within pc t s → Between (suc pc) s
+  pub leave : (pc t : ℕ) (s : List (A .Carrier)) → t ≡ length ds → InColumn pc t s → Between (suc pc) s
   leave pc t s e W = record {
     long = W .long;
     done = λ p h. elim (eq-or-lt-of-le h) [
@@ -72,8 +72,8 @@ module _ (A : Arithmetic) (none : A .Carrier) (Z : ℕ → ℕ → A .Carrier) (
   -- ---- one value: that of the row at position t
   module _ (small : length ds ≤ maxDimension) (w : List (A .Carrier)) (weights : (p : ℕ) → p < length ds → getD w p none ≡ valueAt none ds p) where
     -- on the diagonal
-    own : (pc : ℕ) (v : A .Carrier) (s : List (A .Carrier)) → pc < length ds → v ≡ Z (rowAt none ds pc) (rowAt none ds pc) → Within pc pc s
-        → Within pc (suc pc) (addAt A none s pc (A .times (getD w pc none) v))
+    own : (pc : ℕ) (v : A .Carrier) (s : List (A .Carrier)) → pc < length ds → v ≡ Z (rowAt none ds pc) (rowAt none ds pc) → InColumn pc pc s
+        → InColumn pc (suc pc) (addAt A none s pc (A .times (getD w pc none) v))
     own pc v s pm e W = record {
       long = length-set s pc _ ∙ W .long;
       done = λ p h. addAt-other s pc p x (ne-of-lt h) ∙ W .done p h;
@@ -95,8 +95,8 @@ module _ (A : Arithmetic) (none : A .Carrier) (Z : ℕ → ℕ → A .Carrier) (
 
     -- below it
     other : (pc t : ℕ) (v : A .Carrier) (s : List (A .Carrier)) → pc < t → t < length ds → rowAt none ds pc ≤ rowAt none ds t
-        → v ≡ Z (rowAt none ds t) (rowAt none ds pc) → Within pc t s
-        → Within pc (suc t) (addAt A none (addAt A none s t (A .times (getD w pc none) v)) pc (A .times (getD w t none) v))
+        → v ≡ Z (rowAt none ds t) (rowAt none ds pc) → InColumn pc t s
+        → InColumn pc (suc t) (addAt A none (addAt A none s t (A .times (getD w pc none) v)) pc (A .times (getD w t none) v))
     other pc t v s pt tm le e W = record {
       long = length-set s₁ pc _ ∙ length-set s t _ ∙ W .long;
       done = λ p h. addAt-other s₁ pc p y (ne-of-lt h) ∙ addAt-other s t p x (ne-of-lt (lt-trans h pt)) ∙ W .done p h;
@@ -140,14 +140,14 @@ module _ (A : Arithmetic) (none : A .Carrier) (Z : ℕ → ℕ → A .Carrier) (
 
     -- the row at position t is marked t
     pub scatter-met : (pc t : ℕ) (v : A .Carrier) (s : List (A .Carrier)) → pc ≤ t → t < length ds → rowAt none ds pc ≤ rowAt none ds t
-        → v ≡ Z (rowAt none ds t) (rowAt none ds pc) → Within pc t s
-        → Within pc (suc t) (scatterOne A none t pc v w s)
+        → v ≡ Z (rowAt none ds t) (rowAt none ds pc) → InColumn pc t s
+        → InColumn pc (suc t) (scatterOne A none t pc v w s)
     unfolding scatterOne
     scatter-met pc t v s pt tm le e W = rw (lt-ltb t maxDimension (lt-of-lt-of-le tm small)) (elim (eq-or-lt-of-le pt) [
       | inl q ↦ rw (eq-eqb t pc (sym q))
-          (subst (λ (i : ℕ). Within pc (suc i) (addAt A none s i (A .times (getD w pc none) v))) q
+          (subst (λ (i : ℕ). InColumn pc (suc i) (addAt A none s i (A .times (getD w pc none) v))) q
           (own pc v s (subst (λ (i : ℕ). i < length ds) (sym q) tm) (e ∙ ap (λ (i : ℕ). Z (rowAt none ds i) (rowAt none ds pc)) (sym q))
-          (subst (λ (i : ℕ). Within pc i s) (sym q) W)))
+          (subst (λ (i : ℕ). InColumn pc i s) (sym q) W)))
       | inr l ↦ rw (ne-eqb t pc (ne-of-gt l)) (other pc t v s l tm le e W)
     ])
 
@@ -161,7 +161,7 @@ module _ (A : Arithmetic) (none : A .Carrier) (Z : ℕ → ℕ → A .Carrier) (
   not-less x y f = omega arith
 
   -- len values of the table's column c, from a on, in ascending rows, with all later rows of ds among them
-  pub record Holds (rows : List ℕ) (vals : List (A .Carrier)) (pc a len : ℕ) : Type 0 where
+  pub record ColumnValues (rows : List ℕ) (vals : List (A .Carrier)) (pc a len : ℕ) : Type 0 where
     pub some : 0 < len
     pub own : getD rows (a + 0) 0 ≡ rowAt none ds pc
     pub fits : (x : ℕ) → x < len → getD rows (a + x) 0 < maxDimension
@@ -170,7 +170,7 @@ module _ (A : Arithmetic) (none : A .Carrier) (Z : ℕ → ℕ → A .Carrier) (
     pub covers : (u : ℕ) → pc < u → u < length ds → (x : ℕ) × (x < len) × (getD rows (a + x) 0 ≡ rowAt none ds u)
 
   module _ (small : length ds ≤ maxDimension) (rising : (p u : ℕ) → p < u → u < length ds → rowAt none ds p < rowAt none ds u) (w : List (A .Carrier))
-      (weights : (p : ℕ) → p < length ds → getD w p none ≡ valueAt none ds p) (marker : List ℕ) (M : Marked none ds marker) (rows : List ℕ)
+      (weights : (p : ℕ) → p < length ds → getD w p none ≡ valueAt none ds p) (marker : List ℕ) (M : RowsMarked none ds marker) (rows : List ℕ)
       (vals : List (A .Carrier)) where
     rising-le : (p u : ℕ) → p ≤ u → u < length ds → rowAt none ds p ≤ rowAt none ds u
     rising-le p u h um = elim (eq-or-lt-of-le h) [
@@ -178,9 +178,9 @@ module _ (A : Arithmetic) (none : A .Carrier) (Z : ℕ → ℕ → A .Carrier) (
       | inr l ↦ le-of-lt (rising p u l um)
     ]
 
-    module _ (pc a len : ℕ) (pm : pc < length ds) (H : Holds rows vals pc a len) (s : List (A .Carrier)) where
+    module _ (pc a len : ℕ) (pm : pc < length ds) (H : ColumnValues rows vals pc a len) (s : List (A .Carrier)) where
       Reached : ℕ → Type 0
-      Reached q = (t : ℕ) × Front (length ds) (rowAt none ds) len (λ x. getD rows (a + x) 0) q t × (pc ≤ t) × Within pc t
+      Reached q = (t : ℕ) × Front (length ds) (rowAt none ds) len (λ x. getD rows (a + x) 0) q t × (pc ≤ t) × InColumn pc t
           (scatterRun A none rows vals a marker w pc s q)
 
       one : (q : ℕ) → suc q ≤ len → Reached q → Reached (suc q)
@@ -191,7 +191,7 @@ module _ (A : Arithmetic) (none : A .Carrier) (Z : ℕ → ℕ → A .Carrier) (
           R .0,
           front-skip (length ds) (rowAt none ds) rising len (λ x. getD rows (a + x) 0) (H .up) q (R .0) (R .1) (λ u um e. f (unmarked u um e)),
           R .2,
-          subst (Within pc (R .0))
+          subst (InColumn pc (R .0))
               (sym (scatter-skip small w weights (getD marker (getD rows (a + q) 0) 0) pc (getD vals (a + q) none)
               (scatterRun A none rows vals a marker w pc s q) (not-less (getD marker (getD rows (a + q) 0) 0) maxDimension f))) (R .3),
         )
@@ -214,7 +214,7 @@ module _ (A : Arithmetic) (none : A .Carrier) (Z : ℕ → ℕ → A .Carrier) (
                 suc t,
                 front-meet (length ds) (rowAt none ds) rising len (λ x. getD rows (a + x) 0) (H .up) q t (R .1) ql tm is,
                 le-step (R .2),
-                subst (λ (x : ℕ). Within pc (suc t) (scatterOne A none x pc v w S)) (sym e)
+                subst (λ (x : ℕ). InColumn pc (suc t) (scatterOne A none x pc v w S)) (sym e)
                     (scatter-met small w weights pc t v S (R .2) tm (rising-le pc t (R .2) tm)
                     (H .values q ql ∙ ap (λ (i : ℕ). Z i (rowAt none ds pc)) (sym is)) (R .3)),
               )

@@ -12,7 +12,7 @@ use Rattle.lists.specs.Select.{getD-mapped}
 use Rattle.lists.specs.Overwrite.{overwrite, splice, splice-length, splice-at, splice-past, splice-later}
 use Rattle.takahashi.specs.Recurrence.{Entry}
 use Rattle.scatter.specs.Scatter.{blank, Laid, Filled, columnOf, columnsOf}
-use Rattle.scatter.specs.Pattern.{cell, cell-is, starts-le, next-le}
+use Rattle.scatter.specs.ClosedPattern.{cell, cell-is, starts-le, next-le}
 
 -- ---- a list written anew from a place on
 -- k places from a on, lent and written

@@ -26,7 +26,7 @@ use Rattle.selected.specs.declared.Selected.the-variants as reply
 use Rattle.exact_entries.specs.ExactEntries.{exact-call}
 use Rattle.selected_entry.specs.declared.SelectedEntry.the-variants.{Found, ClosureTooLarge, Refused}
 use Rattle.selected_entry.specs.declared.SelectedEntry.{SelectedEntry}
-use Rattle.selected_entry.specs.SelectedEntry.{ReadEntry, Ready, LookedAt, Looked}
+use Rattle.selected_entry.specs.SelectedEntry.{ReadEntry, QueueLoop, LookedAt, ElementsChecked}
 
 -- ---- a reply tells whether a condition holds
 abbrev number : {A : Type 0} → Reply A → ℕ
@@ -71,7 +71,7 @@ module _ (x : Call) (lent : Lent) where
 
   -- an answered call has starts to look up in
   pub read-ready : {rs rr : List ℕ} {rv : List Float} {s : List ℕ} (r : Selected) → SelectedEntries x lent r rs rr rv s
-      → length rs ≡ length (lent .resultStarts) → Ready (x .n) rs r
+      → length rs ≡ length (lent .resultStarts) → QueueLoop (x .n) rs r
   read-ready (reply.Answered d) E e =
       let A = accepted x (roomOf lent) (told-passed steps answerOf (E .replies)) in
       (A .small, omega (arith, A .starts-room))
@@ -105,7 +105,7 @@ module _ (x : Call) (lent : Lent) where
           })
 
     -- the lookup after a call is what is promised of both
-    pub read-entry : (a : Selected) → SelectedEntries x lent a rs rr rv s → (r : SelectedEntry) → Looked (x .n) row col rs rr rv a r
+    pub read-entry : (a : Selected) → SelectedEntries x lent a rs rr rv s → (r : SelectedEntry) → ElementsChecked (x .n) row col rs rr rv a r
         → ReadEntry x lent row col r rs rr rv s
     read-entry (reply.Answered d) E r h = at-status E (d .status) refl r h
     read-entry (reply.Refused why) E r h =
@@ -115,20 +115,20 @@ module _ (x : Call) (lent : Lent) where
 -- ---- the lookup itself
 
 module _ (n row col : ℕ) (rs rr : List ℕ) (rv : List Float) (a : Selected) where
-  pub looked-refused : (why : Refusal) → a ≡ reply.Refused why → Looked n row col rs rr rv a (Refused why)
-  looked-refused why e = subst (λ (q : Selected). Looked n row col rs rr rv q (Refused why)) (sym e) refl
+  pub looked-refused : (why : Refusal) → a ≡ reply.Refused why → ElementsChecked n row col rs rr rv a (Refused why)
+  looked-refused why e = subst (λ (q : Selected). ElementsChecked n row col rs rr rv q (Refused why)) (sym e) refl
 
   module _ (d : SelectedInverseDiagnostics) (e : a ≡ reply.Answered d) where
-    pub ready-answered : Ready n rs a → (n ≤ maxDimension) × (n + 1 ≤ length rs)
-    ready-answered h = subst (Ready n rs) e h
+    pub ready-answered : QueueLoop n rs a → (n ≤ maxDimension) × (n + 1 ≤ length rs)
+    ready-answered h = subst (QueueLoop n rs) e h
 
-    looked-status : (v : SelectedInverseStatus) → d .status ≡ v → (r : SelectedEntry) → LookedAt n row col rs rr rv v r → Looked n row col rs rr rv a r
+    looked-status : (v : SelectedInverseStatus) → d .status ≡ v → (r : SelectedEntry) → LookedAt n row col rs rr rv v r → ElementsChecked n row col rs rr rv a r
     looked-status v q r h =
-        subst (λ (y : Selected). Looked n row col rs rr rv y r) (sym e) (subst (λ (y : SelectedInverseStatus). LookedAt n row col rs rr rv y r) (sym q) h)
+        subst (λ (y : Selected). ElementsChecked n row col rs rr rv y r) (sym e) (subst (λ (y : SelectedInverseStatus). LookedAt n row col rs rr rv y r) (sym q) h)
 
-    pub looked-large : d .status ≡ status.ClosureTooLarge → Looked n row col rs rr rv a ClosureTooLarge
+    pub looked-large : d .status ≡ status.ClosureTooLarge → ElementsChecked n row col rs rr rv a ClosureTooLarge
     looked-large q = looked-status status.ClosureTooLarge q ClosureTooLarge refl
 
     pub looked-found : d .status ≡ status.Complete → (f : Entry) → entryReply f ≡ lookup (take (n + 1 - 0) (drop 0 rs)) rr rv row col
-        → Looked n row col rs rr rv a (Found f)
+        → ElementsChecked n row col rs rr rv a (Found f)
     looked-found q f h = looked-status status.Complete q (Found f) (f, refl, h ∙ ap (λ (l : List ℕ). lookup l rr rv row col) (front (n + 1) rs))

@@ -57,9 +57,9 @@ pub record ReadEntry (x : Call) (lent : Lent) (row col : ℕ) (reply : SelectedE
 -- ---- the lookup after the call's answer
 
 -- an answer comes with starts to look up in
-abbrev pub Ready : ℕ → List ℕ → Selected → Type 0
-Ready n starts (reply.Answered d) = (n ≤ maxDimension) × (n + 1 ≤ length starts)
-Ready n starts (reply.Refused why) = Unit {0}
+abbrev pub QueueLoop : ℕ → List ℕ → Selected → Type 0
+QueueLoop n starts (reply.Answered d) = (n ≤ maxDimension) × (n + 1 ≤ length starts)
+QueueLoop n starts (reply.Refused why) = Unit {0}
 
 abbrev pub LookedAt : ℕ → ℕ → ℕ → List ℕ → List ℕ → List Float → SelectedInverseStatus → SelectedEntry → Type 0
 LookedAt n row col starts rows values status.Complete r =
@@ -67,6 +67,6 @@ LookedAt n row col starts rows values status.Complete r =
 LookedAt n row col starts rows values status.ClosureTooLarge r = r ≡ ClosureTooLarge
 
 -- a refusal stays, and a result is looked up in
-abbrev pub Looked : ℕ → ℕ → ℕ → List ℕ → List ℕ → List Float → Selected → SelectedEntry → Type 0
-Looked n row col starts rows values (reply.Answered d) r = LookedAt n row col starts rows values (d .status) r
-Looked n row col starts rows values (reply.Refused why) r = r ≡ Refused why
+abbrev pub ElementsChecked : ℕ → ℕ → ℕ → List ℕ → List ℕ → List Float → Selected → SelectedEntry → Type 0
+ElementsChecked n row col starts rows values (reply.Answered d) r = LookedAt n row col starts rows values (d .status) r
+ElementsChecked n row col starts rows values (reply.Refused why) r = r ≡ Refused why

@@ -1,7 +1,7 @@
 // One selected entry: the call for selected entries, then the lookup of a pair in its result. Its contract holds the exact case.
 ghost use Rattle.selection.specs.Selection.{lists, defaultLimit};
 ghost use Rattle.selection.specs.Call.{call};
-ghost use Rattle.selected_entry.specs.SelectedEntry.{Ready, Looked, ReadEntry};
+ghost use Rattle.selected_entry.specs.SelectedEntry.{QueueLoop, ElementsChecked, ReadEntry};
 use diagnostics::SelectedInverseStatus;
 use lookup::get;
 use lookup::ordered::Entry;
@@ -27,8 +27,8 @@ fn look_up(
     row: usize,
     col: usize,
 ) -> SelectedEntry
-    requires { ⌜ Ready n (now «result_starts») answer ⌝ }
-    ensures { λ r. ⌜ Looked n row col (now («result_starts» .entry)) (now («result_rows» .entry)) (now («result_values» .entry)) answer r ⌝ }
+    requires { ⌜ QueueLoop n (now «result_starts») answer ⌝ }
+    ensures { λ r. ⌜ ElementsChecked n row col (now («result_starts» .entry)) (now («result_rows» .entry)) (now («result_values» .entry)) answer r ⌝ }
 {
     match answer {
         Selected::Refused(why) => SelectedEntry::Refused(why),

@@ -69,13 +69,13 @@ module _ (x : Call) where
 -- ---- calls that pass
 
 -- what the steps of 7 tell
-pub record Roomy (n limit : ℕ) (lengths : Room) : Type 0 where
+pub record EnoughRoom (n limit : ℕ) (lengths : Room) : Type 0 where
   pub starts-room : n + 1 ≤ lengths .resultStarts
   pub rows-room : min limit (pairTotal n) ≤ lengths .resultRows
   pub values-room : min limit (pairTotal n) ≤ lengths .resultValues
   pub scratch-room : scratchWords n ≤ lengths .scratch
 
-pub roomSteps-sound : (n limit : ℕ) (lengths : Room) → Passed (roomSteps n limit lengths) → Roomy n limit lengths
+pub roomSteps-sound : (n limit : ℕ) (lengths : Room) → Passed (roomSteps n limit lengths) → EnoughRoom n limit lengths
 unfolding roomSteps
 roomSteps-sound n limit lengths p =
     let r = passed-clear (roomSteps n limit lengths) p in

@@ -38,7 +38,7 @@ abbrev pub Lower : ℕ → ℕ → ℕ → Type 0
 Lower n i j = (j ≤ i) × (i < n)
 
 -- a set of pairs of the lower triangle that holds what its entries are made of
-pub record Closed {W : Type 0} (n : ℕ) (desc : ℕ → List (Entry W)) (P : ℕ → ℕ → Type 0) : Type 0 where
+pub record RecurrenceClosed {W : Type 0} (n : ℕ) (desc : ℕ → List (Entry W)) (P : ℕ → ℕ → Type 0) : Type 0 where
   pub inside : (i j : ℕ) → P i j → Lower n i j
   pub rows : (i j : ℕ) → P i j → Rows n j (desc j)
   pub below : (i j : ℕ) → P i j → j < i → Each (λ k. P (max i k) (min i k)) (desc j)
@@ -88,7 +88,7 @@ run-each A r s S (e ∷ es) h =
 
 -- ---- closed sets
 -- What each entry of a closed set has if those that it is made of have it, all have: by induction down the columns
-module _ {W : Type 0} (n : ℕ) (desc : ℕ → List (Entry W)) (P : ℕ → ℕ → Type 0) (closed : Closed n desc P) (G : ℕ → ℕ → Type 0)
+module _ {W : Type 0} (n : ℕ) (desc : ℕ → List (Entry W)) (P : ℕ → ℕ → Type 0) (closed : RecurrenceClosed n desc P) (G : ℕ → ℕ → Type 0)
     (below : (i j : ℕ) → P i j → j < i → Each (λ k. G (max i k) (min i k)) (desc j) → G i j)
     (diagonal : (j : ℕ) → P j j → Each (λ k. G k j) (desc j) → G j j) where
   step : (i j : ℕ) → P i j → j < i → ((a c : ℕ) → j < c → P a c → G a c) → G i j
@@ -127,7 +127,7 @@ module _ {W : Type 0} (n : ℕ) (desc : ℕ → List (Entry W)) (P : ℕ → ℕ
       more n j = omega arith
 
 -- the whole lower triangle is closed
-pub lower-closed : {W : Type 0} (n : ℕ) (desc : ℕ → List (Entry W)) → ((j : ℕ) → j < n → Rows n j (desc j)) → Closed n desc (Lower n)
+pub lower-closed : {W : Type 0} (n : ℕ) (desc : ℕ → List (Entry W)) → ((j : ℕ) → j < n → Rows n j (desc j)) → RecurrenceClosed n desc (Lower n)
 lower-closed n desc rows = record {
   inside = λ i j p. p;
   rows = λ i j p. rows j (column i j (p .0) (p .1));
@@ -242,7 +242,7 @@ module _ (A : Arithmetic) (off on : A .Carrier → A .Carrier → A .Carrier) (d
   solves-part P Q Z f s = record { below-is = λ i j p ji. s .below-is i j (f i j p) ji; diagonal-is = λ j p. s .diagonal-is j (f j j p) }
 
   -- on a closed set there is one solution
-  pub solves-unique : (n : ℕ) (P : ℕ → ℕ → Type 0) (Z Z' : ℕ → ℕ → A .Carrier) → Closed n desc P
+  pub solves-unique : (n : ℕ) (P : ℕ → ℕ → Type 0) (Z Z' : ℕ → ℕ → A .Carrier) → RecurrenceClosed n desc P
       → Solves A off on diag desc P Z → Solves A off on diag desc P Z' → (i j : ℕ) → P i j → Z i j ≡ Z' i j
   solves-unique n P Z Z' closed s s' =
       closed-induction n desc P closed (λ i j. Z i j ≡ Z' i j)

@@ -41,8 +41,8 @@ close-queue-requires c κs =
       factor = s .pre .factor;
       entered = s .pre .entered;
       stopped = s .pre .stopped;
-      firsts-fit = omega (arith, s .pre .small);
-      ends-fit = omega (arith, s .pre .small);
+      spanStarts-fit = omega (arith, s .pre .small);
+      spanEnds-fit = omega (arith, s .pre .small);
       unset = λ a l. getD-replicate {A = ℕ} maxDimension a 0 0 (omega (arith, s .pre .small));
       marked = s .pre .marked;
       low = p .before .if1 .left;

@@ -4,7 +4,7 @@ use mathlib.Core.Path.{_≡_, refl, subst, _∙_}
 use lib.ListN.{length}
 use denote.Ref.{now}
 use borrow.Author.Needs.{needs}
-use Rattle.column_sums.specs.Lower.{Passed, Lowered, lower-entry, lowered-none, passed-more, lowered-more}
+use Rattle.column_sums.specs.Lower.{RowsBefore, ProductsAdded, lower-entry, lowered-none, passed-more, lowered-more}
 use Rattle.column_sums.proofs.add_products.Statement.{statement}
 use Rattle.column_sums.proofs.add_products.Tie as tie
 
@@ -15,8 +15,8 @@ Inv-loop n pairs j first last s e rows values entry-rows scratch inverse₀ q₀
     × (p ≤ e)
     × (first ≤ q)
     × (q ≤ last)
-    × Passed first q p e rows entry-rows
-    × Lowered n j first last s p rows values entry-rows scratch inverse₀ inverse
+    × RowsBefore first q p e rows entry-rows
+    × ProductsAdded n j first last s p rows values entry-rows scratch inverse₀ inverse
 
 abbrev μ-loop : tie.MeasureT-loop
 μ-loop n pairs j first last s e rows values entry-rows scratch inverse₀ q₀ p₀ inverse q p = e - p
@@ -67,7 +67,7 @@ returns c =
     let l = c .before .loop in
     let a = begin (c .before) .args in
     let e : l .p ≡ a .e = omega (arith, c .loop-test .left, l .inv .2) in
-    subst (λ (k : ℕ). Lowered (a .n) (a .j) (a .first) (a .last) (a .s) k (now (a .rows)) (now (a .values)) (now (a .entry-rows)) (now (a .scratch)) (now (a .inverse)) (l .inverse)) e
+    subst (λ (k : ℕ). ProductsAdded (a .n) (a .j) (a .first) (a .last) (a .s) k (now (a .rows)) (now (a .values)) (now (a .entry-rows)) (now (a .scratch)) (now (a .inverse)) (l .inverse)) e
     (l .inv .6)
 
 pub add-products-spec : {M : Type 1} → statement M

@@ -1,4 +1,4 @@
-use Rattle.factor_route.specs.Route.{AtRest, Done, route-none, route-turn, route-next, route-end, route-input}
+use Rattle.factor_route.specs.Route.{WorkRows, Done, route-none, route-turn, route-next, route-end, route-input}
 use Rattle.scatter.specs.Marks.{empties-is}
 use borrow.Author.Needs.{needs}
 use native.Mathlib.Omega.{arith}
@@ -11,7 +11,7 @@ use Rattle.factor_route.proofs.takahashi_selected_inverse_on_factor_pat
 
 abbrev Inv-loop : tie.InvT-loop
 Inv-loop n starts rows values entry-starts entry-rows entry-values₀ marker₀ weights₀ sums₀ j₀ entry-values marker weights sums j =
-    (j ≤ n) × AtRest marker weights sums × Done n starts rows values entry-starts entry-rows entry-values₀ j entry-values
+    (j ≤ n) × WorkRows marker weights sums × Done n starts rows values entry-starts entry-rows entry-values₀ j entry-values
 
 abbrev μ-loop : tie.MeasureT-loop
 μ-loop n starts rows values entry-starts entry-rows entry-values₀ marker₀ weights₀ sums₀ j₀ entry-values marker weights sums j = j

@@ -6,17 +6,17 @@ use denote.Ref.{now}
 use borrow.Author.Needs.{needs}
 use Rattle.pairs.specs.Pair.{maxPairs, pairTotal-small}
 use Rattle.pairs.specs.ColumnOrder.{colStart, colStart-none, colStart-next, colStart-mono, colStart-total}
-use Rattle.layout.specs.Layout.{ColumnsLaid, columns-none, columns-few, columns-room, columns-listed, columns-more, columns-end}
+use Rattle.layout.specs.Layout.{ColumnsLaid, columns-none, columns-few, columns-room, columns-reached, columns-more, columns-end}
 use Rattle.layout.proofs.lay_out.Statement.{statement}
 use Rattle.layout.proofs.lay_out.Tie as tie
 
 abbrev Inv-loop : tie.InvT-loop
-Inv-loop n listed starts₀ rows₀ scratch₀ pairs count₀ place₀ c₀ starts rows scratch count place c =
+Inv-loop n reached starts₀ rows₀ scratch₀ pairs count₀ place₀ c₀ starts rows scratch count place c =
     (length starts ≡ length starts₀) × (length rows ≡ length rows₀) × (length scratch ≡ length scratch₀) × (c ≤ n) × (place ≡ colStart n c)
     × ColumnsLaid n c starts₀ rows₀ scratch₀ starts rows scratch count
 
 abbrev μ-loop : tie.MeasureT-loop
-μ-loop n listed starts₀ rows₀ scratch₀ pairs count₀ place₀ c₀ starts rows scratch count place c = n - c
+μ-loop n reached starts₀ rows₀ scratch₀ pairs count₀ place₀ c₀ starts rows scratch count place c = n - c
 
 abbrev start : tie.At-loop Inv-loop μ-loop → tie.Start Inv-loop μ-loop
 start q = q .before .before .before .before .before .before
@@ -49,15 +49,15 @@ mul-starts c = search needs
 slice-write-starts : tie.Need-slice-write-starts Inv-loop μ-loop
 slice-write-starts c = search needs
 
-lay-listed-column-requires : tie.Need-lay-listed-column-requires Inv-loop μ-loop
-lay-listed-column-requires c κs =
+lay-reached-column-requires : tie.Need-lay-reached-column-requires Inv-loop μ-loop
+lay-reached-column-requires c κs =
     let t = c .before .before in
     let q = t .before in
     let s = start q in
     let l = q .loop in (
       columns-room (s .pre .0) (l .inv .5) _ _ (q .before .pair-total .ensures .0) (l .inv .4) (t .loop-test .taken) (l .inv .1),
       omega (arith, s .pre .1, t .loop-test .taken),
-      columns-listed (s .pre .0) (l .inv .5) (now (s .args .listed)) (s .pre .2),
+      columns-reached (s .pre .0) (l .inv .5) (now (s .args .reached)) (s .pre .2),
     )
 
 sub-place : tie.Need-sub-place Inv-loop μ-loop
@@ -83,11 +83,11 @@ loop-again c =
     let l = t .before .loop in
     let s = start (t .before) in (
       length-set (l .starts) (l .c) _ ∙ l .inv .0,
-      v .lay-listed-column .kept .1 .1 .1 .1 .1 .1 .0 ∙ l .inv .1,
-      v .lay-listed-column .kept .1 .1 .1 .1 .1 .1 .1 .0 ∙ l .inv .2,
+      v .lay-reached-column .kept .1 .1 .1 .1 .1 .1 .0 ∙ l .inv .1,
+      v .lay-reached-column .kept .1 .1 .1 .1 .1 .1 .1 .0 ∙ l .inv .2,
       omega (arith, t .loop-test .taken),
       next t,
-      columns-more (s .pre .0) (l .inv .5) (t .loop-test .taken) (v .lay-listed-column .ensures),
+      columns-more (s .pre .0) (l .inv .5) (t .loop-test .taken) (v .lay-reached-column .ensures),
     )
 
 cast-starts-2 : tie.Need-cast-starts-2 Inv-loop μ-loop
@@ -124,7 +124,7 @@ lay-out-spec =
     cast-starts
     mul-starts
     slice-write-starts
-    lay-listed-column-requires
+    lay-reached-column-requires
     sub-place
     add-place
     add-c

@@ -5,7 +5,7 @@ use borrow.Author.Tests.{lt-ltb, le-ltb}
 use Rattle.refusal.specs.Steps.{first-hit, first-skip, append-refused, append-passed}
 use Rattle.refusal.specs.Refusal.{replyOf}
 use Rattle.columns.specs.Operator.{operatorBoundSteps, operatorSteps}
-use Rattle.pattern_lists.specs.Pattern.{operatorChecks}
+use Rattle.pattern_lists.specs.PatternCalls.{operatorChecks}
 use Rattle.pattern_lists.proofs.check_operator.Statement.{statement}
 use Rattle.pattern_lists.proofs.check_operator.Tie as tie
 

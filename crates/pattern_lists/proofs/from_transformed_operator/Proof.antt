@@ -5,7 +5,7 @@ use denote.Ref.{now}
 use borrow.Author.Needs.{needs}
 use Rattle.refusal.specs.Steps.{Passed}
 use Rattle.refusal.specs.Refusal.{replyOf}
-use Rattle.pattern_lists.specs.Pattern.{operatorChecks}
+use Rattle.pattern_lists.specs.PatternCalls.{operatorChecks}
 use Rattle.pattern_lists.specs.Laws.{operatorChecks-sound, operatorChecks-small}
 use Rattle.pattern_lists.proofs.Pattern.{lists-refused, lists-passed}
 use Rattle.pattern_lists.proofs.from_transformed_operator.Statement.{statement}

@@ -19,13 +19,13 @@ returns c =
     let a = c .before .before in
     let s = a .before .before .before .args in
     c .at2 .ensures
-    ∙ sym (ap (λ (b : Bool). cond b (getD (now (s .ends)) (s .c) 0) (s .head)) (eq-eqb _ _ (sym (a .at .ensures) ∙ c .before .if1 .taken)))
+    ∙ sym (ap (λ (b : Bool). cond b (getD (now (s .span-ends)) (s .c) 0) (s .head)) (eq-eqb _ _ (sym (a .at .ensures) ∙ c .before .if1 .taken)))
 
 returns-2 : tie.Need-returns-2
 returns-2 c =
     let a = c .before in
     let s = a .before .before .before .args in
-    sym (ap (λ (b : Bool). cond b (getD (now (s .ends)) (s .c) 0) (s .head)) (ne-eqb _ _ (λ q. c .if1 .left (a .at .ensures ∙ q))))
+    sym (ap (λ (b : Bool). cond b (getD (now (s .span-ends)) (s .c) 0) (s .head)) (ne-eqb _ _ (λ q. c .if1 .left (a .at .ensures ∙ q))))
 
 pub after-span-spec : {M : Type 1} → statement M
 after-span-spec = tie.close (tie.spec at-requires at-requires-2 returns returns-2)

@@ -1,5 +1,5 @@
 use mathlib.Core.Bool.{true}
-use Rattle.closure.proofs.QueueLaws.{Ready, Column, ready-none, ready-skip, ready-next, column-done, column-serving}
+use Rattle.closure.proofs.QueueLaws.{QueueLoop, QueueColumn, ready-none, ready-skip, ready-next, column-done, column-serving}
 use Rattle.closure.proofs.QueueLaws.{serving-more, head-words, head-pairs, word-starts, word-inside, word-end, word-most}
 use Rattle.closure.proofs.QueueLaws.{column-none, column-skip, column-more, entry-rows, entry-values, entry-insert, finished, finished-past, above-dropped, zero-dropped, entry-kept}
 use Rattle.marked_pairs.specs.MarkedPairs.{columnOf}
@@ -16,24 +16,24 @@ use Rattle.closure.proofs.queue.close_queue.Statement.{statement}
 use Rattle.closure.proofs.queue.close_queue.Tie as tie
 
 abbrev Inv-column : tie.InvT-column
-Inv-column n pairs starts rows values limit first stops firsts ends scratch₀ count₀ head w r c next before stop end p₀ scratch count p =
-    (length scratch ≡ length scratch₀) × Column n starts rows (nonzero values) limit scratch₀ count₀ head w scratch count p
+Inv-column n pairs starts rows values limit first stops spanStarts spanEnds scratch₀ count₀ head w r c next before stop end p₀ scratch count p =
+    (length scratch ≡ length scratch₀) × QueueColumn n starts rows (nonzero values) limit scratch₀ count₀ head w scratch count p
 
 abbrev μ-column : tie.MeasureT-column
-μ-column n pairs starts rows values limit first stops firsts ends scratch₀ count₀ head w r c next before stop end p₀ scratch count p = end - p
+μ-column n pairs starts rows values limit first stops spanStarts spanEnds scratch₀ count₀ head w r c next before stop end p₀ scratch count p = end - p
 
 abbrev Inv-queue : tie.InvT-queue
-Inv-queue n pairs starts rows values limit first stops₀ firsts₀ ends₀ scratch₀ count₀ head₀ stops firsts ends scratch count head =
+Inv-queue n pairs starts rows values limit first stops₀ spanStarts₀ spanEnds₀ scratch₀ count₀ head₀ stops spanStarts spanEnds scratch count head =
     (length scratch ≡ length scratch₀)
     × (count ≤ limit)
-    × Ready n starts rows (nonzero values) limit scratch₀ first stops firsts ends scratch head count
+    × QueueLoop n starts rows (nonzero values) limit scratch₀ first stops spanStarts spanEnds scratch head count
     × (length stops ≡ length stops₀)
     × Stops n starts rows (nonzero values) stops
-    × (length firsts ≡ length firsts₀)
-    × (length ends ≡ length ends₀)
+    × (length spanStarts ≡ length spanStarts₀)
+    × (length spanEnds ≡ length spanEnds₀)
 
 abbrev μ-queue : tie.MeasureT-queue
-μ-queue n pairs starts rows values limit first stops₀ firsts₀ ends₀ scratch₀ count₀ head₀ stops firsts ends scratch count head = pairs - head
+μ-queue n pairs starts rows values limit first stops₀ spanStarts₀ spanEnds₀ scratch₀ count₀ head₀ stops spanStarts spanEnds scratch count head = pairs - head
 
 -- ---- places of the code
 
@@ -127,7 +127,7 @@ after-span-requires : tie.Need-after-span-requires Inv-column μ-column Inv-queu
 after-span-requires c κs =
     let a = c .before .before in
     let l = in-factor a in
-    (omega (arith, queue a .queue .inv .2 .firsts-fit), omega (arith, queue a .queue .inv .2 .ends-fit))
+    (omega (arith, queue a .queue .inv .2 .spanStarts-fit), omega (arith, queue a .queue .inv .2 .spanEnds-fit))
 
 queue-less : tie.Need-queue-less Inv-column μ-column Inv-queue μ-queue
 queue-less c =
@@ -150,7 +150,7 @@ find-stop-requires : tie.Need-find-stop-requires Inv-column μ-column Inv-queue 
 find-stop-requires c κs =
     let a = c .before .before .before .before .before in
     let q = queue a in
-    record { factor = begin q .pre .factor; inside = in-factor a; listed = q .queue .inv .4 }
+    record { factor = begin q .pre .factor; inside = in-factor a; reached = q .queue .inv .4 }
 
 column-end-requires : tie.Need-column-end-requires Inv-column μ-column Inv-queue μ-queue
 column-end-requires c κs =
@@ -263,7 +263,7 @@ queue-again-2 c =
     let f = found k .find-stop .ensures in
     let E = e .end-column .ensures in
     let R = ready-next (nonzero (now (s .args .values))) (s .pre) (I .2) (k .column .inv .1) f (k .before .before .column-end .ensures) (omega arith) E in
-    (R .serving .grown .long, c .if5 .left, R, f .long ∙ I .3, f .listed, e .end-column .kept .1 .1 .1 .1 .1 .1 .1 .1 .0 ∙ I .5, e .end-column .kept .1 .1 .1 .1 .1 .1 .1 .1 .1 .0 ∙ I .6)
+    (R .serving .grown .long, c .if5 .left, R, f .long ∙ I .3, f .reached, e .end-column .kept .1 .1 .1 .1 .1 .1 .1 .1 .0 ∙ I .5, e .end-column .kept .1 .1 .1 .1 .1 .1 .1 .1 .1 .0 ∙ I .6)
 
 same-length : tie.Need-same-length Inv-column μ-column Inv-queue μ-queue
 same-length c = c .before .queue .inv .3
@@ -282,7 +282,7 @@ returns c =
     let q = c .before in
     let s = begin q in
     let R = q .queue .inv .2 in
-    finished (nonzero (now (s .args .values))) (s .pre) (R .serving) (R .listed) (c .queue-test .left)
+    finished (nonzero (now (s .args .values))) (s .pre) (R .serving) (R .reached) (c .queue-test .left)
 
 same-length-5 : tie.Need-same-length-5 Inv-column μ-column Inv-queue μ-queue
 same-length-5 c =

@@ -35,23 +35,23 @@ at-requires c κs = search needs
 returns-2 : tie.Need-returns-2
 returns-2 c = inl (λ q. omega (arith, c .before .at .ensures, c .if2 .taken), refl, refl, refl, refl)
 
-cast-firsts : tie.Need-cast-firsts
-cast-firsts c = omega (arith, few c, begin c .pre .order)
+cast-span-starts : tie.Need-cast-span-starts
+cast-span-starts c = omega (arith, few c, begin c .pre .order)
 
-mul-firsts : tie.Need-mul-firsts
-mul-firsts c = search needs
+mul-span-starts : tie.Need-mul-span-starts
+mul-span-starts c = search needs
 
-slice-write-firsts : tie.Need-slice-write-firsts
-slice-write-firsts c = search needs
+slice-write-span-starts : tie.Need-slice-write-span-starts
+slice-write-span-starts c = search needs
 
-cast-ends : tie.Need-cast-ends
-cast-ends c = omega (arith, few c)
+cast-span-ends : tie.Need-cast-span-ends
+cast-span-ends c = omega (arith, few c)
 
-mul-ends : tie.Need-mul-ends
-mul-ends c = search needs
+mul-span-ends : tie.Need-mul-span-ends
+mul-span-ends c = search needs
 
-slice-write-ends : tie.Need-slice-write-ends
-slice-write-ends c = search needs
+slice-write-span-ends : tie.Need-slice-write-span-ends
+slice-write-span-ends c = search needs
 
 sub-at : tie.Need-sub-at
 sub-at c = omega (arith, begin c .pre .after (early c))
@@ -95,12 +95,12 @@ end-column-spec =
     add-at
     at-requires
     returns-2
-    cast-firsts
-    mul-firsts
-    slice-write-firsts
-    cast-ends
-    mul-ends
-    slice-write-ends
+    cast-span-starts
+    mul-span-starts
+    slice-write-span-starts
+    cast-span-ends
+    mul-span-ends
+    slice-write-span-ends
     sub-at
     at-requires-2
     insert-closure-pair-requires

@@ -19,11 +19,11 @@ returns : tie.Need-returns
 returns c =
     let z = c .before .before .before .before .before .before .before in
     let e = c .before .at .ensures in
-    let S = z .pre .listed in
+    let S = z .pre .reached in
     let T = S .stop (z .args .c) (z .pre .inside) (omega (arith, e, c .if1 .taken)) in
     record {
       long = refl;
-      listed = S;
+      reached = S;
       kept = λ a h. h;
       here = λ h. omega (arith, e, c .if1 .taken);
       stop = subst (λ (k : ℕ). Stop (now (z .args .starts)) (now (z .args .rows)) (nonzero (now (z .args .values))) (z .args .c) k) (sym e) T;
@@ -47,7 +47,7 @@ same-length-2 c = search needs
 returns-2 : tie.Need-returns-2
 returns-2 c =
     let z = c .before .before .before .before .before .before .before .before in
-    stop-found (z .pre .inside) (z .pre .listed) (omega (arith, c .before .before .at .ensures, c .before .if1 .left)) (c .column-stop .ensures)
+    stop-found (z .pre .inside) (z .pre .reached) (omega (arith, c .before .before .at .ensures, c .before .if1 .left)) (c .column-stop .ensures)
 
 pub find-stop-spec : {M : Type 1} → statement M
 find-stop-spec =

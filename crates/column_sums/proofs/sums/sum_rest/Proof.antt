@@ -8,8 +8,8 @@ use borrow.Author.Needs.{needs}
 use native.Mathlib.Omega.{arith}
 use Rattle.pairs.specs.ColumnOrder.{colStart}
 use Rattle.columns.specs.Columns.{row}
-use Rattle.layout.specs.Position.{positionWord, shift-fits}
-use Rattle.column_sums.specs.Rest.{RunRoom, Summed, runPositions, rest-word, rest-position, rest-order, rows-room, rows-summed, run-room, run-summed}
+use Rattle.layout.specs.Position.{positionOf, shift-fits}
+use Rattle.column_sums.specs.Rest.{RestRunRoom, Summed, runPositions, rest-word, rest-position, rest-order, rows-room, rows-summed, run-room, run-summed}
 use Rattle.column_sums.proofs.sums.sum_rest.Statement.{statement}
 use Rattle.column_sums.proofs.sums.sum_rest.Tie as tie
 
@@ -73,7 +73,7 @@ at-requires-4 c κs = last-word c
 
 -- the positions that they hold
 abbrev at-of : tie.Start → ℕ → ℕ
-at-of s p = let a = s .args in positionWord (a .n) (now (a .scratch)) (a .i) (row (now (a .rows)) p)
+at-of s p = let a = s .args in positionOf (a .n) (now (a .scratch)) (a .i) (row (now (a .rows)) p)
 
 first-is : (c : tie.After-at4) → let s = begin (c .before .before .before .before .before) in c .before .before .at2 .result ≡ at-of s (s .args .first)
 first-is c =
@@ -113,7 +113,7 @@ sum-run-requires : tie.Need-sum-run-requires
 sum-run-requires c κs =
     let t = c .before .before .before .before .before .before in
     let s = begin t in
-    subst (λ (k : ℕ). RunRoom (s .args .first) (s .args .e) k (length (now (s .args .values))) (length (now (s .args .inverse)))) (sym (first-is (c .before)))
+    subst (λ (k : ℕ). RestRunRoom (s .args .first) (s .args .e) k (length (now (s .args .values))) (length (now (s .args .inverse)))) (sym (first-is (c .before)))
     (run-room (s .pre) (none t) (ends c))
 
 returns : tie.Need-returns

@@ -4,13 +4,13 @@ use mathlib.Core.Path.{_≡_, refl, sym, ap, subst, _∙_}
 use lib.ListN.{length, getD}
 use denote.Ref.{now}
 use borrow.Author.Needs.{needs}
-use Rattle.pattern_lists.specs.Listing.{Listed, listed-none, listed-more, listed-room}
+use Rattle.pattern_lists.specs.Listing.{PairsListed, listed-none, listed-more, listed-room}
 use Rattle.pattern_lists.proofs.marks.list_pairs.Statement.{statement}
 use Rattle.pattern_lists.proofs.marks.list_pairs.Tie as tie
 
 abbrev Inv-loop : tie.InvT-loop
 Inv-loop n marks rows₀ columns₀ count₀ r₀ rows columns count r =
-    (length rows ≡ length rows₀) × (length columns ≡ length columns₀) × (r ≤ n) × Listed marks r rows₀ columns₀ rows columns count
+    (length rows ≡ length rows₀) × (length columns ≡ length columns₀) × (r ≤ n) × PairsListed marks r rows₀ columns₀ rows columns count
 
 abbrev μ-loop : tie.MeasureT-loop
 μ-loop n marks rows₀ columns₀ count₀ r₀ rows columns count r = n - r
@@ -59,7 +59,7 @@ returns c =
     let l = c .before .loop in
     let s = start (c .before) in
     let e : l .r ≡ s .args .n = omega (arith, c .loop-test .left, l .inv .2) in
-    subst (λ (k : ℕ). Listed (now (s .args .marks)) k (now (s .args .rows)) (now (s .args .columns)) (l .rows) (l .columns) (l .count)) e (l .inv .3)
+    subst (λ (k : ℕ). PairsListed (now (s .args .marks)) k (now (s .args .rows)) (now (s .args .columns)) (l .rows) (l .columns) (l .count)) e (l .inv .3)
 
 pub list-pairs-spec : {M : Type 1} → statement M
 list-pairs-spec =

@@ -6,12 +6,12 @@ use lib.ListN.{length, getD}
 use denote.Ref.{now}
 use borrow.Author.Needs.{needs}
 use Rattle.pairs.specs.Pair.{rowPlace}
-use Rattle.pairs.specs.Marks.{Added, Spot, single, added-pair, marks-most, countWith, wordsWith}
+use Rattle.pairs.specs.Marks.{Added, MarkPairInput, single, added-pair, marks-most, countWith, wordsWith}
 use Rattle.pattern_lists.proofs.marks.mark_pair.Statement.{statement}
 use Rattle.pattern_lists.proofs.marks.mark_pair.Tie as tie
 
 -- what the two calls leave
-added : (r c count : ℕ) (s : List ℕ) → Spot r c count s → (p m : ℕ) (s′ : List ℕ) → p ≡ rowPlace r c → m ≡ countWith (getD s p 0) count → s′ ≡ wordsWith (getD s p 0) s p
+added : (r c count : ℕ) (s : List ℕ) → MarkPairInput r c count s → (p m : ℕ) (s′ : List ℕ) → p ≡ rowPlace r c → m ≡ countWith (getD s p 0) count → s′ ≡ wordsWith (getD s p 0) s p
     → Added (single r c) s s′ m
 added r c count s S p m s′ e f g =
     subst₂ (λ (x : List ℕ) (k : ℕ). Added (single r c) s x k)

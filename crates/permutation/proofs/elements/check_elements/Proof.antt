@@ -8,12 +8,12 @@ use denote.Ref.{now}
 use borrow.Author.Needs.{needs}
 use Rattle.refusal.specs.Steps.{each-refused, Passed, each}
 use Rattle.factor_order.specs.Permutation.{index, elementSteps}
-use Rattle.permutation.proofs.ElementLaws.{Looked, looked-none, looked-more, element-large, element-repeated, element-disagrees}
+use Rattle.permutation.proofs.ElementLaws.{ElementsChecked, looked-none, looked-more, element-large, element-repeated, element-disagrees}
 use Rattle.permutation.proofs.elements.check_elements.Statement.{statement}
 use Rattle.permutation.proofs.elements.check_elements.Tie as tie
 
 abbrev Inv-loop : tie.InvT-loop
-Inv-loop orig-to-perm perm-to-orig compared n seen₀ i₀ seen i = (i ≤ length orig-to-perm) × Looked compared orig-to-perm perm-to-orig i seen
+Inv-loop orig-to-perm perm-to-orig compared n seen₀ i₀ seen i = (i ≤ length orig-to-perm) × ElementsChecked compared orig-to-perm perm-to-orig i seen
 
 abbrev μ-loop : tie.MeasureT-loop
 μ-loop orig-to-perm perm-to-orig compared n seen₀ i₀ seen i = length orig-to-perm - i

@@ -9,7 +9,7 @@ use native.Mathlib.Omega.{arith}
 use lib.ListN.{length, getD}
 use Rattle.refusal.specs.Bounds.{maxDimension}
 use Rattle.takahashi.specs.Recurrence.{Entry, Rows}
-use Rattle.scatter.specs.Scatter.{rowAt, Pattern, Laid}
+use Rattle.scatter.specs.Scatter.{rowAt, ClosedPattern, Laid}
 
 module _ {W : Type 0} (none : W) where
   -- the rows of a column, its own first
@@ -24,7 +24,7 @@ module _ {W : Type 0} (none : W) where
       w : (m : ℕ) → 0 < suc m
       w m = omega arith
 
-  module _ (n : ℕ) (desc : ℕ → List (Entry W)) (P : Pattern none n desc) where
+  module _ (n : ℕ) (desc : ℕ → List (Entry W)) (P : ClosedPattern none n desc) where
     pub pattern-rows : (j : ℕ) → j < n → Rows n j (desc j)
     pattern-rows j jn = rows-of n j (desc j) (λ p h. (P .under j p jn h, P .fits j p jn h))
 

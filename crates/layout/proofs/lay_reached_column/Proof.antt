@@ -1,9 +1,9 @@
 use native.Mathlib.Omega.{arith}
 use denote.Ref.{now}
 use borrow.Author.Needs.{needs}
-use Rattle.layout.specs.Layout.{column-unlisted}
-use Rattle.layout.proofs.lay_listed_column.Statement.{statement}
-use Rattle.layout.proofs.lay_listed_column.Tie as tie
+use Rattle.layout.specs.Layout.{column-unreached}
+use Rattle.layout.proofs.lay_reached_column.Statement.{statement}
+use Rattle.layout.proofs.lay_reached_column.Tie as tie
 
 at-requires : tie.Need-at-requires
 at-requires c κs = search needs
@@ -11,7 +11,7 @@ at-requires c κs = search needs
 returns : tie.Need-returns
 returns c =
     let s = c .before .before .before .before .before in
-    column-unlisted (now (s .args .listed)) (s .pre .0 .room .inside) (s .pre .2) (omega (arith, c .before .at .ensures, c .if1 .taken))
+    column-unreached (now (s .args .reached)) (s .pre .0 .room .inside) (s .pre .2) (omega (arith, c .before .at .ensures, c .if1 .taken))
 
 lay-column-requires : tie.Need-lay-column-requires
 lay-column-requires c κs = c .before .before .before .before .before .before .before .pre .0
@@ -25,7 +25,7 @@ same-length-2 c = search needs
 returns-2 : tie.Need-returns-2
 returns-2 c = search needs
 
-pub lay-listed-column-spec : {M : Type 1} → statement M
-lay-listed-column-spec =
+pub lay-reached-column-spec : {M : Type 1} → statement M
+lay-reached-column-spec =
     tie.close
     (tie.spec at-requires returns lay-column-requires same-length same-length-2 returns-2)

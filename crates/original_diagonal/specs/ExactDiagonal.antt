@@ -25,7 +25,7 @@ use Rattle.diagnostics.specs.declared.SelectedInverseStatus.the-variants.{Compl
 use Rattle.selection.specs.Selection.{Lent, roomOf, selectedComplete, selectedAnswer, selectedTable, ResultLists}
 use Rattle.selection.specs.Status.{selected-complete}
 use Rattle.exact_entries.specs.ExactEntries.{ExactCall, ReadsBack, exact-entries, exact-at}
-use Rattle.request_marks.specs.Diagonals.{diagonal-requested}
+use Rattle.request_marks.specs.DiagonalMarks.{diagonal-requested}
 use Rattle.original_diagonal.specs.Original.{OriginalCall, originalSelection, originalSteps, coveredSteps, factorDiagonal, originalAfter}
 use Rattle.original_diagonal.specs.Original.{AcceptedOriginal, original-accepted}
 
