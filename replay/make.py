@@ -4,9 +4,9 @@
     replay/make.py PROGRAMS                            writes both files and prints the counts
     replay/make.py PROGRAMS --compare REPLAY [SEED]    runs the program REPLAY on every case that it can hold
 
-PROGRAMS is the folder with the programs `generate`, which writes cases, and `oracle`, which answers
-them by the Rust's functions; both are built from the Rust that NOTICE names. See replay/README.md
-for the text form.
+PROGRAMS is bindings/oracle/target/release, the folder with the programs `generate`, which writes cases,
+and `oracle`, which answers them by the Rust's functions; bindings/oracle/README.md says how to build
+them. See replay/README.md for the text form.
 
 First come the cases of replay/cases.txt, all of them, then those taken from the sets below in this
 order. Which are taken is fixed: each set is grouped by kind and answer; every group gives its share
@@ -22,9 +22,7 @@ What the answers file holds is the Rust's answer with these changes:
 - the lists lent for writing are whole: what the Rust gives stands in front, and the rest is what
   document 01 says is left;
 - of `least`, two zeros count as equal, and document 01's is written;
-- `route`, `nanbits`, `finish`, `whole`, and a diagonal's `negative` and `least`, which a call does
-  not tell, are left out. `opvar` is answered without `SparseRowOperator::new`, which refuses weights
-  that document 01 accepts.
+- `route` and `finish`, which a call does not tell, are left out.
 """
 import collections, itertools, math, os, struct, subprocess, sys
 
@@ -765,7 +763,18 @@ def compare(programs, program, *seed):
     put_differences(found)
 
 
+def check_programs(programs):
+    if not all(os.path.isfile(os.path.join(programs, name)) for name in ("generate", "oracle")):
+        sys.exit(
+            "%s has no programs generate and oracle: bash bindings/oracle/build.sh FOLDER builds them into\n"
+            "bindings/oracle/target/release; FOLDER has the Rust's files that bindings/oracle/sources.txt names"
+            % programs
+        )
+
+
 def main():
+    if len(sys.argv) > 1:
+        check_programs(sys.argv[1])
     if len(sys.argv) == 2:
         write_list(sys.argv[1])
     elif len(sys.argv) in (4, 5) and sys.argv[2] == "--compare":

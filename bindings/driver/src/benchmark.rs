@@ -101,10 +101,9 @@ fn row(folder: &Path, case: &Block, runs: usize) -> io::Result<Row> {
     }
     let (mut ours, mut clearing, mut rust) = (Vec::new(), Vec::new(), Vec::new());
     for _ in 0..ROUNDS {
-        // id kind status closure route median least
-        let timed = String::from_utf8_lossy(&oracle(folder, &["timecases", &runs.to_string()], &text)?).into_owned();
-        let line = timed.lines().find(|l| l.starts_with(&case.name)).unwrap_or("");
-        let time = line.split(' ').nth(5).and_then(|x| x.parse().ok());
+        // the case's name, and the median
+        let timed = String::from_utf8_lossy(&oracle(folder, &["time", &runs.to_string()], &text)?).into_owned();
+        let time = timed.trim_end().rsplit(' ').next().and_then(|x| x.parse().ok());
         rust.push(time.ok_or_else(|| io::Error::other(format!("{}: no time in {timed}", case.name)))?);
         let mut call = lent(call_of(case));
         ours.push(median_ms(&mut call, runs));

@@ -29,13 +29,16 @@ const RULES_DIMENSION: usize = 64;
 /// So many unexpected differences are written out.
 const SHOWN: usize = 20;
 
-/// Whether the folder has the oracle's programs; says so where it has not.
-pub fn oracle_is_there(folder: &Path) -> bool {
-    let there = folder.join("oracle").is_file() && folder.join("generate").is_file();
-    if !there {
-        println!("no programs `oracle` and `generate` in {}: the replayed lists stand alone", folder.display());
+/// An error that says what is needed where the folder has not the oracle's programs.
+pub fn oracle_is_there(folder: &Path) -> io::Result<()> {
+    if folder.join("generate").is_file() && folder.join("oracle").is_file() {
+        return Ok(());
     }
-    there
+    Err(io::Error::other(format!(
+        "{} has no programs `generate` and `oracle`. `bash bindings/oracle/build.sh FOLDER` builds them into \
+         bindings/oracle/target/release; FOLDER has the Rust's files that bindings/oracle/sources.txt names",
+        folder.display()
+    )))
 }
 
 /// The number of differences that are not document 01's.

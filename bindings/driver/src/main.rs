@@ -26,7 +26,7 @@ const USAGE: &str = "usage:
                                                    with --bare no guard words stand around the lists
   driver benchmark ORACLE_FOLDER [RUNS]            medians of RUNS runs, 15 where none is given
   driver profile ORACLE_FOLDER CASE RUNS           one case of the benchmark alone, for a profiler
-ORACLE_FOLDER has the programs `oracle` and `generate`.";
+ORACLE_FOLDER has the programs `generate` and `oracle` of bindings/oracle.";
 
 fn main() -> ExitCode {
     let args: Vec<String> = std::env::args().skip(1).collect();
@@ -47,10 +47,12 @@ fn main() -> ExitCode {
 
 /// The number of differences; None where the arguments are not understood.
 fn run(words: &[&str]) -> Option<std::io::Result<usize>> {
-    match words {
-        ["compare" | "benchmark" | "profile", folder, ..] if !compare::oracle_is_there(Path::new(folder)) => {
-            Some(Ok(0))
+    if let ["compare" | "benchmark" | "profile", folder, ..] = words {
+        if let Err(error) = compare::oracle_is_there(Path::new(folder)) {
+            return Some(Err(error));
         }
+    }
+    match words {
         ["compare", folder, "--huge"] => Some(compare::compare(Path::new(folder), &[], true)),
         ["compare", folder, seeds @ ..] => {
             let seeds: Vec<u64> = seeds.iter().map(|s| s.parse().ok()).collect::<Option<_>>()?;
