@@ -36,7 +36,7 @@ def stem(name):
 
 
 def read(arguments):
-    """The texts of the three files by stem, from the one folder that is given; ends the program where that cannot be."""
+    """The texts of the files by stem, from the folder that is given; ends the program where it has not all of them."""
     facts, files = named()
     texts, told = {}, []
     for name, checksum in files.items():

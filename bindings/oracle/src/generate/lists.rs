@@ -197,9 +197,7 @@ fn some_result(random: &mut Random, n: usize) -> ResultLists {
         for _ in 0..random.below(4) {
             rows.push(random.below(5));
         }
-        for _ in 0..random.below(4) {
-            values.push(1.0);
-        }
+        values.resize(values.len() + random.below(4), 1.0);
     }
     ResultLists { starts, rows, values }
 }

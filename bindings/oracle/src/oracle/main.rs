@@ -34,27 +34,33 @@ const USAGE: &str = "usage:
   oracle star               the output of program star
   oracle time RUNS < CASES  of each entries, diagorig or opvar: its name, the median processor time of the call in ms";
 
+/// Whether the answers are as the cases expect; None where the arguments are not understood.
+fn run(words: &[&str]) -> Option<io::Result<bool>> {
+    match words {
+        [] => Some(answers::answer_all()),
+        ["star"] => Some(answers::star().map(|()| true)),
+        ["time", runs] => {
+            let runs = runs.parse().ok().filter(|runs| *runs > 0)?;
+            Some(time::time_all(runs).map(|()| true))
+        }
+        _ => None,
+    }
+}
+
 fn main() -> ExitCode {
     let arguments: Vec<String> = std::env::args().skip(1).collect();
     let words: Vec<&str> = arguments.iter().map(String::as_str).collect();
-    let done = match words[..] {
-        [] => answers::answer_all(),
-        ["star"] => answers::star().map(|()| true),
-        ["time", runs] if runs.parse().is_ok_and(|runs: usize| runs > 0) => {
-            time::time_all(runs.parse().expect("a number")).map(|()| true)
-        }
-        _ => {
-            eprintln!("{USAGE}");
-            return ExitCode::from(2);
-        }
-    };
-    match done {
-        Ok(true) => ExitCode::SUCCESS,
-        Ok(false) => ExitCode::FAILURE,
-        Err(error) if error.kind() == io::ErrorKind::BrokenPipe => ExitCode::SUCCESS,
-        Err(error) => {
+    match run(&words) {
+        Some(Ok(true)) => ExitCode::SUCCESS,
+        Some(Ok(false)) => ExitCode::FAILURE,
+        Some(Err(error)) if error.kind() == io::ErrorKind::BrokenPipe => ExitCode::SUCCESS,
+        Some(Err(error)) => {
             eprintln!("oracle: {error}");
             ExitCode::FAILURE
+        }
+        None => {
+            eprintln!("{USAGE}");
+            ExitCode::from(2)
         }
     }
 }

@@ -1,6 +1,7 @@
 //! The time of the Rust's bare calls.
 
 use super::fed::{self, Stop};
+use super::told;
 use super::*;
 use cases::text::{Case, Cases};
 use std::hint::black_box;
@@ -53,7 +54,7 @@ fn time(case: &Case, runs: usize) -> Result<f64, Stop> {
 /// Reads cases and writes the name of each with the median of so many runs.
 pub fn time_all(runs: usize) -> io::Result<()> {
     for case in Cases::new(io::stdin().lock()) {
-        let median = time(&case, runs).unwrap_or_else(|stop| case.fault(&super::told::stop(&stop)));
+        let median = time(&case, runs).unwrap_or_else(|stop| case.fault(&told::stop(&stop)));
         println!("{} {median:.4}", case.name);
     }
     Ok(())
