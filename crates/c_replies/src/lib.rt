@@ -1,10 +1,11 @@
 // Answers as structs of numbers, laid out as in C: document 01's number of a refusal, 0 for none, beside what the call tells, 0 where it is refused.
 ghost use mathlib.Core.Path.{_≡_};
-ghost use Rattle.selected.specs.Selected.{selectedReplyOf};
+ghost use Rattle.diagnostics.specs.Selected.{selectedReplyOf};
 ghost use Rattle.lookup.specs.Reply.{entryReply};
 ghost use Rattle.pattern_lists.specs.ListedMarks.{listReply};
 ghost use Rattle.floor.specs.Floor.{stabilizedReply};
 ghost use Rattle.c_replies.specs.Numbers.{statusNumber, selectedNumbers, entryNumbers, pairNumbers, floorNumbers, leastNumbers};
+use diagnostics::Selected;
 use diagnostics::SelectedInverseDiagnostics;
 use diagnostics::SelectedInverseStatus;
 use floor::Stabilized;
@@ -12,7 +13,6 @@ use least::CountAndLeast;
 use lookup::ordered::Entry;
 use pattern_lists::listed::PatternPairs;
 use replies::refusal_number;
-use selected::Selected;
 
 // The answer of a call that selects entries.
 #[repr(C)]

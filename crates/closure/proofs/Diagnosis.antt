@@ -5,32 +5,48 @@ use native.Mathlib.Omega.{arith}
 use mathlib.Core.Path.{_≡_, ap, ap₂, _∙_}
 use mathlib.Core.Bool.{Bool}
 use mathlib.Core.List.{List}
+use lib.Dec.{leb}
 use lib.ListN.{length}
 use lib.Ieee.{Float}
+use borrow.Author.Tests.{leb-true, le-leb}
+use Rattle.lists.specs.Test.{same-truth}
 use Rattle.pairs.specs.Pair.{pairTotal-small}
 use Rattle.columns.specs.Kept.{nonzero, pattern, factorPairs}
-use Rattle.closed_set.specs.Size.{closureSize, closureSize-most}
-use Rattle.diagnostics.specs.Diagnosis.{maxCount}
+use Rattle.closed_set.specs.Size.{closureSize, requestedPairs, closureSize-most}
+use Rattle.diagnostics.specs.Diagnosis.{statusOf, maxCount, diagnosis}
 use Rattle.diagnostics.specs.declared.SelectedInverseDiagnostics.{SelectedInverseDiagnostics}
-use Rattle.closure.specs.declared.Closure.{Closure}
-use Rattle.closure.specs.Closure.{ClosureInput, closureOf}
+use Rattle.diagnostics.specs.declared.SelectedInverseStatus.{SelectedInverseStatus}
 use Rattle.closed_set.specs.KeptSet.{factorPairs-most}
-use Rattle.closure.specs.Diagnosis.{diagnosed, diagnosisOf}
+use Rattle.selection.specs.Diagnosis.{closurePairs, diagnosisOf}
+use Rattle.closure.specs.Closure.{ClosureInput, Requested}
+use Rattle.closure.proofs.Answer.{requested-size}
+
+-- whether the count is within the limit tells it of the set
+within-same : (size limit : ℕ) → leb (min size (limit + 1)) limit ≡ leb size limit
+within-same size limit =
+    same-truth (leb (min size (limit + 1)) limit) (leb size limit)
+    (λ e. let h = leb-true (min size (limit + 1)) limit e in le-leb size limit (omega arith))
+    (λ e. let h = leb-true size limit e in le-leb (min size (limit + 1)) limit (omega arith))
 
 module _ {n : ℕ} {starts rows : List ℕ} (values : List Float) {first : ℕ} {stops s : List ℕ} (limit : ℕ)
-    (G : ClosureInput n starts rows (length values) (nonzero values) first stops s) (req : ℕ → ℕ → Bool) {k : Closure} {kept : ℕ} (e : k ≡ closureOf n (pattern starts rows (nonzero values)) req limit)
-    (f : kept ≡ factorPairs starts rows (nonzero values) n) where
+    (G : ClosureInput n starts rows (length values) (nonzero values) first stops s) (req : ℕ → ℕ → Bool) (R : Requested n req s) {count kept : ℕ}
+    (e : count ≡ closurePairs n (pattern starts rows (nonzero values)) req limit) (f : kept ≡ factorPairs starts rows (nonzero values) n) where
   -- they are floats
-  pub counts-small : (k .«closure_pairs» ≤ maxCount) × (kept ≤ maxCount)
-  unfolding closureOf
+  pub counts-small : (count ≤ maxCount) × (kept ≤ maxCount)
   counts-small =
-      let t = pairTotal-small n (G .small) in
-      let size = closureSize n (pattern starts rows (nonzero values)) req in
-      let q : k .«closure_pairs» ≡ min size (limit + 1) = ap (λ (x : Closure). x .«closure_pairs») e in (
-        omega (arith, closureSize-most n (pattern starts rows (nonzero values)) req),
+      let t = pairTotal-small n (G .small) in (
+        omega (arith, e, closureSize-most n (pattern starts rows (nonzero values)) req),
         omega (arith, factorPairs-most (nonzero values) (G .factor .starts-rise) (G .factor .rows-ascend)),
       )
 
-  pub counts-diagnosis : {d : SelectedInverseDiagnostics} → d ≡ diagnosed k kept limit → d ≡ diagnosisOf n starts rows values req limit
+  pub counts-diagnosis : {d : SelectedInverseDiagnostics} {status : SelectedInverseStatus} → status ≡ statusOf (leb count limit)
+      → d ≡ diagnosis first count kept limit status → d ≡ diagnosisOf n starts rows values req limit
   unfolding diagnosisOf
-  counts-diagnosis h = h ∙ ap₂ (λ (x : Closure) (p : ℕ). diagnosed x p limit) e f
+  counts-diagnosis t h =
+      let size = closureSize n (pattern starts rows (nonzero values)) req in
+      let fs = factorPairs starts rows (nonzero values) n in
+      h
+      ∙ ap (diagnosis first count kept limit) t
+      ∙ ap (λ (a : ℕ). diagnosis a count kept limit (statusOf (leb count limit))) (requested-size (nonzero values) limit G req R)
+      ∙ ap₂ (λ (a b : ℕ). diagnosis (requestedPairs n req) a b limit (statusOf (leb a limit))) e f
+      ∙ ap (λ (b : Bool). diagnosis (requestedPairs n req) (min size (limit + 1)) fs limit (statusOf b)) (within-same size limit)

@@ -3,4 +3,3 @@ pub mod Nested
 pub mod Covered
 pub mod Queue
 pub mod Closure
-pub mod Diagnosis

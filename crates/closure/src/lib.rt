@@ -2,10 +2,12 @@
 pub mod queue;
 pub mod stops;
 
+ghost use mathlib.Core.Path.{_≡_};
+ghost use lib.Dec.{leb};
 ghost use lib.ListN.{length};
 ghost use Rattle.columns.specs.Kept.{nonzero, pattern};
-ghost use Rattle.closure.specs.Closure.{ClosureInput, Closes};
-ghost use Rattle.closure.specs.Diagnosis.{Diagnoses};
+ghost use Rattle.diagnostics.specs.Diagnosis.{statusOf};
+ghost use Rattle.closure.specs.Closure.{ClosureInput, Closes, Diagnoses};
 use diagnostics::SelectedInverseDiagnostics;
 use diagnostics::SelectedInverseStatus;
 use diagnostics::selected_inverse_diagnostics;
@@ -14,14 +16,7 @@ use queue::close_queue;
 use refusal::MAX_DIMENSION;
 use scratch::pair_total;
 
-// The counts of a closure: requested pairs; the closed set's pairs, or limit + 1 where it has more; and which of the two.
-pub struct Closure {
-    pub requested_pairs: usize,
-    pub closure_pairs: usize,
-    pub status: SelectedInverseStatus,
-}
-
-// Closes the marked pairs under their dependencies. Leaves the closed set's marks, and its columns' stops, where it is within the limit.
+// Closes the marked pairs under their dependencies; returns how many pairs the closed set has, or limit + 1 where it has more. Leaves the closed set's marks, and its columns' stops, where it is within the limit.
 pub fn takahashi_dependency_closure(
     n: usize,
     starts: &[u32],
@@ -31,24 +26,19 @@ pub fn takahashi_dependency_closure(
     limit: usize,
     stops: &mut [u32],
     scratch: &mut [u32],
-) -> Closure
+) -> usize
     requires { ⌜ ClosureInput n (now starts) (now rows) (length (now values)) (nonzero (now values)) «requested_pairs» (now stops) (now scratch) ⌝ }
     ensures { λ r. ⌜ Closes n (pattern (now (starts .entry)) (now (rows .entry)) (nonzero (now (values .entry)))) limit (now (scratch .entry)) r
         (now (stops .exit)) (now (scratch .exit)) ⌝ }
 {
     if limit < requested_pairs {
-        return Closure {
-            requested_pairs: requested_pairs,
-            closure_pairs: limit + 1,
-            status: SelectedInverseStatus::ClosureTooLarge,
-        };
+        return limit + 1;
     }
     let mut span_starts = [0; MAX_DIMENSION];
     let mut span_ends = [0; MAX_DIMENSION];
-    let pairs = pair_total(n);
-    let count = close_queue(
+    close_queue(
         n,
-        pairs,
+        pair_total(n),
         starts,
         rows,
         values,
@@ -58,19 +48,17 @@ pub fn takahashi_dependency_closure(
         &mut span_starts,
         &mut span_ends,
         scratch,
-    );
+    )
+}
+
+// Complete where the count is within the limit.
+fn status_within(count: usize, limit: usize) -> SelectedInverseStatus
+    ensures { λ s. ⌜ s ≡ statusOf (leb count limit) ⌝ }
+{
     if limit < count {
-        return Closure {
-            requested_pairs: requested_pairs,
-            closure_pairs: count,
-            status: SelectedInverseStatus::ClosureTooLarge,
-        };
+        return SelectedInverseStatus::ClosureTooLarge;
     }
-    Closure {
-        requested_pairs: requested_pairs,
-        closure_pairs: count,
-        status: SelectedInverseStatus::Complete,
-    }
+    SelectedInverseStatus::Complete
 }
 
 // The diagnosis of a factor, the marked pairs and a limit. Leaves in scratch what the closure leaves.
@@ -89,7 +77,7 @@ pub fn diagnose(
         (now (stops .exit)) (now (scratch .exit)) ⌝ }
 {
     let kept = factor_pairs(n, starts, rows, values);
-    let closure = takahashi_dependency_closure(
+    let count = takahashi_dependency_closure(
         n,
         starts,
         rows,
@@ -99,12 +87,11 @@ pub fn diagnose(
         stops,
         scratch,
     );
-    let status = closure.status;
     selected_inverse_diagnostics(
-        closure.requested_pairs,
-        closure.closure_pairs,
+        requested_pairs,
+        count,
         kept,
         limit,
-        status,
+        status_within(count, limit),
     )
 }

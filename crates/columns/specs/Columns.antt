@@ -63,10 +63,14 @@ startsSteps n starts rows values = (2, not (eqb (length starts) (n + 1))) ∷ br
 unfoldable pub rowsSteps : ℕ → List ℕ → List ℕ → List Step
 rowsSteps n starts rows = (3, outside n rows) ∷ (3, any (unsorted starts rows) n) ∷ []
 
--- 2 and 3
+-- 2 and 3 of compressed columns, whatever their values; `values` is the number of values
 unfoldable pub columnSteps : ℕ → List ℕ → List ℕ → ℕ → List Step
 columnSteps n starts rows values = startsSteps n starts rows values ++ rowsSteps n starts rows
 
--- 1, 2 and 3
-unfoldable pub factorSteps : ℕ → List ℕ → List ℕ → ℕ → List Step
-factorSteps n starts rows values = boundSteps n (length rows) ++ columnSteps n starts rows values
+-- 2 and 3 of a factor
+unfoldable pub entrySteps : ℕ → List ℕ → List ℕ → List Float → List Step
+entrySteps n starts rows values = columnSteps n starts rows (length values)
+
+-- 1, 2 and 3 of a factor
+unfoldable pub factorSteps : ℕ → List ℕ → List ℕ → List Float → List Step
+factorSteps n starts rows values = boundSteps n (length rows) ++ entrySteps n starts rows values

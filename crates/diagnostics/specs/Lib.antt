@@ -1,2 +1,3 @@
 -- The diagnosis of a selected inverse.
 pub mod Diagnosis
+pub mod Selected

@@ -2,6 +2,7 @@
 ghost use mathlib.Core.Path.{_≡_};
 ghost use Prim.Native.Nat.{_≤_};
 ghost use Rattle.diagnostics.specs.Diagnosis.{completeOf, maxCount, ratioOf, diagnosis};
+use refusal::Refusal;
 
 // Whether the closed set is within the limit.
 pub enum SelectedInverseStatus {
@@ -28,6 +29,12 @@ impl SelectedInverseDiagnostics {
             SelectedInverseStatus::ClosureTooLarge => false,
         }
     }
+}
+
+// What a call that fills result lists answers; `selectedReplyOf` of specs/Selected.antt gives document 01's number of a refusal.
+pub enum Selected {
+    Answered(SelectedInverseDiagnostics),
+    Refused(Refusal),
 }
 
 // closure_pairs / max(factor_pairs, 1).

@@ -6,13 +6,13 @@ pub mod starts;
 ghost use mathlib.Core.Path.{_≡_};
 ghost use Rattle.refusal.specs.Steps.{verdict};
 ghost use Rattle.refusal.specs.Refusal.{replyOf};
-ghost use Rattle.columns.specs.Columns.{columnSteps, factorSteps};
+ghost use Rattle.columns.specs.Columns.{columnSteps, entrySteps, factorSteps};
 use bounds::check_bounds;
 use refusal::Checked;
 use rows::check_rows;
 use starts::check_starts;
 
-// Steps 2 and 3.
+// Steps 2 and 3 of compressed columns, whatever their values; `values` is the number of values.
 pub fn check_columns(n: usize, starts: &[u32], rows: &[u32], values: usize) -> Checked
     ensures { λ r. ⌜ replyOf r ≡ verdict (columnSteps n (now (starts .entry)) (now (rows .entry)) values) ⌝ }
 {
@@ -22,12 +22,19 @@ pub fn check_columns(n: usize, starts: &[u32], rows: &[u32], values: usize) -> C
     }
 }
 
-// Steps 1, 2 and 3.
-pub fn check_factor(n: usize, starts: &[u32], rows: &[u32], values: usize) -> Checked
-    ensures { λ r. ⌜ replyOf r ≡ verdict (factorSteps n (now (starts .entry)) (now (rows .entry)) values) ⌝ }
+// Steps 2 and 3 of a factor.
+pub fn check_entries(n: usize, starts: &[u32], rows: &[u32], values: &[f64]) -> Checked
+    ensures { λ r. ⌜ replyOf r ≡ verdict (entrySteps n (now (starts .entry)) (now (rows .entry)) (now (values .entry))) ⌝ }
+{
+    check_columns(n, starts, rows, values.len())
+}
+
+// Steps 1, 2 and 3 of a factor.
+pub fn check_factor(n: usize, starts: &[u32], rows: &[u32], values: &[f64]) -> Checked
+    ensures { λ r. ⌜ replyOf r ≡ verdict (factorSteps n (now (starts .entry)) (now (rows .entry)) (now (values .entry))) ⌝ }
 {
     match check_bounds(n, rows.len()) {
         Checked::Refused(why) => Checked::Refused(why),
-        Checked::Accepted => check_columns(n, starts, rows, values),
+        Checked::Accepted => check_entries(n, starts, rows, values),
     }
 }

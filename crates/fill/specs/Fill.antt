@@ -2,7 +2,7 @@
 -- Assumes nothing.
 use Prim.Native.Nat.{ℕ, _+_}
 use native.Mathlib.Omega.{arith}
-use mathlib.Core.Path.{_≡_, sym, _∙_}
+use mathlib.Core.Path.{_≡_, sym, _∙_, subst}
 use mathlib.Core.Bool.{Bool, true}
 use mathlib.Core.List.{List, []}
 use lib.ListN.{length}
@@ -76,3 +76,13 @@ module _ {n : ℕ} {starts rows : List ℕ} {values : List Float} {req : ℕ →
         (passed-values [] x lent nothing-refused L)
         (passed-scratch [] x lent nothing-refused L
         ∙ cleared-same (pairTotal n + pairTotal n) (scratchWords n) s₁ s₀ (omega arith) (M .later))
+
+-- ---- the limit by another name
+
+module _ {n : ℕ} {starts rows : List ℕ} {values : List Float} {limit other : ℕ} {lent : Lent} {d : SelectedInverseDiagnostics} {rs rr : List ℕ}
+    {rv : List Float} {s : List ℕ} (same : limit ≡ other) where
+  pub fills-limit : Fills n starts rows values limit lent d rs rr rv s → Fills n starts rows values other lent d rs rr rv s
+  fills-limit F = subst (λ (k : ℕ). Fills n starts rows values k lent d rs rr rv s) same F
+
+  pub fillsLists-limit : FillsLists n starts rows values limit lent d rs rr rv s → FillsLists n starts rows values other lent d rs rr rv s
+  fillsLists-limit F = subst (λ (k : ℕ). FillsLists n starts rows values k lent d rs rr rv s) same F

@@ -21,7 +21,7 @@ use Rattle.layout.specs.Position.{Positioned}
 use Rattle.diagnostics.specs.declared.SelectedInverseDiagnostics.{SelectedInverseDiagnostics}
 use Rattle.selection.specs.Selection.{Selection, Lent, roomOf, scratchWords, selectedSet, selectedSize, selectedComplete, selectedAnswer, selectedTable}
 use Rattle.selection.specs.Selection.{ResultLists, lists-refused, complete-values}
-use Rattle.selected.specs.declared.Selected.the-variants.{Answered, Refused}
+use Rattle.diagnostics.specs.declared.Selected.the-variants.{Answered, Refused}
 use Rattle.request_marks.specs.OperatorRequests.{operatorRequested}
 use Rattle.quadratic_form.specs.RowValue.{operatorValues}
 use Rattle.operator_values.specs.Reading.{placed, OperatorReading}

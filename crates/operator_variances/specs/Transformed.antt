@@ -10,16 +10,17 @@ use lib.Ieee.{Float}
 use borrow.Author.Tests.{ltb-false}
 use Rattle.lists.specs.Overwrite.{overwrite}
 use Rattle.refusal.specs.Bounds.{maxEntries}
-use Rattle.refusal.specs.Steps.{Step, Reply, first, after, Passed, passed-clear, passed-front, passed-back}
-use Rattle.columns.specs.Columns.{boundSteps, columnSteps}
-use Rattle.columns.specs.Factor.{boundSteps-sound, columnSteps-sound}
+use Rattle.refusal.specs.Steps.{Step, Reply, first, after, Passed, passed-clear, passed-front}
+use Rattle.refusal.specs.Groups.{grouped, AllPassed, groups-passed}
+use Rattle.columns.specs.Columns.{boundSteps, entrySteps}
+use Rattle.columns.specs.Factor.{boundSteps-sound, entrySteps-sound}
 use Rattle.columns.specs.Operator.{operatorRows, operatorBoundSteps, operatorSteps, OperatorRows, operatorSteps-sound}
 use Rattle.diagnostics.specs.declared.SelectedInverseDiagnostics.{SelectedInverseDiagnostics}
 use Rattle.selection.specs.Selection.{Selection, Lent, Room, roomOf, defaultLimit, fillSteps, selectedComplete, selectedAnswer, selectedTable, Accepted}
 use Rattle.selection.specs.Selection.{ResultLists}
 use Rattle.selection.specs.Call.{fill-accepted}
-use Rattle.selected.specs.declared.Selected.{Selected}
-use Rattle.selected.specs.Selected.{selectedReplyOf}
+use Rattle.diagnostics.specs.declared.Selected.{Selected}
+use Rattle.diagnostics.specs.Selected.{selectedReplyOf}
 use Rattle.request_marks.specs.OperatorRequests.{operatorRequested, operatorRequested-ranged}
 use Rattle.quadratic_form.specs.RowValue.{operatorValues}
 
@@ -67,22 +68,19 @@ module _ (x : TransformedCall) where
   abbrev pub outputSteps : ℕ → List Step
   outputSteps output = (7, ltb output (operatorRows (x .rowStarts))) ∷ []
 
-  -- 4, 9, 6 and 7, with an output of that length
-  abbrev pub pastColumns : Room → ℕ → List Step
-  pastColumns lengths output =
-      columnCountSteps
-      ++ (operatorSteps (x .n) (x .rowStarts) (x .columns) (length (x .weights))
-      ++ (fillSteps (x .n) (x .starts) (x .rows) (x .values) (defaultLimit (x .rows)) lengths
-      ++ outputSteps output))
+  -- refusals 1 of the factor and of the operator; 2, 3; 4; 9; 6, 7; 7 of an output of that length
+  abbrev pub transformedGroups : Room → ℕ → List (List Step)
+  transformedGroups lengths output =
+      (boundSteps (x .n) (length (x .rows)) ++ operatorBoundSteps (x .rowStarts) (x .columns))
+      ∷ entrySteps (x .n) (x .starts) (x .rows) (x .values)
+      ∷ columnCountSteps
+      ∷ operatorSteps (x .n) (x .rowStarts) (x .columns) (length (x .weights))
+      ∷ fillSteps (x .n) (x .starts) (x .rows) (x .values) (defaultLimit (x .rows)) lengths
+      ∷ outputSteps output
+      ∷ []
 
-  -- 2 and 3, then those
-  abbrev pub fromColumns : Room → ℕ → List Step
-  fromColumns lengths output = columnSteps (x .n) (x .starts) (x .rows) (length (x .values)) ++ pastColumns lengths output
-
-  -- 1, then those
   unfoldable pub transformedSteps : Room → ℕ → List Step
-  transformedSteps lengths output =
-      (boundSteps (x .n) (length (x .rows)) ++ operatorBoundSteps (x .rowStarts) (x .columns)) ++ fromColumns lengths output
+  transformedSteps lengths output = grouped (transformedGroups lengths output)
 
   -- the reply: either status carries the diagnosis
   abbrev pub transformedReply : Lent → ℕ → Reply SelectedInverseDiagnostics
@@ -114,50 +112,19 @@ pub record AcceptedTransformed (x : TransformedCall) (lengths : Room) (output : 
   pub room : operatorRows (x .rowStarts) ≤ output
 
 module _ (x : TransformedCall) (lengths : Room) (output : ℕ) (p : Passed (transformedSteps x lengths output)) where
-  a1 : List Step
-  a1 = boundSteps (x .n) (length (x .rows))
-
-  a2 : List Step
-  a2 = operatorBoundSteps (x .rowStarts) (x .columns)
-
-  a3 : List Step
-  a3 = columnSteps (x .n) (x .starts) (x .rows) (length (x .values))
-
-  a4 : List Step
-  a4 = columnCountSteps x
-
-  a5 : List Step
-  a5 = operatorSteps (x .n) (x .rowStarts) (x .columns) (length (x .weights))
-
-  a6 : List Step
-  a6 = fillSteps (x .n) (x .starts) (x .rows) (x .values) (defaultLimit (x .rows)) lengths
-
-  a7 : List Step
-  a7 = outputSteps x output
-
-  past2 : Passed (a3 ++ (a4 ++ (a5 ++ (a6 ++ a7))))
-  unfolding transformedSteps a1 a2 a3 a4 a5 a6 a7
-  past2 = passed-back (a1 ++ a2) (a3 ++ (a4 ++ (a5 ++ (a6 ++ a7)))) p
-
-  past3 : Passed (a4 ++ (a5 ++ (a6 ++ a7)))
-  past3 = passed-back a3 (a4 ++ (a5 ++ (a6 ++ a7))) past2
-
-  past4 : Passed (a5 ++ (a6 ++ a7))
-  past4 = passed-back a4 (a5 ++ (a6 ++ a7)) past3
-
-  past5 : Passed (a6 ++ a7)
-  past5 = passed-back a5 (a6 ++ a7) past4
+  passed : AllPassed (transformedGroups x lengths output)
+  unfolding transformedSteps
+  passed = groups-passed (transformedGroups x lengths output) p
 
   pub transformed-accepted : AcceptedTransformed x lengths output
-  unfolding transformedSteps a1 a2 a3 a4 a5 a6 a7
   transformed-accepted =
-      let B = boundSteps-sound (x .n) (length (x .rows)) (passed-front a1 a2 (passed-front (a1 ++ a2) (a3 ++ (a4 ++ (a5 ++ (a6 ++ a7)))) p)) in
-      let F = columnSteps-sound (x .n) (x .starts) (x .rows) (length (x .values)) (passed-front a3 (a4 ++ (a5 ++ (a6 ++ a7))) past2) in
-      let O = operatorSteps-sound (x .n) (x .rowStarts) (x .columns) (length (x .weights)) (passed-front a5 (a6 ++ a7) past4) in
+      let bounds = boundSteps (x .n) (length (x .rows)) in
+      let B = boundSteps-sound (x .n) (length (x .rows)) (passed-front bounds (operatorBoundSteps (x .rowStarts) (x .columns)) (passed .0)) in
+      let F = entrySteps-sound (x .n) (x .starts) (x .rows) (x .values) (passed .1 .0) in
+      let O = operatorSteps-sound (x .n) (x .rowStarts) (x .columns) (length (x .weights)) (passed .1 .1 .1 .0) in
       record {
-        accepted =
-            fill-accepted (transformedSelection x) lengths (B .small) F (operatorRequested-ranged O) (passed-front a6 a7 past5);
+        accepted = fill-accepted (transformedSelection x) lengths (B .small) F (operatorRequested-ranged O) (passed .1 .1 .1 .1 .0);
         few = B .few;
         operator = O;
-        room = ltb-false _ _ (passed-clear a7 (passed-back a6 a7 past5) .0);
+        room = ltb-false _ _ (passed-clear (outputSteps x output) (passed .1 .1 .1 .1 .1 .0) .0);
       }

@@ -10,10 +10,11 @@ ghost use Rattle.refusal.specs.Steps.{verdict};
 ghost use Rattle.refusal.specs.Refusal.{replyOf};
 ghost use Rattle.columns.specs.Factor.{Factor};
 ghost use Rattle.selection.specs.Selection.{lists, room};
-ghost use Rattle.operator_variances.specs.Transformed.{transformedCall, pastColumns, fromColumns, transformedSteps, TransformedDiagonal};
+ghost use Rattle.operator_variances.specs.Transformed.{transformedCall, transformedSteps, TransformedDiagonal};
+use diagnostics::Selected;
 use diagnostics::SelectedInverseStatus;
 use factor_check::bounds::check_bounds;
-use factor_check::check_columns;
+use factor_check::check_entries;
 use fill::clear_scratch;
 use fill::fill_lists;
 use operator_check::check_operator;
@@ -22,11 +23,11 @@ use operator_check::operator_rows;
 use operator_values::operator_values;
 use refusal::Checked;
 use refusal::Refusal;
+use replies::check_output;
+use replies::first_of;
 use request_marks::operator::mark_operator_pairs;
-use selected::Selected;
 use selected_checks::check_fill;
-use selected_checks::check_output;
-use selected_checks::first_of;
+use selected_checks::default_limit;
 
 // Step 4: the operator's columns are n.
 fn check_column_count(ncols: usize, n: usize) -> Checked
@@ -36,86 +37,6 @@ fn check_column_count(ncols: usize, n: usize) -> Checked
         return Checked::Refused(Refusal::DimensionMismatch);
     }
     Checked::Accepted
-}
-
-// Steps 4, 9, 6 and 7, past the others.
-fn check_past_columns(
-    n: usize,
-    starts: &[u32],
-    rows: &[u32],
-    values: &[f64],
-    ncols: usize,
-    row_starts: &[u32],
-    columns: &[u32],
-    weights: &[f64],
-    result_starts: usize,
-    result_rows: usize,
-    result_values: usize,
-    scratch: usize,
-    output: usize,
-) -> Checked
-    requires { ⌜ (n ≤ maxDimension) × (length (now rows) ≤ maxEntries) × Factor n (now starts) (now rows) (length (now values)) ⌝ }
-    ensures { λ r. ⌜ replyOf r ≡ verdict (pastColumns
-        (transformedCall n (now (starts .entry)) (now (rows .entry)) (now (values .entry)) ncols (now («row_starts» .entry)) (now (columns .entry)) (now (weights .entry)))
-        (room «result_starts» «result_rows» «result_values» scratch) output) ⌝ }
-{
-    let count = check_column_count(ncols, n);
-    let operator = check_operator(n, row_starts, columns, weights.len());
-    let fill = check_fill(
-        n,
-        starts,
-        rows,
-        values,
-        10 * rows.len(),
-        result_starts,
-        result_rows,
-        result_values,
-        scratch,
-    );
-    let last = first_of(fill, check_output(operator_rows(row_starts), output));
-    let later = first_of(operator, last);
-    first_of(count, later)
-}
-
-// Steps 2 to 7, past 1.
-fn check_from_columns(
-    n: usize,
-    starts: &[u32],
-    rows: &[u32],
-    values: &[f64],
-    ncols: usize,
-    row_starts: &[u32],
-    columns: &[u32],
-    weights: &[f64],
-    result_starts: usize,
-    result_rows: usize,
-    result_values: usize,
-    scratch: usize,
-    output: usize,
-) -> Checked
-    requires { ⌜ (n ≤ maxDimension) × (length (now rows) ≤ maxEntries) ⌝ }
-    ensures { λ r. ⌜ replyOf r ≡ verdict (fromColumns
-        (transformedCall n (now (starts .entry)) (now (rows .entry)) (now (values .entry)) ncols (now («row_starts» .entry)) (now (columns .entry)) (now (weights .entry)))
-        (room «result_starts» «result_rows» «result_values» scratch) output) ⌝ }
-{
-    match check_columns(n, starts, rows, values.len()) {
-        Checked::Refused(why) => Checked::Refused(why),
-        Checked::Accepted => check_past_columns(
-            n,
-            starts,
-            rows,
-            values,
-            ncols,
-            row_starts,
-            columns,
-            weights,
-            result_starts,
-            result_rows,
-            result_values,
-            scratch,
-            output,
-        ),
-    }
 }
 
 // Steps 1 to 7; the lists lent for writing are judged by their lengths.
@@ -144,21 +65,27 @@ fn check_transformed(
     );
     match bounds {
         Checked::Refused(why) => Checked::Refused(why),
-        Checked::Accepted => check_from_columns(
-            n,
-            starts,
-            rows,
-            values,
-            ncols,
-            row_starts,
-            columns,
-            weights,
-            result_starts,
-            result_rows,
-            result_values,
-            scratch,
-            output,
-        ),
+        Checked::Accepted => match check_entries(n, starts, rows, values) {
+            Checked::Refused(why) => Checked::Refused(why),
+            Checked::Accepted => {
+                let count = check_column_count(ncols, n);
+                let operator = check_operator(n, row_starts, columns, weights.len());
+                let fill = check_fill(
+                    n,
+                    starts,
+                    rows,
+                    values,
+                    default_limit(rows.len()),
+                    result_starts,
+                    result_rows,
+                    result_values,
+                    scratch,
+                );
+                let last = first_of(fill, check_output(operator_rows(row_starts), output));
+                let later = first_of(operator, last);
+                first_of(count, later)
+            }
+        },
     }
 }
 
@@ -201,7 +128,7 @@ pub fn selected_inverse_transformed_diag(
         Checked::Refused(why) => Selected::Refused(why),
         Checked::Accepted => {
             let requested_pairs = mark_operator_pairs(n, row_starts, columns, scratch);
-            let limit = 10 * rows.len();
+            let limit = default_limit(rows.len());
             let diagnosis = fill_lists(
                 n,
                 starts,

@@ -27,7 +27,7 @@ use Rattle.factor_order.specs.Permutation.{index, reordered}
 use Rattle.diagnostics.specs.declared.SelectedInverseDiagnostics.{SelectedInverseDiagnostics}
 use Rattle.selection.specs.Selection.{Selection, Lent, roomOf, Accepted, selectedSet, selectedSize, selectedComplete, selectedAnswer, selectedTable}
 use Rattle.selection.specs.Selection.{ResultLists, lists-refused, complete-starts, complete-values}
-use Rattle.selected.specs.declared.Selected.the-variants.{Answered, Refused}
+use Rattle.diagnostics.specs.declared.Selected.the-variants.{Answered, Refused}
 use Rattle.request_marks.specs.DiagonalMarks.{diagonal-requested, diagonals-ranged}
 use Rattle.original_diagonal.specs.Original.{OriginalCall, originalSelection, originalSteps, coveredSteps, factorDiagonal, OriginalDiagonal, FirstEntries, firstEntries}
 use Rattle.original_diagonal.specs.Original.{AcceptedOriginal}

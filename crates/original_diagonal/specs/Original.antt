@@ -12,6 +12,7 @@ use Rattle.lists.specs.Tabulate.{tabulate}
 use Rattle.lists.specs.Overwrite.{overwrite}
 use Rattle.refusal.specs.Bounds.{maxEntries}
 use Rattle.refusal.specs.Steps.{Step, Reply, first, after, Passed, passed-clear, passed-front, passed-back}
+use Rattle.refusal.specs.Groups.{grouped, AllPassed, groups-passed}
 use Rattle.columns.specs.Columns.{factorSteps}
 use Rattle.columns.specs.Factor.{Factor, factorSteps-bounded, factorSteps-sound}
 use Rattle.factor_order.specs.Permutation.{index, orderSteps, permutationSteps, reordered, Permutation}
@@ -20,8 +21,8 @@ use Rattle.diagnostics.specs.declared.SelectedInverseDiagnostics.{SelectedInver
 use Rattle.selection.specs.Selection.{Selection, Lent, Room, roomOf, defaultLimit, fillSteps, selectedComplete, selectedAnswer, selectedTable, Accepted}
 use Rattle.selection.specs.Selection.{ResultLists}
 use Rattle.selection.specs.Call.{fill-accepted}
-use Rattle.selected.specs.declared.Selected.{Selected}
-use Rattle.selected.specs.Selected.{selectedReplyOf}
+use Rattle.diagnostics.specs.declared.Selected.{Selected}
+use Rattle.diagnostics.specs.Selected.{selectedReplyOf}
 use Rattle.request_marks.specs.DiagonalMarks.{diagonalPairs, diagonals-ranged}
 
 -- what a call is handed to read: a factor and a permutation, orig_to_perm
@@ -48,13 +49,21 @@ module _ (x : OriginalCall) where
     limit = defaultLimit (x .rows);
   }
 
-  -- refusals 1, 2, 3, then 4, 10, 11, then 6, 7, with an output of that length
+  -- 7: an output below n
+  abbrev pub outputSteps : ℕ → List Step
+  outputSteps output = (7, ltb output (x .n)) ∷ []
+
+  -- refusals 1, 2, 3; 4, 10, 11; 6, 7; 7 of an output of that length
+  abbrev pub originalGroups : Room → ℕ → List (List Step)
+  originalGroups lengths output =
+      factorSteps (x .n) (x .starts) (x .rows) (x .values)
+      ∷ orderSteps (x .n) (x .perm)
+      ∷ fillSteps (x .n) (x .starts) (x .rows) (x .values) (defaultLimit (x .rows)) lengths
+      ∷ outputSteps output
+      ∷ []
+
   unfoldable pub originalSteps : Room → ℕ → List Step
-  originalSteps lengths output =
-      factorSteps (x .n) (x .starts) (x .rows) (length (x .values))
-      ++ (orderSteps (x .n) (x .perm)
-      ++ (fillSteps (x .n) (x .starts) (x .rows) (x .values) (defaultLimit (x .rows)) lengths
-      ++ ((7, ltb output (x .n)) ∷ [])))
+  originalSteps lengths output = grouped (originalGroups lengths output)
 
   -- then 8: the default limit is passed
   abbrev pub coveredSteps : Room → ℕ → List Step
@@ -103,37 +112,20 @@ pub record AcceptedOriginal (x : OriginalCall) (lengths : Room) (output : ℕ) :
   pub room : x .n ≤ output
 
 module _ (x : OriginalCall) (lengths : Room) (output : ℕ) (p : Passed (originalSteps x lengths output)) where
-  a1 : List Step
-  a1 = factorSteps (x .n) (x .starts) (x .rows) (length (x .values))
-
-  a2 : List Step
-  a2 = orderSteps (x .n) (x .perm)
-
-  a3 : List Step
-  a3 = fillSteps (x .n) (x .starts) (x .rows) (x .values) (defaultLimit (x .rows)) lengths
-
-  a4 : List Step
-  a4 = (7, ltb output (x .n)) ∷ []
-
-  past1 : Passed (a2 ++ (a3 ++ a4))
-  unfolding originalSteps a1 a2 a3 a4
-  past1 = passed-back a1 (a2 ++ (a3 ++ a4)) p
-
-  past2 : Passed (a3 ++ a4)
-  past2 = passed-back a2 (a3 ++ a4) past1
+  passed : AllPassed (originalGroups x lengths output)
+  unfolding originalSteps
+  passed = groups-passed (originalGroups x lengths output) p
 
   pub original-accepted : AcceptedOriginal x lengths output
-  unfolding originalSteps a1 a2 a3 a4
   original-accepted =
-      let front = passed-front a1 (a2 ++ (a3 ++ a4)) p in
+      let B = factorSteps-bounded (x .n) (x .starts) (x .rows) (x .values) (passed .0) in
+      let F = factorSteps-sound (x .n) (x .starts) (x .rows) (x .values) (passed .0) in
       let four : List Step = (4, not (eqb (length (x .perm)) (x .n))) ∷ [] in
-      let o = passed-front a2 (a3 ++ a4) past1 in
+      let o = passed .1 .0 in
       record {
-        accepted =
-            fill-accepted (originalSelection x) lengths (factorSteps-bounded _ _ _ _ front .small) (factorSteps-sound _ _ _ _ front) (diagonals-ranged (x .n))
-            (passed-front a3 a4 past2);
-        few = factorSteps-bounded _ _ _ _ front .few;
+        accepted = fill-accepted (originalSelection x) lengths (B .small) F (diagonals-ranged (x .n)) (passed .1 .1 .0);
+        few = B .few;
         order = distinct-permutation (x .perm) (passed-distinct (x .perm) (passed-back four (permutationSteps (x .perm)) o));
         long = eqb-true _ _ (not-false _ (passed-clear four (passed-front four (permutationSteps (x .perm)) o) .0));
-        room = ltb-false _ _ (passed-clear a4 (passed-back a3 a4 past2) .0);
+        room = ltb-false _ _ (passed-clear (outputSteps x output) (passed .1 .1 .1 .0) .0);
       }

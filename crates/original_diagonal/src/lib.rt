@@ -6,17 +6,18 @@ ghost use Rattle.refusal.specs.Steps.{verdict};
 ghost use Rattle.refusal.specs.Refusal.{replyOf};
 ghost use Rattle.selection.specs.Selection.{lists, room};
 ghost use Rattle.original_diagonal.specs.Original.{originalCall, originalSteps, OriginalDiagonal, FirstEntries, firstEntries};
+use diagnostics::Selected;
 use diagnostics::SelectedInverseStatus;
 use factor_check::check_factor;
 use fill::fill_entries;
 use permutation::order::check_order;
 use refusal::Checked;
 use refusal::Refusal;
+use replies::check_output;
+use replies::first_of;
 use request_marks::diagonals::mark_diagonals;
-use selected::Selected;
 use selected_checks::check_fill;
-use selected_checks::check_output;
-use selected_checks::first_of;
+use selected_checks::default_limit;
 use words::at;
 
 // Steps 1 to 7; the lists lent for writing are judged by their lengths.
@@ -35,7 +36,7 @@ fn check_original(
     ensures { λ r. ⌜ replyOf r ≡ verdict (originalSteps (originalCall n (now (starts .entry)) (now (rows .entry)) (now (values .entry)) (now («orig_to_perm» .entry)))
         (room «result_starts» «result_rows» «result_values» scratch) output) ⌝ }
 {
-    match check_factor(n, starts, rows, values.len()) {
+    match check_factor(n, starts, rows, values) {
         Checked::Refused(why) => Checked::Refused(why),
         Checked::Accepted => {
             let order = check_order(n, orig_to_perm);
@@ -44,7 +45,7 @@ fn check_original(
                 starts,
                 rows,
                 values,
-                10 * rows.len(),
+                default_limit(rows.len()),
                 result_starts,
                 result_rows,
                 result_values,
@@ -110,7 +111,7 @@ pub fn selected_inverse_diag_with_diagnostics(
         Checked::Refused(why) => Selected::Refused(why),
         Checked::Accepted => {
             let requested_pairs = mark_diagonals(n, scratch);
-            let limit = 10 * rows.len();
+            let limit = default_limit(rows.len());
             let diagnosis = fill_entries(
                 n,
                 starts,

@@ -43,11 +43,11 @@ pub fn from_cholesky_factor(
     pair_rows: &mut [u32],
     pair_columns: &mut [u32],
 ) -> PatternPairs
-    ensures { λ r. ⌜ PatternLists (factorSteps n (now (starts .entry)) (now (rows .entry)) (length (now (values .entry)))) n
+    ensures { λ r. ⌜ PatternLists (factorSteps n (now (starts .entry)) (now (rows .entry)) (now (values .entry))) n
         (keptPair (now (starts .entry)) (now (rows .entry)) (nonzero (now (values .entry)))) r
         (now (scratch .entry)) (now («pair_rows» .entry)) (now («pair_columns» .entry)) (now (scratch .exit)) (now («pair_rows» .exit)) (now («pair_columns» .exit)) ⌝ }
 {
-    match factor_check::check_factor(n, starts, rows, values.len()) {
+    match factor_check::check_factor(n, starts, rows, values) {
         Checked::Refused(why) => PatternPairs::Refused(why),
         Checked::Accepted => factor_lists(
             n,

@@ -18,7 +18,8 @@ ghost use Rattle.floor.specs.Floor.{stabilizedOf};
 ghost use Rattle.least.specs.Least.{countAndLeast};
 ghost use Rattle.selection.specs.Selection.{lists, defaultLimit};
 ghost use Rattle.selection.specs.Call.{call};
-ghost use Rattle.selected.specs.Selected.{selectedReplyOf, SelectedEntries};
+ghost use Rattle.diagnostics.specs.Selected.{selectedReplyOf};
+ghost use Rattle.selected.specs.Selected.{SelectedEntries};
 ghost use Rattle.original_diagonal.specs.Original.{originalCall, OriginalDiagonal};
 ghost use Rattle.operator_variances.specs.Transformed.{transformedCall, TransformedDiagonal};
 ghost use Rattle.pattern_lists.specs.ListedMarks.{listReply};
@@ -221,7 +222,7 @@ pub extern "C" fn redstartgilt_from_cholesky_factor(
     pair_rows: &mut [u32],
     pair_columns: &mut [u32],
 ) -> PairNumbers
-    ensures { λ r. ⌜ Shows (λ d. pairNumbers (listReply d)) (λ d. PatternLists (factorSteps n (now (starts .entry)) (now (rows .entry)) (length (now (values .entry)))) n
+    ensures { λ r. ⌜ Shows (λ d. pairNumbers (listReply d)) (λ d. PatternLists (factorSteps n (now (starts .entry)) (now (rows .entry)) (now (values .entry))) n
         (keptPair (now (starts .entry)) (now (rows .entry)) (nonzero (now (values .entry)))) d
         (now (scratch .entry)) (now («pair_rows» .entry)) (now («pair_columns» .entry)) (now (scratch .exit)) (now («pair_rows» .exit)) (now («pair_columns» .exit))) r ⌝ }
 {

@@ -1,9 +1,33 @@
-// Answers as document 01's numbers.
+// Verdicts: the first of two, one of an output's room, and document 01's numbers.
 ghost use mathlib.Core.Path.{_≡_};
-ghost use Rattle.refusal.specs.Refusal.{refusalNumber};
+ghost use mathlib.Core.List.{[], _∷_};
+ghost use lib.Dec.{ltb};
+ghost use Rattle.refusal.specs.Steps.{verdict};
+ghost use Rattle.refusal.specs.FirstOf.{orElse};
+ghost use Rattle.refusal.specs.Refusal.{refusalNumber, replyOf};
 ghost use Rattle.replies.specs.Number.{checkedNumber};
 use refusal::Checked;
 use refusal::Refusal;
+
+// The first of two verdicts that refuses.
+pub fn first_of(a: Checked, b: Checked) -> Checked
+    ensures { λ r. ⌜ replyOf r ≡ orElse (replyOf a) (replyOf b) ⌝ }
+{
+    match a {
+        Checked::Refused(why) => Checked::Refused(why),
+        Checked::Accepted => b,
+    }
+}
+
+// Step 7 for an output that needs so many places.
+pub fn check_output(needed: usize, output: usize) -> Checked
+    ensures { λ r. ⌜ replyOf r ≡ verdict ((7, ltb output needed) ∷ []) ⌝ }
+{
+    if output < needed {
+        return Checked::Refused(Refusal::TooShort);
+    }
+    Checked::Accepted
+}
 
 // Document 01's number of a refusal.
 pub fn refusal_number(r: Refusal) -> u32

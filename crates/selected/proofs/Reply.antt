@@ -3,7 +3,7 @@
 use Prim.Native.Nat.{ℕ, _<_}
 use mathlib.Core.Path.{_≡_, refl, sym, ap, _∙_}
 use mathlib.Core.Bool.{Bool, true, false}
-use mathlib.Core.List.{List}
+use mathlib.Core.List.{List, _++_}
 use lib.ListN.{length}
 use lib.Ieee.{Float}
 use lib.Dec.{ltb}
@@ -15,8 +15,9 @@ use Rattle.refusal.specs.Bounds.{maxDimension, maxEntries}
 use Rattle.columns.specs.Columns.{boundSteps}
 use Rattle.diagnostics.specs.declared.SelectedInverseDiagnostics.{SelectedInverseDiagnostics}
 use Rattle.selection.specs.Selection.{Lent, roomOf, selectedAnswer, ResultLists, lists-refused}
+use Rattle.selection.specs.RequestSteps.{requestBoundSteps}
 use Rattle.selection.specs.Call.{Call, selectionOf, selectedSteps}
-use Rattle.selected.specs.declared.Selected.the-variants.{Answered, Refused}
+use Rattle.diagnostics.specs.declared.Selected.the-variants.{Answered, Refused}
 use Rattle.selected.specs.Selected.{SelectedEntries}
 
 module _ (x : Call) (lent : Lent) where
@@ -35,7 +36,8 @@ module _ (x : Call) (lent : Lent) where
   pub too-many : maxEntries < length (x .rows) → verdict steps ≡ refused 1
   unfolding selectedSteps boundSteps
   too-many h =
-      append-refused (boundSteps (x .n) (length (x .rows))) _ 1 tt (go (ltb maxDimension (x .n)) refl)
+      append-refused (boundSteps (x .n) (length (x .rows)) ++ requestBoundSteps (length (x .requestRows))) _ 1 tt
+      (append-refused (boundSteps (x .n) (length (x .rows))) (requestBoundSteps (length (x .requestRows))) 1 tt (go (ltb maxDimension (x .n)) refl))
     where
       go : (b : Bool) → ltb maxDimension (x .n) ≡ b → verdict (boundSteps (x .n) (length (x .rows))) ≡ refused 1
       go true e = first-hit 1 _ _ e

@@ -4,18 +4,10 @@ use Prim.Native.Nat.{ℕ}
 use mathlib.Core.Path.{_≡_}
 use mathlib.Core.List.{List}
 use lib.Ieee.{Float}
-use Rattle.refusal.specs.Steps.{Reply, refused, answered}
-use Rattle.refusal.specs.Refusal.{refusalNumber}
-use Rattle.diagnostics.specs.declared.SelectedInverseDiagnostics.{SelectedInverseDiagnostics}
+use Rattle.diagnostics.specs.declared.Selected.{Selected}
+use Rattle.diagnostics.specs.Selected.{selectedReplyOf}
 use Rattle.selection.specs.Selection.{Lent, roomOf, ResultLists}
 use Rattle.selection.specs.Call.{Call, selectionOf, selectedSteps, selectedReply}
-use Rattle.selected.specs.declared.Selected.{Selected}
-use Rattle.selected.specs.declared.Selected.the-variants.{Answered, Refused}
-
--- the diagnosis, or document 01's number
-abbrev pub selectedReplyOf : Selected → Reply SelectedInverseDiagnostics
-selectedReplyOf (Answered d) = answered d
-selectedReplyOf (Refused why) = refused (refusalNumber why)
 
 -- the reply and the lists of a call
 pub record SelectedEntries (x : Call) (lent : Lent) (reply : Selected) (starts rows : List ℕ) (values : List Float) (scratch : List ℕ) : Type 0 where

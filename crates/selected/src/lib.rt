@@ -3,19 +3,14 @@
 ghost use Rattle.selection.specs.Selection.{lists, defaultLimit};
 ghost use Rattle.selection.specs.Call.{call};
 ghost use Rattle.selected.specs.Selected.{SelectedEntries};
-use diagnostics::SelectedInverseDiagnostics;
+use diagnostics::Selected;
 use fill::fill_entries;
 use refusal::Checked;
 use refusal::MAX_ENTRIES;
 use refusal::Refusal;
 use request_marks::requests::mark_requests;
 use selected_checks::check_selected;
-
-// What a call answers; `selectedReplyOf` of specs/Selected.antt gives document 01's number of a refusal.
-pub enum Selected {
-    Answered(SelectedInverseDiagnostics),
-    Refused(Refusal),
-}
+use selected_checks::default_limit;
 
 // The entries at the closed set of the requests, if it has at most `limit` pairs.
 pub fn selected_inverse_entries_with_limit(
@@ -94,7 +89,6 @@ pub fn selected_inverse_entries(
     if MAX_ENTRIES < rows.len() {
         return Selected::Refused(Refusal::TooLarge);
     }
-    let limit = 10 * rows.len();
     selected_inverse_entries_with_limit(
         n,
         starts,
@@ -103,7 +97,7 @@ pub fn selected_inverse_entries(
         dimension,
         request_rows,
         request_columns,
-        limit,
+        default_limit(rows.len()),
         result_starts,
         result_rows,
         result_values,

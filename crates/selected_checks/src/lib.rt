@@ -2,22 +2,27 @@
 pub mod requests;
 
 ghost use mathlib.Core.Path.{_≡_};
-ghost use Prim.Native.Nat.{_≤_, min};
-ghost use mathlib.Core.List.{[], _∷_};
-ghost use lib.Dec.{ltb};
+ghost use Prim.Native.Nat.{_*_, _≤_, min};
 ghost use lib.ListN.{length};
-ghost use Rattle.refusal.specs.Bounds.{maxDimension};
+ghost use Rattle.refusal.specs.Bounds.{maxDimension, maxEntries};
 ghost use Rattle.refusal.specs.Steps.{verdict};
 ghost use Rattle.refusal.specs.Refusal.{replyOf};
 ghost use Rattle.columns.specs.Factor.{Factor};
-ghost use Rattle.selection.specs.Selection.{room, roomSteps, fillSteps};
+ghost use Rattle.selection.specs.Selection.{limitFactor, room, roomSteps, fillSteps};
+ghost use Rattle.selection.specs.RequestSteps.{requestBoundSteps};
 ghost use Rattle.selection.specs.Call.{call, selectedSteps};
-ghost use Rattle.selected_checks.specs.Later.{fromRequests, fromColumns};
-ghost use Rattle.selected_checks.specs.FirstOf.{orElse};
+use factor_check::bounds::check_bounds;
+use factor_check::check_entries;
+use kept_entries::diagonal_check::check_diagonals;
 use refusal::Checked;
 use refusal::MAX_ENTRIES;
 use refusal::Refusal;
+use replies::first_of;
+use requests::check_requests;
 use scratch::pair_total;
+
+// How many times the stored entries the default limit is.
+const LIMIT_FACTOR: usize = 10;
 
 fn least(a: usize, b: usize) -> usize
     ensures { λ r. ⌜ r ≡ min a b ⌝ }
@@ -57,24 +62,12 @@ fn check_room(
     Checked::Accepted
 }
 
-// The first of two verdicts that refuses.
-pub fn first_of(a: Checked, b: Checked) -> Checked
-    ensures { λ r. ⌜ replyOf r ≡ orElse (replyOf a) (replyOf b) ⌝ }
+// The default limit: 10 times the stored entries, dropped ones counted.
+pub fn default_limit(stored: usize) -> usize
+    requires { ⌜ stored ≤ maxEntries ⌝ }
+    ensures { λ r. ⌜ r ≡ limitFactor * stored ⌝ }
 {
-    match a {
-        Checked::Refused(why) => Checked::Refused(why),
-        Checked::Accepted => b,
-    }
-}
-
-// Step 7 for an output that needs so many places.
-pub fn check_output(needed: usize, output: usize) -> Checked
-    ensures { λ r. ⌜ replyOf r ≡ verdict ((7, ltb output needed) ∷ []) ⌝ }
-{
-    if output < needed {
-        return Checked::Refused(Refusal::TooShort);
-    }
-    Checked::Accepted
+    LIMIT_FACTOR * stored
 }
 
 // Steps 6 and 7, past the others: what filling result lists asks.
@@ -93,87 +86,22 @@ pub fn check_fill(
     ensures { λ r. ⌜ replyOf r ≡ verdict (fillSteps n (now (starts .entry)) (now (rows .entry)) (now (values .entry)) limit
         (room «result_starts» «result_rows» «result_values» scratch)) ⌝ }
 {
-    let diagonals = kept_entries::diagonal_check::check_diagonals(n, starts, rows, values);
+    let diagonals = check_diagonals(n, starts, rows, values);
     let room = check_room(n, limit, result_starts, result_rows, result_values, scratch);
     first_of(diagonals, room)
 }
 
-// Steps 4 to 7, past 1 to 3.
-fn check_from_requests(
-    n: usize,
-    starts: &[u32],
-    rows: &[u32],
-    values: &[f64],
-    dimension: usize,
-    request_rows: &[u32],
-    request_columns: &[u32],
-    limit: usize,
-    result_starts: usize,
-    result_rows: usize,
-    result_values: usize,
-    scratch: usize,
-) -> Checked
-    requires { ⌜ (n ≤ maxDimension) × Factor n (now starts) (now rows) (length (now values)) ⌝ }
-    ensures { λ r. ⌜ replyOf r ≡ verdict (fromRequests
-        (call n (now (starts .entry)) (now (rows .entry)) (now (values .entry)) dimension (now («request_rows» .entry)) (now («request_columns» .entry)) limit)
-        (room «result_starts» «result_rows» «result_values» scratch)) ⌝ }
+// Step 1 of the requests, which are counted by their rows.
+fn check_request_bound(requests: usize) -> Checked
+    ensures { λ r. ⌜ replyOf r ≡ verdict (requestBoundSteps requests) ⌝ }
 {
-    match requests::check_requests(n, dimension, request_rows, request_columns) {
-        Checked::Refused(why) => Checked::Refused(why),
-        Checked::Accepted => check_fill(
-            n,
-            starts,
-            rows,
-            values,
-            limit,
-            result_starts,
-            result_rows,
-            result_values,
-            scratch,
-        ),
+    if MAX_ENTRIES < requests {
+        return Checked::Refused(Refusal::TooLarge);
     }
+    Checked::Accepted
 }
 
-// Steps 2 to 7, past 1.
-fn check_from_columns(
-    n: usize,
-    starts: &[u32],
-    rows: &[u32],
-    values: &[f64],
-    dimension: usize,
-    request_rows: &[u32],
-    request_columns: &[u32],
-    limit: usize,
-    result_starts: usize,
-    result_rows: usize,
-    result_values: usize,
-    scratch: usize,
-) -> Checked
-    requires { ⌜ n ≤ maxDimension ⌝ }
-    ensures { λ r. ⌜ replyOf r ≡ verdict (fromColumns
-        (call n (now (starts .entry)) (now (rows .entry)) (now (values .entry)) dimension (now («request_rows» .entry)) (now («request_columns» .entry)) limit)
-        (room «result_starts» «result_rows» «result_values» scratch)) ⌝ }
-{
-    match factor_check::check_columns(n, starts, rows, values.len()) {
-        Checked::Refused(why) => Checked::Refused(why),
-        Checked::Accepted => check_from_requests(
-            n,
-            starts,
-            rows,
-            values,
-            dimension,
-            request_rows,
-            request_columns,
-            limit,
-            result_starts,
-            result_rows,
-            result_values,
-            scratch,
-        ),
-    }
-}
-
-// Steps 1 to 7.
+// Steps 1 to 7; the lists lent for writing are judged by their lengths.
 pub fn check_selected(
     n: usize,
     starts: &[u32],
@@ -192,26 +120,29 @@ pub fn check_selected(
         (call n (now (starts .entry)) (now (rows .entry)) (now (values .entry)) dimension (now («request_rows» .entry)) (now («request_columns» .entry)) limit)
         (room «result_starts» «result_rows» «result_values» scratch)) ⌝ }
 {
-    match factor_check::bounds::check_bounds(n, rows.len()) {
+    let bounds = first_of(
+        check_bounds(n, rows.len()),
+        check_request_bound(request_rows.len()),
+    );
+    match bounds {
         Checked::Refused(why) => Checked::Refused(why),
-        Checked::Accepted => {
-            if MAX_ENTRIES < request_rows.len() {
-                return Checked::Refused(Refusal::TooLarge);
+        Checked::Accepted => match check_entries(n, starts, rows, values) {
+            Checked::Refused(why) => Checked::Refused(why),
+            Checked::Accepted => {
+                let requests = check_requests(n, dimension, request_rows, request_columns);
+                let fill = check_fill(
+                    n,
+                    starts,
+                    rows,
+                    values,
+                    limit,
+                    result_starts,
+                    result_rows,
+                    result_values,
+                    scratch,
+                );
+                first_of(requests, fill)
             }
-            check_from_columns(
-                n,
-                starts,
-                rows,
-                values,
-                dimension,
-                request_rows,
-                request_columns,
-                limit,
-                result_starts,
-                result_rows,
-                result_values,
-                scratch,
-            )
-        }
+        },
     }
 }

@@ -21,8 +21,8 @@ use Rattle.selection.specs.Selection.{Lent, roomOf, selectedAnswer}
 use Rattle.selection.specs.Call.{Call, selectionOf, selectedSteps, accepted}
 use Rattle.selection.specs.Status.{status-tells, selected-complete}
 use Rattle.selected.specs.Selected.{SelectedEntries}
-use Rattle.selected.specs.declared.Selected.{Selected}
-use Rattle.selected.specs.declared.Selected.the-variants as reply
+use Rattle.diagnostics.specs.declared.Selected.{Selected}
+use Rattle.diagnostics.specs.declared.Selected.the-variants as reply
 use Rattle.exact_entries.specs.ExactEntries.{exact-call}
 use Rattle.selected_entry.specs.declared.SelectedEntry.the-variants.{Found, ClosureTooLarge, Refused}
 use Rattle.selected_entry.specs.declared.SelectedEntry.{SelectedEntry}

@@ -20,8 +20,8 @@ use Rattle.diagnostics.specs.declared.SelectedInverseStatus.{SelectedInverseSta
 use Rattle.diagnostics.specs.declared.SelectedInverseStatus.the-variants as status
 use Rattle.selection.specs.Selection.{Lent, roomOf, selectedSize, selectedComplete, ResultLists}
 use Rattle.selection.specs.Call.{Call, selectionOf, selectedSteps}
-use Rattle.selected.specs.declared.Selected.{Selected}
-use Rattle.selected.specs.declared.Selected.the-variants as reply
+use Rattle.diagnostics.specs.declared.Selected.{Selected}
+use Rattle.diagnostics.specs.declared.Selected.the-variants as reply
 use Rattle.lookup.specs.declared.ordered.Entry as inverse
 use Rattle.lookup.specs.Reply.{entryReply}
 use Rattle.result.specs.Lookup.{lookup}

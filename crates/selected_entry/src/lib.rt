@@ -2,11 +2,11 @@
 ghost use Rattle.selection.specs.Selection.{lists, defaultLimit};
 ghost use Rattle.selection.specs.Call.{call};
 ghost use Rattle.selected_entry.specs.SelectedEntry.{QueueLoop, ElementsChecked, ReadEntry};
+use diagnostics::Selected;
 use diagnostics::SelectedInverseStatus;
 use lookup::get;
 use lookup::ordered::Entry;
 use refusal::Refusal;
-use selected::Selected;
 use selected::selected_inverse_entries;
 use selected::selected_inverse_entries_with_limit;
 

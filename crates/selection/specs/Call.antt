@@ -7,13 +7,14 @@ use lib.Ieee.{Float}
 use borrow.Author.Tests.{ltb-false}
 use Rattle.refusal.specs.Bounds.{maxDimension}
 use Rattle.refusal.specs.Steps.{Step, Reply, first, Passed, passed-clear, passed-front, passed-back}
+use Rattle.refusal.specs.Groups.{grouped, AllPassed, groups-passed}
 use Rattle.pairs.specs.Pair.{pairTotal}
-use Rattle.columns.specs.Columns.{boundSteps, columnSteps}
-use Rattle.columns.specs.Factor.{Factor, boundSteps-sound, columnSteps-sound}
+use Rattle.columns.specs.Columns.{boundSteps, entrySteps}
+use Rattle.columns.specs.Factor.{Factor, boundSteps-sound, entrySteps-sound}
 use Rattle.columns.specs.Diagonal.{diagonalSteps, diagonalSteps-sound}
 use Rattle.closed_set.specs.ClosedSet.{Ranged}
 use Rattle.closed_set.specs.Requests.{requested, Requests, requested-ranged}
-use Rattle.selection.specs.RequestSteps.{requestBoundStep, requestSteps, requestSteps-sound}
+use Rattle.selection.specs.RequestSteps.{requestBoundSteps, requestSteps, requestSteps-sound}
 use Rattle.diagnostics.specs.declared.SelectedInverseDiagnostics.{SelectedInverseDiagnostics}
 use Rattle.selection.specs.Selection.{Selection, Lent, Room, roomOf, scratchWords, roomSteps, fillSteps, selectedAnswer, Accepted}
 
@@ -53,14 +54,17 @@ module _ (x : Call) where
     limit = x .limit;
   }
 
-  -- refusals 1 to 7
+  -- refusals 1 to 7: 1 of the factor and of the requests; 2 and 3; 4 and 5; 6 and 7
+  abbrev pub selectedGroups : Room → List (List Step)
+  selectedGroups lengths =
+      (boundSteps (x .n) (length (x .rows)) ++ requestBoundSteps (length (x .requestRows)))
+      ∷ entrySteps (x .n) (x .starts) (x .rows) (x .values)
+      ∷ requestSteps (x .n) (x .dimension) (x .requestRows) (x .requestColumns)
+      ∷ fillSteps (x .n) (x .starts) (x .rows) (x .values) (x .limit) lengths
+      ∷ []
+
   unfoldable pub selectedSteps : Room → List Step
-  selectedSteps lengths =
-      boundSteps (x .n) (length (x .rows))
-      ++ (requestBoundStep (length (x .requestRows))
-      ∷ (columnSteps (x .n) (x .starts) (x .rows) (length (x .values))
-      ++ (requestSteps (x .n) (x .dimension) (x .requestRows) (x .requestColumns)
-      ++ fillSteps (x .n) (x .starts) (x .rows) (x .values) (x .limit) lengths)))
+  selectedSteps lengths = grouped (selectedGroups lengths)
 
   -- the reply
   abbrev pub selectedReply : Lent → Reply SelectedInverseDiagnostics
@@ -106,38 +110,16 @@ fill-accepted x lengths small F R p =
 
 -- the steps pass only for a call that has all this
 module _ (x : Call) (lengths : Room) (p : Passed (selectedSteps x lengths)) where
-  a1 : List Step
-  a1 = boundSteps (x .n) (length (x .rows))
-
-  a2 : List Step
-  a2 = requestBoundStep (length (x .requestRows)) ∷ []
-
-  a3 : List Step
-  a3 = columnSteps (x .n) (x .starts) (x .rows) (length (x .values))
-
-  a4 : List Step
-  a4 = requestSteps (x .n) (x .dimension) (x .requestRows) (x .requestColumns)
-
-  a5 : List Step
-  a5 = fillSteps (x .n) (x .starts) (x .rows) (x .values) (x .limit) lengths
-
-  past1 : Passed (a2 ++ (a3 ++ (a4 ++ a5)))
-  unfolding selectedSteps a1 a2 a3 a4 a5
-  past1 = passed-back a1 (a2 ++ (a3 ++ (a4 ++ a5))) p
-
-  past2 : Passed (a3 ++ (a4 ++ a5))
-  past2 = passed-back a2 (a3 ++ (a4 ++ a5)) past1
-
-  past3 : Passed (a4 ++ a5)
-  past3 = passed-back a3 (a4 ++ a5) past2
+  passed : AllPassed (selectedGroups x lengths)
+  unfolding selectedSteps
+  passed = groups-passed (selectedGroups x lengths) p
 
   pub accepted-requests : Requests (x .n) (x .requestRows) (x .requestColumns)
-  unfolding a4
-  accepted-requests = requestSteps-sound (x .n) (x .dimension) (x .requestRows) (x .requestColumns) (passed-front a4 a5 past3)
+  accepted-requests = requestSteps-sound (x .n) (x .dimension) (x .requestRows) (x .requestColumns) (passed .1 .1 .0)
 
   pub accepted : Accepted (selectionOf x) lengths
-  unfolding selectedSteps a1 a2 a3 a4 a5
   accepted =
-      let B = boundSteps-sound (x .n) (length (x .rows)) (passed-front a1 (a2 ++ (a3 ++ (a4 ++ a5))) p) in
-      let F = columnSteps-sound (x .n) (x .starts) (x .rows) (length (x .values)) (passed-front a3 (a4 ++ a5) past2) in
-      fill-accepted (selectionOf x) lengths (B .small) F (requested-ranged (x .requestRows) (x .requestColumns) (x .n) accepted-requests) (passed-back a4 a5 past3)
+      let bounds = boundSteps (x .n) (length (x .rows)) in
+      let B = boundSteps-sound (x .n) (length (x .rows)) (passed-front bounds (requestBoundSteps (length (x .requestRows))) (passed .0)) in
+      fill-accepted (selectionOf x) lengths (B .small) (entrySteps-sound (x .n) (x .starts) (x .rows) (x .values) (passed .1 .0))
+      (requested-ranged (x .requestRows) (x .requestColumns) (x .n) accepted-requests) (passed .1 .1 .1 .0)

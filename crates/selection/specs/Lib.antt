@@ -1,5 +1,6 @@
 -- Selected entries: refusals, answer and lists.
 pub mod RequestSteps
+pub mod Diagnosis
 pub mod Selection
 pub mod Status
 pub mod Call

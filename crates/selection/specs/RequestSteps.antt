@@ -15,8 +15,8 @@ use Rattle.columns.specs.Columns.{outsideAt, outside}
 use Rattle.closed_set.specs.Requests.{Requests}
 
 -- 1: too many requests; they are counted by their rows
-abbrev pub requestBoundStep : ℕ → Step
-requestBoundStep requests = (1, ltb maxEntries requests)
+abbrev pub requestBoundSteps : ℕ → List Step
+requestBoundSteps requests = (1, ltb maxEntries requests) ∷ []
 
 -- 4: the request dimension is not n, or the lists are of unequal length; 5: a request index of n or more
 unfoldable pub requestSteps : ℕ → ℕ → List ℕ → List ℕ → List Step
@@ -28,11 +28,6 @@ requestSteps n dimension rows columns =
     ∷ []
 
 module _ (n dimension : ℕ) (rows columns : List ℕ) (p : Passed (requestSteps n dimension rows columns)) where
-  -- past 4 the dimension is n
-  pub requestSteps-dimension : dimension ≡ n
-  unfolding requestSteps
-  requestSteps-dimension = eqb-true _ _ (not-false _ (passed-clear (requestSteps n dimension rows columns) p .0))
-
   -- past 4 and 5 the lists are as long as each other, and their indices below n
   pub requestSteps-sound : Requests n rows columns
   unfolding requestSteps

@@ -16,7 +16,7 @@ use Rattle.closed_set.specs.Requests.{requested}
 use Rattle.diagnostics.specs.declared.SelectedInverseDiagnostics.{SelectedInverseDiagnostics}
 use Rattle.diagnostics.specs.declared.SelectedInverseStatus.the-variants.{Complete}
 use Rattle.closed_set.specs.KeptSet.{SameKept}
-use Rattle.closure.specs.Diagnosis.{member-same, diagnosisOf-same}
+use Rattle.selection.specs.Diagnosis.{member-same, diagnosisOf-same}
 use Rattle.entries.specs.Entries.{entryStarts, entryRows, entryStarts-length, entryRows-length}
 use Rattle.entries.specs.Position.{entryStarts-cong, entryRows-cong}
 use Rattle.selection.specs.Selection.{Selection, selection, Lent, roomOf, Accepted, selectedSet, selectedSize, selectedComplete, selectedAnswer}

@@ -21,7 +21,7 @@ use Rattle.columns.specs.Diagonal.{diagonalSteps, Diagonals}
 use Rattle.closed_set.specs.ClosedSet.{member, Ranged}
 use Rattle.closed_set.specs.Size.{closureSize}
 use Rattle.diagnostics.specs.declared.SelectedInverseDiagnostics.{SelectedInverseDiagnostics}
-use Rattle.closure.specs.Diagnosis.{diagnosisOf}
+use Rattle.selection.specs.Diagnosis.{diagnosisOf}
 use Rattle.entries.specs.Entries.{entryStarts, entryRows, entryValues, floatTable}
 
 -- a factor, the set of requested pairs, and a limit
@@ -70,9 +70,13 @@ roomOf lent = record {
 abbrev pub scratchWords : ℕ → ℕ
 scratchWords n = 2 * pairTotal n + 4 * n
 
--- the default limit: 10 times the stored entries, dropped ones counted
+-- how many times the stored entries the default limit is
+abbrev pub limitFactor : ℕ
+limitFactor = 10
+
+-- the default limit: the stored entries, dropped ones counted, times that
 abbrev pub defaultLimit : List ℕ → ℕ
-defaultLimit rows = 10 * length rows
+defaultLimit rows = limitFactor * length rows
 
 -- 7: result starts below n + 1, result rows or values below min(limit, T), or scratch too short
 unfoldable pub roomSteps : ℕ → ℕ → Room → List Step

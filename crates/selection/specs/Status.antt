@@ -9,8 +9,7 @@ use Rattle.columns.specs.Kept.{nonzero, factorPairs}
 use Rattle.diagnostics.specs.Diagnosis.{statusOf, completeOf, diagnosis}
 use Rattle.diagnostics.specs.declared.SelectedInverseStatus.{SelectedInverseStatus}
 use Rattle.diagnostics.specs.declared.SelectedInverseStatus.the-variants.{Complete}
-use Rattle.closure.specs.Closure.{closureOf}
-use Rattle.closure.specs.Diagnosis.{diagnosisOf}
+use Rattle.selection.specs.Diagnosis.{diagnosisOf}
 use Rattle.selection.specs.Selection.{Selection, selectedSize, selectedComplete, selectedAnswer}
 
 complete-status : (b : Bool) → completeOf (statusOf b) ≡ b
@@ -19,7 +18,7 @@ complete-status false = refl
 
 module _ (x : Selection) where
   status-is : selectedAnswer x .status ≡ statusOf (selectedComplete x)
-  unfolding diagnosisOf diagnosis closureOf
+  unfolding diagnosisOf diagnosis
   status-is = refl
 
   -- a status tells whether the set is within the limit
@@ -35,5 +34,5 @@ module _ (x : Selection) where
   factor-pairs-are = refl
 
   pub closure-pairs-are : selectedAnswer x .«closure_pairs» ≡ min (selectedSize x) (x .limit + 1)
-  unfolding diagnosisOf diagnosis closureOf
+  unfolding diagnosisOf diagnosis
   closure-pairs-are = refl

@@ -1,5 +1,5 @@
-use Rattle.selected.specs.declared.Selected.{Selected}
-use Rattle.selected.specs.Selected.{selectedReplyOf}
+use Rattle.diagnostics.specs.declared.Selected.{Selected}
+use Rattle.diagnostics.specs.Selected.{selectedReplyOf}
 use Rattle.c_replies.specs.Numbers.{selectedNumbers, selectedNumbers-answered}
 use Rattle.c_replies.specs.declared.SelectedNumbers.{SelectedNumbers}
 use Rattle.refusal.specs.Steps.{refused}

@@ -5,8 +5,12 @@ use Rattle.closure.proofs.Diagnosis.{counts-small, counts-diagnosis}
 use Rattle.closure.proofs.diagnose.Statement.{statement}
 use Rattle.closure.proofs.diagnose.Tie as tie
 
+-- the counting of kept entries, and where the call begins
+abbrev counted : tie.After-takahashi-dependency-closure → tie.After-factor-pairs
+counted k = k .before .before .before
+
 abbrev begin : tie.After-takahashi-dependency-closure → tie.Start
-begin k = k .before .before .before .before .before .before .before .before .before
+begin k = counted k .before .before .before .before .before .before
 
 factor-pairs-requires : tie.Need-factor-pairs-requires
 factor-pairs-requires c κs = search needs
@@ -14,13 +18,16 @@ factor-pairs-requires c κs = search needs
 takahashi-dependency-closure-requires : tie.Need-takahashi-dependency-closure-requires
 takahashi-dependency-closure-requires c κs = search needs
 
+status-within-requires : tie.Need-status-within-requires
+status-within-requires c κs = search needs
+
 selected-inverse-diagnostics-requires : tie.Need-selected-inverse-diagnostics-requires
 selected-inverse-diagnostics-requires c κs =
-    let k = c .before .before .before .before in
+    let k = c .before .before .before .before .before in
     let a = begin k .args in
     let S = markedSet (a .n) (now (a .scratch)) in
-    counts-small (now (a .values)) (a .limit) (begin k .pre) S
-    (k .takahashi-dependency-closure .ensures .answers S (marked-requested (a .n) (now (a .scratch)))) (k .before .before .before .factor-pairs .ensures)
+    let R = marked-requested (a .n) (now (a .scratch)) in
+    counts-small (now (a .values)) (a .limit) (begin k .pre) S R (k .takahashi-dependency-closure .ensures .counts S R) (counted k .factor-pairs .ensures)
 
 same-length : tie.Need-same-length
 same-length c = search needs
@@ -30,12 +37,14 @@ same-length-2 c = search needs
 
 returns : tie.Need-returns
 returns c =
-    let k = c .before .before .before .before .before in
+    let w = c .before in
+    let k = w .before .before .before .before .before in
     let e = k .takahashi-dependency-closure .ensures in
-    let f = k .before .before .before .factor-pairs .ensures in
     let a = begin k .args in
     record {
-      answers = λ req R. counts-diagnosis (now (a .values)) (a .limit) (begin k .pre) req (e .answers req R) f (c .selected-inverse-diagnostics .ensures);
+      answers = λ req R.
+          counts-diagnosis (now (a .values)) (a .limit) (begin k .pre) req R (e .counts req R) (counted k .factor-pairs .ensures)
+          (w .status-within .ensures) (c .selected-inverse-diagnostics .ensures);
       leaves = e .leaves;
     }
 
@@ -45,6 +54,7 @@ diagnose-spec =
     (tie.spec
     factor-pairs-requires
     takahashi-dependency-closure-requires
+    status-within-requires
     selected-inverse-diagnostics-requires
     same-length
     same-length-2

@@ -1,4 +1,4 @@
-use Rattle.closure.proofs.Answer.{closes, requests-past, queue-past, queue-complete}
+use Rattle.closure.proofs.Answer.{closes, requests-past, queue-closed}
 use Rattle.columns.specs.Kept.{nonzero}
 use denote.Ref.{now}
 use native.Mathlib.Omega.{arith}
@@ -10,11 +10,11 @@ use Rattle.closure.proofs.takahashi_dependency_closure.Statement.{state
 use Rattle.closure.proofs.takahashi_dependency_closure.Tie as tie
 
 -- where the call begins
-abbrev begin : tie.After-close-queue → tie.Start
-begin q = q .before .before .before .before .before .before .before .before .before .before .before .before
+abbrev begin : tie.Else1 → tie.Start
+begin e = e .before .before .before .before .before .before
 
-add-t14 : tie.Need-add-t14
-add-t14 c = search needs
+add-result : tie.Need-add-result
+add-result c = search needs
 
 returns : tie.Need-returns
 returns c =
@@ -33,7 +33,7 @@ slice-aggregate-close-queue-2 c = search needs
 close-queue-requires : tie.Need-close-queue-requires
 close-queue-requires c κs =
     let p = c .before .before .before .before in
-    let s = p .before .before .before .before .before .before .before in
+    let s = begin (p .before) in
     let long = length-replicate {A = ℕ} maxDimension 0 in
     record {
       small = s .pre .small;
@@ -56,27 +56,15 @@ same-length-2 c = search needs
 
 returns-2 : tie.Need-returns-2
 returns-2 c =
-    let q = c .before .before .before .before .before .before .before in
-    let s = begin q in
-    closes (λ req R. queue-past (nonzero (now (s .args .values))) (s .args .limit) (s .pre) req R (q .close-queue .ensures) (c .if2 .taken))
-
-same-length-3 : tie.Need-same-length-3
-same-length-3 c = search needs
-
-same-length-4 : tie.Need-same-length-4
-same-length-4 c = search needs
-
-returns-3 : tie.Need-returns-3
-returns-3 c =
-    let q = c .before .before .before .before .before .before .before in
-    let s = begin q in
-    closes (λ req R. queue-complete (nonzero (now (s .args .values))) (s .args .limit) (s .pre) req R (q .close-queue .ensures) (c .if2 .left))
+    let q = c .before .before .before .before .before .before in
+    let s = begin (q .before .before .before .before .before .before) in
+    closes (λ req R. queue-closed (nonzero (now (s .args .values))) (s .args .limit) (s .pre) req R (q .close-queue .ensures))
 
 pub takahashi-dependency-closure-spec : {M : Type 1} → statement M
 takahashi-dependency-closure-spec =
     tie.close
     (tie.spec
-    add-t14
+    add-result
     returns
     pair-total-requires
     slice-aggregate-close-queue
@@ -84,7 +72,4 @@ takahashi-dependency-closure-spec =
     close-queue-requires
     same-length
     same-length-2
-    returns-2
-    same-length-3
-    same-length-4
-    returns-3)
+    returns-2)

@@ -13,7 +13,7 @@ use Rattle.diagnostics.specs.declared.SelectedInverseDiagnostics.{SelectedInver
 use Rattle.diagnostics.specs.declared.SelectedInverseStatus.the-variants.{Complete, ClosureTooLarge}
 use Rattle.selection.specs.Selection.{Lent, lists, roomOf, selectedComplete, selectedAnswer}
 use Rattle.selection.specs.Status.{status-tells}
-use Rattle.fill.specs.Fill.{marked-are, marked-input, marked-answer, marked-lists}
+use Rattle.fill.specs.Fill.{marked-are, marked-input, marked-answer, marked-lists, fillsLists-limit}
 use Rattle.operator_variances.specs.Transformed.{TransformedCall, transformedCall, transformedSelection, transformedSteps, AcceptedTransformed, transformed-accepted}
 use Rattle.operator_variances.proofs.Reply.{transformed-refused, transformed-large, transformed-reading, transformed-done}
 use Rattle.operator_variances.proofs.selected_inverse_transformed_diag.Statement.{statement}
@@ -38,8 +38,11 @@ begin d = d .before .before .before .before .before .before .before .before .bef
 abbrev checked : tie.After-enum-told → tie.Start
 checked t = begin (t .before .before)
 
+abbrev limiting : tie.After-fill-lists → tie.After-default-limit
+limiting e = e .before .before .before .before .before
+
 abbrev marking : tie.After-fill-lists → tie.After-mark-operator-pairs
-marking e = e .before .before .before .before .before .before .before
+marking e = limiting e .before .before .before
 
 abbrev asked : tie.After-fill-lists → tie.After-enum-told
 asked e = marking e .before .before
@@ -58,7 +61,8 @@ answer : (e : tie.After-fill-lists) → e .fill-lists .result ≡ selectedAnswer
 answer e =
     let t = asked e in
     let l = lent (checked t) in
-    marked-answer (l .resultStarts) (l .resultRows) (l .resultValues) (ready t .accepted) (marking e .mark-operator-pairs .ensures) (e .fill-lists .ensures .fills)
+    let filled = fillsLists-limit (limiting e .default-limit .ensures) (e .fill-lists .ensures) in
+    marked-answer (l .resultStarts) (l .resultRows) (l .resultValues) (ready t .accepted) (marking e .mark-operator-pairs .ensures) (filled .fills)
 
 complete : (v : tie.After-enum-told3) → selectedComplete (transformedSelection (handed (checked (asked (filling v))))) ≡ true
 complete v =
@@ -79,17 +83,17 @@ mark-operator-pairs-requires c κs =
     let A = ready (c .before) in
     record { small = A .accepted .small; rows = subst (OperatorRows _ _ _) (A .operator .weighed) (A .operator); room = omega (arith, A .accepted .scratch-room) }
 
-mul-limit : tie.Need-mul-limit
-mul-limit c =
-    let h = ready (c .before .before .before .before) .few in
-    search needs
+default-limit-requires : tie.Need-default-limit-requires
+default-limit-requires c κs = ready (c .before .before .before .before) .few
 
 fill-lists-requires : tie.Need-fill-lists-requires
 fill-lists-requires c κs =
-    let m = c .before .before .before .before .before .before in
+    let d = c .before .before .before .before in
+    let m = d .before .before .before in
     let t = m .before .before in
     let l = lent (checked t) in
-    marked-input (l .resultStarts) (l .resultRows) (l .resultValues) (ready t .accepted) (m .mark-operator-pairs .ensures)
+    rw (d .default-limit .ensures)
+    (marked-input (l .resultStarts) (l .resultRows) (l .resultValues) (ready t .accepted) (m .mark-operator-pairs .ensures))
 
 enum-told-2 : tie.Need-enum-told-2
 enum-told-2 c = search needs
@@ -123,7 +127,8 @@ returns c =
     let l = lent s in
     let A = ready t .accepted in
     let M = marking e .mark-operator-pairs .ensures in
-    let L = marked-lists (l .resultStarts) (l .resultRows) (l .resultValues) A M (e .fill-lists .ensures .fills) (transformedSteps (handed s) (roomOf l) (length (out s))) (passed t) in
+    let filled = fillsLists-limit (limiting e .default-limit .ensures) (e .fill-lists .ensures) in
+    let L = marked-lists (l .resultStarts) (l .resultRows) (l .resultValues) A M (filled .fills) (transformedSteps (handed s) (roomOf l) (length (out s))) (passed t) in
     transformed-large (handed s) l (out s) (passed t) _ L (answer e) (k .clear-scratch .ensures)
     (status-tells (transformedSelection (handed s)) ClosureTooLarge (ap (λ (d : SelectedInverseDiagnostics). d .status) (sym (answer e)) ∙ v .enum-told2 .given .1))
 
@@ -139,8 +144,9 @@ operator-values-requires c κs =
     let l = lent s in
     let A = ready t .accepted in
     let M = marking e .mark-operator-pairs .ensures in
-    let L = marked-lists (l .resultStarts) (l .resultRows) (l .resultValues) A M (e .fill-lists .ensures .fills) (transformedSteps (handed s) (roomOf l) (length (out s))) (passed t) in
-    let P = e .fill-lists .ensures .positions _ (marked-are (l .resultStarts) (l .resultRows) (l .resultValues) A M) (complete v) in
+    let filled = fillsLists-limit (limiting e .default-limit .ensures) (e .fill-lists .ensures) in
+    let L = marked-lists (l .resultStarts) (l .resultRows) (l .resultValues) A M (filled .fills) (transformedSteps (handed s) (roomOf l) (length (out s))) (passed t) in
+    let P = filled .positions _ (marked-are (l .resultStarts) (l .resultRows) (l .resultValues) A M) (complete v) in
     transformed-reading (handed s) l (out s) (passed t) _ L (ready t) (complete v) P (e .fill-lists .ensures .long ∙ M .long)
 
 clear-scratch-requires-2 : tie.Need-clear-scratch-requires-2
@@ -181,8 +187,9 @@ returns-3 c =
     let l = lent s in
     let A = ready t .accepted in
     let M = marking e .mark-operator-pairs .ensures in
-    let L = marked-lists (l .resultStarts) (l .resultRows) (l .resultValues) A M (e .fill-lists .ensures .fills) (transformedSteps (handed s) (roomOf l) (length (out s))) (passed t) in
-    let P = e .fill-lists .ensures .positions _ (marked-are (l .resultStarts) (l .resultRows) (l .resultValues) A M) (complete v) in
+    let filled = fillsLists-limit (limiting e .default-limit .ensures) (e .fill-lists .ensures) in
+    let L = marked-lists (l .resultStarts) (l .resultRows) (l .resultValues) A M (filled .fills) (transformedSteps (handed s) (roomOf l) (length (out s))) (passed t) in
+    let P = filled .positions _ (marked-are (l .resultStarts) (l .resultRows) (l .resultValues) A M) (complete v) in
     transformed-done (handed s) l (out s) (passed t) _ L (ready t) (complete v) P (answer e) (k .clear-scratch2 .ensures) (w .operator-values .ensures)
 
 pub selected-inverse-transformed-diag-spec : {M : Type 1} → statement M
@@ -193,7 +200,7 @@ selected-inverse-transformed-diag-spec =
     enum-known-why
     enum-told
     mark-operator-pairs-requires
-    mul-limit
+    default-limit-requires
     fill-lists-requires
     enum-told-2
     clear-scratch-requires

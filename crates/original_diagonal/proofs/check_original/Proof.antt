@@ -12,7 +12,7 @@ use Rattle.columns.specs.Columns.{factorSteps}
 use Rattle.columns.specs.Factor.{factorSteps-bounded, factorSteps-sound}
 use Rattle.factor_order.specs.Permutation.{orderSteps}
 use Rattle.selection.specs.Selection.{room, defaultLimit, fillSteps}
-use Rattle.selected_checks.specs.FirstOf.{verdicts}
+use Rattle.refusal.specs.FirstOf.{verdicts}
 use Rattle.original_diagonal.specs.Original.{originalSteps}
 use Rattle.original_diagonal.proofs.check_original.Statement.{statement}
 use Rattle.original_diagonal.proofs.check_original.Tie as tie
@@ -22,7 +22,7 @@ begin f = f .before .before .before .before .before
 
 -- the groups of steps
 abbrev one : tie.After-check-factor → List Step
-one f = let a = begin f .args in factorSteps (a .n) (now (a .starts)) (now (a .rows)) (length (now (a .values)))
+one f = let a = begin f .args in factorSteps (a .n) (now (a .starts)) (now (a .rows)) (now (a .values))
 
 abbrev two : tie.After-check-factor → List Step
 two f = let a = begin f .args in orderSteps (a .n) (now (a .orig-to-perm))
@@ -39,65 +39,54 @@ four f = let a = begin f .args in (7, ltb (a .output) (a .n)) ∷ []
 passed : (t : tie.After-enum-told) → Passed (one (t .before .before))
 passed t = sym (t .before .before .check-factor .ensures) ∙ ap replyOf (t .enum-told .given .1)
 
--- src/lib.rt:49:11
 check-factor-requires : tie.Need-check-factor-requires
 check-factor-requires c κs = search needs
 
--- src/lib.rt:50:26
 enum-known-why : tie.Need-enum-known-why
 enum-known-why c = search needs
 
--- src/lib.rt:52:17
 enum-told : tie.Need-enum-told
 enum-told c = search needs
 
--- src/lib.rt:52:17
 check-order-requires : tie.Need-check-order-requires
 check-order-requires c κs =
     factorSteps-bounded _ _ _ _ (passed c) .small
 
--- src/lib.rt:58:17
-mul-check-fill : tie.Need-mul-check-fill
-mul-check-fill c =
-    let h = factorSteps-bounded _ _ _ _ (passed (c .before)) .few in
-    search needs
+default-limit-requires : tie.Need-default-limit-requires
+default-limit-requires c κs = factorSteps-bounded _ _ _ _ (passed (c .before)) .few
 
--- src/lib.rt:53:17
 check-fill-requires : tie.Need-check-fill-requires
 check-fill-requires c κs =
-    (factorSteps-bounded _ _ _ _ (passed (c .before)) .small, factorSteps-sound _ _ _ _ (passed (c .before)))
+    let p = passed (c .before .before) in
+    (factorSteps-bounded _ _ _ _ p .small, factorSteps-sound _ _ _ _ p)
 
--- src/lib.rt:64:40
 check-output-requires : tie.Need-check-output-requires
 check-output-requires c κs = search needs
 
--- src/lib.rt:64:17
 first-of-requires : tie.Need-first-of-requires
 first-of-requires c κs = search needs
 
--- src/lib.rt:65:13
 first-of-requires-2 : tie.Need-first-of-requires-2
 first-of-requires-2 c κs = search needs
 
--- src/lib.rt:34:1
 returns : tie.Need-returns
 unfolding originalSteps
 returns c =
     let f = c .before .before .before in
     sym (append-refused (one f) (two f ++ (three f ++ four f)) _ tt (sym (f .check-factor .ensures) ∙ ap replyOf (c .before .why .given .1)))
 
--- src/lib.rt:34:1
 returns-2 : tie.Need-returns-2
 unfolding originalSteps
 returns-2 c =
     let l = c .before in
     let o = l .before in
     let k = o .before in
-    let p = k .before in
+    let d = k .before in
+    let p = d .before in
     let t = p .before in
     let f = t .before .before in
     verdicts (two f) (three f ++ four f) (c .first-of2 .ensures) (p .check-order .ensures)
-    (verdicts (three f) (four f) (l .first-of .ensures) (k .check-fill .ensures) (o .check-output .ensures))
+    (verdicts (three f) (four f) (l .first-of .ensures) (rw (d .default-limit .ensures) at (k .check-fill .ensures)) (o .check-output .ensures))
     ∙ sym (append-passed (one f) (two f ++ (three f ++ four f)) tt (passed t))
 
 pub check-original-spec : {M : Type 1} → statement M
@@ -108,7 +97,7 @@ check-original-spec =
     enum-known-why
     enum-told
     check-order-requires
-    mul-check-fill
+    default-limit-requires
     check-fill-requires
     check-output-requires
     first-of-requires

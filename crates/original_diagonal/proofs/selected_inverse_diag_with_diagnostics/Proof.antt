@@ -11,7 +11,7 @@ use Rattle.diagnostics.specs.declared.SelectedInverseDiagnostics.{SelectedInver
 use Rattle.diagnostics.specs.declared.SelectedInverseStatus.the-variants.{Complete, ClosureTooLarge}
 use Rattle.selection.specs.Selection.{Lent, lists, roomOf}
 use Rattle.selection.specs.Status.{status-tells}
-use Rattle.fill.specs.Fill.{marked-input, marked-answer, marked-lists}
+use Rattle.fill.specs.Fill.{marked-input, marked-answer, marked-lists, fills-limit}
 use Rattle.original_diagonal.specs.Original.{OriginalCall, originalCall, originalSelection, originalSteps, AcceptedOriginal, original-accepted}
 use Rattle.original_diagonal.proofs.Reply.{original-refused, original-large, original-input, original-done}
 use Rattle.original_diagonal.proofs.selected_inverse_diag_with_diagnostics.Statement.{statement}
@@ -34,8 +34,11 @@ begin d = d .before .before .before .before .before .before .before .before .bef
 abbrev checked : tie.After-enum-told → tie.Start
 checked t = begin (t .before .before)
 
+abbrev limiting : tie.After-fill-entries → tie.After-default-limit
+limiting e = e .before .before .before .before .before
+
 abbrev marking : tie.After-fill-entries → tie.After-mark-diagonals
-marking e = e .before .before .before .before .before .before .before
+marking e = limiting e .before .before .before
 
 abbrev asked : tie.After-fill-entries → tie.After-enum-told
 asked e = marking e .before .before
@@ -49,47 +52,38 @@ passed t = sym (t .before .before .check-original .ensures) ∙ ap replyOf (t .e
 ready : (t : tie.After-enum-told) → let s = checked t in AcceptedOriginal (handed s) (roomOf (lent s)) (length (out s))
 ready t = let s = checked t in original-accepted (handed s) (roomOf (lent s)) (length (out s)) (passed t)
 
--- src/lib.rt:109:11
 check-original-requires : tie.Need-check-original-requires
 check-original-requires c κs = search needs
 
--- src/lib.rt:121:26
 enum-known-why : tie.Need-enum-known-why
 enum-known-why c = search needs
 
--- src/lib.rt:123:53
 enum-told : tie.Need-enum-told
 enum-told c = search needs
 
--- src/lib.rt:123:17
 mark-diagonals-requires : tie.Need-mark-diagonals-requires
 mark-diagonals-requires c κs =
     let A = ready (c .before) .accepted in
     record { small = A .small; room = omega (arith, A .scratch-room) }
 
--- src/lib.rt:124:25
-mul-limit : tie.Need-mul-limit
-mul-limit c =
-    let h = ready (c .before .before .before .before) .few in
-    search needs
+default-limit-requires : tie.Need-default-limit-requires
+default-limit-requires c κs = ready (c .before .before .before .before) .few
 
--- src/lib.rt:125:17
 fill-entries-requires : tie.Need-fill-entries-requires
 fill-entries-requires c κs =
-    let m = c .before .before .before .before .before .before in
+    let d = c .before .before .before .before in
+    let m = d .before .before .before in
     let t = m .before .before in
     let l = lent (checked t) in
-    marked-input (l .resultStarts) (l .resultRows) (l .resultValues) (ready t .accepted) (m .mark-diagonals .ensures)
+    rw (d .default-limit .ensures)
+    (marked-input (l .resultStarts) (l .resultRows) (l .resultValues) (ready t .accepted) (m .mark-diagonals .ensures))
 
--- src/lib.rt:139:77
 enum-told-2 : tie.Need-enum-told-2
 enum-told-2 c = search needs
 
--- src/lib.rt:141:53
 enum-told-3 : tie.Need-enum-told-3
 enum-told-3 c = search needs
 
--- src/lib.rt:141:21
 write-original-requires : tie.Need-write-original-requires
 write-original-requires c κs =
     let v = c .before .before .before in
@@ -99,36 +93,31 @@ write-original-requires c κs =
     let l = lent s in
     let A = ready t .accepted in
     let M = marking e .mark-diagonals .ensures in
+    let filled = fills-limit (limiting e .default-limit .ensures) (e .fill-entries .ensures) in
     original-input (handed s) l (out s) (passed t)
-    (marked-lists (l .resultStarts) (l .resultRows) (l .resultValues) A M (e .fill-entries .ensures) (originalSteps (handed s) (roomOf l) (length (out s))) (passed t))
+    (marked-lists (l .resultStarts) (l .resultRows) (l .resultValues) A M filled (originalSteps (handed s) (roomOf l) (length (out s))) (passed t))
     (ready t)
     (status-tells (originalSelection (handed s)) Complete
-    (ap (λ (d : SelectedInverseDiagnostics). d .status) (sym (marked-answer (l .resultStarts) (l .resultRows) (l .resultValues) A M (e .fill-entries .ensures)))
+    (ap (λ (d : SelectedInverseDiagnostics). d .status) (sym (marked-answer (l .resultStarts) (l .resultRows) (l .resultValues) A M filled))
     ∙ v .enum-told3 .given .1))
 
--- src/lib.rt:92:1
 returns : tie.Need-returns
 returns c =
     let d = c .before .before .before in
     original-refused (handed (begin d)) (lent (begin d)) (out (begin d)) (sym (d .check-original .ensures) ∙ ap replyOf (c .before .why .given .1))
 
--- src/lib.rt:92:1
 same-length : tie.Need-same-length
 same-length c = search needs
 
--- src/lib.rt:92:1
 same-length-2 : tie.Need-same-length-2
 same-length-2 c = search needs
 
--- src/lib.rt:92:1
 same-length-3 : tie.Need-same-length-3
 same-length-3 c = search needs
 
--- src/lib.rt:92:1
 same-length-4 : tie.Need-same-length-4
 same-length-4 c = search needs
 
--- src/lib.rt:92:1
 returns-2 : tie.Need-returns-2
 returns-2 c =
     let e = c .before .before .before .before .before .before .before .before .before .before in
@@ -137,33 +126,28 @@ returns-2 c =
     let l = lent s in
     let A = ready t .accepted in
     let M = marking e .mark-diagonals .ensures in
+    let filled = fills-limit (limiting e .default-limit .ensures) (e .fill-entries .ensures) in
     original-large (handed s) l (out s) (passed t)
-    (marked-lists (l .resultStarts) (l .resultRows) (l .resultValues) A M (e .fill-entries .ensures) (originalSteps (handed s) (roomOf l) (length (out s))) (passed t))
+    (marked-lists (l .resultStarts) (l .resultRows) (l .resultValues) A M filled (originalSteps (handed s) (roomOf l) (length (out s))) (passed t))
     (status-tells (originalSelection (handed s)) ClosureTooLarge
-    (ap (λ (d : SelectedInverseDiagnostics). d .status) (sym (marked-answer (l .resultStarts) (l .resultRows) (l .resultValues) A M (e .fill-entries .ensures)))
+    (ap (λ (d : SelectedInverseDiagnostics). d .status) (sym (marked-answer (l .resultStarts) (l .resultRows) (l .resultValues) A M filled))
     ∙ c .enum-told2 .given .1))
 
--- src/lib.rt:92:1
 same-length-5 : tie.Need-same-length-5
 same-length-5 c = search needs
 
--- src/lib.rt:92:1
 same-length-6 : tie.Need-same-length-6
 same-length-6 c = search needs
 
--- src/lib.rt:92:1
 same-length-7 : tie.Need-same-length-7
 same-length-7 c = search needs
 
--- src/lib.rt:92:1
 same-length-8 : tie.Need-same-length-8
 same-length-8 c = search needs
 
--- src/lib.rt:92:1
 same-length-9 : tie.Need-same-length-9
 same-length-9 c = search needs
 
--- src/lib.rt:92:1
 returns-3 : tie.Need-returns-3
 returns-3 c =
     let w = c .before .before in
@@ -174,9 +158,10 @@ returns-3 c =
     let l = lent s in
     let A = ready t .accepted in
     let M = marking e .mark-diagonals .ensures in
-    let answer = marked-answer (l .resultStarts) (l .resultRows) (l .resultValues) A M (e .fill-entries .ensures) in
+    let filled = fills-limit (limiting e .default-limit .ensures) (e .fill-entries .ensures) in
+    let answer = marked-answer (l .resultStarts) (l .resultRows) (l .resultValues) A M filled in
     original-done (handed s) l (out s) (passed t)
-    (marked-lists (l .resultStarts) (l .resultRows) (l .resultValues) A M (e .fill-entries .ensures) (originalSteps (handed s) (roomOf l) (length (out s))) (passed t))
+    (marked-lists (l .resultStarts) (l .resultRows) (l .resultValues) A M filled (originalSteps (handed s) (roomOf l) (length (out s))) (passed t))
     (ready t)
     (status-tells (originalSelection (handed s)) Complete
     (ap (λ (d : SelectedInverseDiagnostics). d .status) (sym answer) ∙ v .enum-told3 .given .1))
@@ -190,7 +175,7 @@ selected-inverse-diag-with-diagnostics-spec =
     enum-known-why
     enum-told
     mark-diagonals-requires
-    mul-limit
+    default-limit-requires
     fill-entries-requires
     enum-told-2
     enum-told-3

@@ -15,7 +15,7 @@ abbrev start : tie.After-check-factor → tie.Start
 start q = q .before .before .before .before .before .before .before
 
 -- the input passes
-passed : (c : tie.After-enum-told) → Passed (factorSteps (start (c .before .before) .args .n) (now (start (c .before .before) .args .starts)) (now (start (c .before .before) .args .rows)) (length (now (start (c .before .before) .args .values))))
+passed : (c : tie.After-enum-told) → Passed (factorSteps (start (c .before .before) .args .n) (now (start (c .before .before) .args .starts)) (now (start (c .before .before) .args .rows)) (now (start (c .before .before) .args .values)))
 passed c = sym (c .before .before .check-factor .ensures) ∙ ap replyOf (c .enum-told .given .1)
 
 check-factor-requires : tie.Need-check-factor-requires

@@ -20,8 +20,8 @@ returns c =
     let s = c .before .before .before .before .before .before .before .before .before .before in
     entries-refused (handed s) (lent s) (too-many (handed s) (lent s) (c .if1 .taken))
 
-mul-limit : tie.Need-mul-limit
-mul-limit c = search needs
+default-limit-requires : tie.Need-default-limit-requires
+default-limit-requires c κs = search needs
 
 selected-inverse-entries-with-limit-requires :
     tie.Need-selected-inverse-entries-with-limit-requires
@@ -40,14 +40,16 @@ same-length-4 : tie.Need-same-length-4
 same-length-4 c = search needs
 
 returns-2 : tie.Need-returns-2
-returns-2 c = c .before .before .before .before .before .before .before .before .selected-inverse-entries-with-limit .ensures
+returns-2 c =
+    let e = c .before .before .before .before .before .before .before .before in
+    rw (e .before .before .before .before .before .default-limit .ensures) at (e .selected-inverse-entries-with-limit .ensures)
 
 pub selected-inverse-entries-spec : {M : Type 1} → statement M
 selected-inverse-entries-spec =
     tie.close
     (tie.spec
     returns
-    mul-limit
+    default-limit-requires
     selected-inverse-entries-with-limit-requires
     same-length
     same-length-2

@@ -2,7 +2,7 @@ use denote.Ref.{now}
 use borrow.Author.Needs.{needs}
 use Rattle.columns.specs.Diagonal.{diagonalSteps}
 use Rattle.selection.specs.Selection.{room, roomSteps}
-use Rattle.selected_checks.specs.FirstOf.{verdicts}
+use Rattle.refusal.specs.FirstOf.{verdicts}
 use Rattle.selected_checks.proofs.check_fill.Statement.{statement}
 use Rattle.selected_checks.proofs.check_fill.Tie as tie
 

@@ -1,8 +1,8 @@
 use mathlib.Core.Path.{_≡_, sym}
 use borrow.Author.Tests.{lt-ltb, le-ltb}
 use Rattle.refusal.specs.Steps.{first-hit, first-skip, first-end}
-use Rattle.selected_checks.proofs.check_output.Statement.{statement}
-use Rattle.selected_checks.proofs.check_output.Tie as tie
+use Rattle.replies.proofs.check_output.Statement.{statement}
+use Rattle.replies.proofs.check_output.Tie as tie
 
 returns : tie.Need-returns
 returns c = sym (first-hit 7 _ tt (lt-ltb _ _ (c .if1 .taken)))

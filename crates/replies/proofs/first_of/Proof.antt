@@ -2,9 +2,9 @@ use mathlib.Core.Path.{_≡_, sym, ap}
 use borrow.Author.Needs.{needs}
 use Rattle.refusal.specs.Refusal.{replyOf}
 use Rattle.refusal.specs.declared.Checked.{Checked}
-use Rattle.selected_checks.specs.FirstOf.{orElse}
-use Rattle.selected_checks.proofs.first_of.Statement.{statement}
-use Rattle.selected_checks.proofs.first_of.Tie as tie
+use Rattle.refusal.specs.FirstOf.{orElse}
+use Rattle.replies.proofs.first_of.Statement.{statement}
+use Rattle.replies.proofs.first_of.Tie as tie
 
 enum-known-a : tie.Need-enum-known-a
 enum-known-a c = search needs

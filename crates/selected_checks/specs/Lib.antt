@@ -1,3 +1,0 @@
--- The checks of a call that fills result lists.
-pub mod FirstOf
-pub mod Later
