@@ -18,6 +18,7 @@ use refusal::Checked;
 use refusal::MAX_ENTRIES;
 use refusal::Refusal;
 use scratch::pair_total;
+use scratch::scratch_words;
 
 fn least(a: usize, b: usize) -> usize
     ensures { λ r. ⌜ r ≡ min a b ⌝ }
@@ -51,7 +52,7 @@ fn check_room(
     if result_values < most {
         return Checked::Refused(Refusal::TooShort);
     }
-    if scratch < 2 * total + 4 * n {
+    if scratch < scratch_words(n) {
         return Checked::Refused(Refusal::TooShort);
     }
     Checked::Accepted
