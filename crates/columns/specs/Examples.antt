@@ -10,7 +10,7 @@ use Rattle.lists.specs.Test.{any, anyIn}
 use Rattle.lists.specs.Select.{select, picked}
 use Rattle.lists.specs.Sum.{sumTo}
 use Rattle.refusal.specs.Steps.{Passed, verdict, refused, first}
-use Rattle.columns.specs.Columns.{boundSteps, brokenSteps, startsSteps, rowsSteps, columnSteps, entrySteps, factorSteps}
+use Rattle.columns.specs.Columns.{boundSteps, brokenSteps, startsSteps, rowsSteps, columnSteps, storedSteps, factorSteps}
 use Rattle.columns.specs.Kept.{f0, nonzero, diag, desc, pattern, keptPair, factorPairs}
 use Rattle.columns.specs.Diagonal.{diagonalSteps}
 use Rattle.columns.specs.Operator.{operatorBoundSteps, operatorSteps}
@@ -88,16 +88,16 @@ dropped-above = refl
 
 -- ---- steps 1, 2 and 3
 F2-passes : Passed (factorSteps 2 F2-starts F2-rows F2-values)
-unfolding first factorSteps boundSteps entrySteps columnSteps startsSteps brokenSteps rowsSteps any anyIn
+unfolding first factorSteps boundSteps storedSteps columnSteps startsSteps brokenSteps rowsSteps any anyIn
 F2-passes = refl
 
 F3-passes : Passed (factorSteps 3 F3-starts F3-rows F3-values)
-unfolding first factorSteps boundSteps entrySteps columnSteps startsSteps brokenSteps rowsSteps any anyIn
+unfolding first factorSteps boundSteps storedSteps columnSteps startsSteps brokenSteps rowsSteps any anyIn
 F3-passes = refl
 
 -- n = 0
 none-passes : Passed (factorSteps 0 (0 ∷ []) [] [])
-unfolding first factorSteps boundSteps entrySteps columnSteps startsSteps brokenSteps rowsSteps any anyIn
+unfolding first factorSteps boundSteps storedSteps columnSteps startsSteps brokenSteps rowsSteps any anyIn
 none-passes = refl
 
 -- n = 2,049, before all
@@ -106,28 +106,28 @@ unfolding first factorSteps boundSteps
 large = refl
 
 starts-fall : verdict (factorSteps 2 (0 ∷ 4 ∷ 3 ∷ []) F2-rows F2-values) ≡ refused 2
-unfolding first factorSteps boundSteps entrySteps columnSteps startsSteps brokenSteps rowsSteps any anyIn
+unfolding first factorSteps boundSteps storedSteps columnSteps startsSteps brokenSteps rowsSteps any anyIn
 starts-fall = refl
 
 starts-short : verdict (factorSteps 2 (0 ∷ 3 ∷ []) F2-rows F2-values) ≡ refused 2
-unfolding first factorSteps boundSteps entrySteps columnSteps startsSteps brokenSteps rowsSteps any anyIn
+unfolding first factorSteps boundSteps storedSteps columnSteps startsSteps brokenSteps rowsSteps any anyIn
 starts-short = refl
 
 -- a value too few
 values-short : verdict (factorSteps 2 F2-starts F2-rows (whole 1 ∷ whole 2 ∷ [])) ≡ refused 2
-unfolding first factorSteps boundSteps entrySteps columnSteps startsSteps brokenSteps rowsSteps any anyIn
+unfolding first factorSteps boundSteps storedSteps columnSteps startsSteps brokenSteps rowsSteps any anyIn
 values-short = refl
 
 rows-fall : verdict (factorSteps 2 F2-starts (1 ∷ 0 ∷ 1 ∷ []) F2-values) ≡ refused 3
-unfolding first factorSteps boundSteps entrySteps columnSteps startsSteps brokenSteps rowsSteps any anyIn
+unfolding first factorSteps boundSteps storedSteps columnSteps startsSteps brokenSteps rowsSteps any anyIn
 rows-fall = refl
 
 rows-repeat : verdict (factorSteps 2 F2-starts (1 ∷ 1 ∷ 1 ∷ []) F2-values) ≡ refused 3
-unfolding first factorSteps boundSteps entrySteps columnSteps startsSteps brokenSteps rowsSteps any anyIn
+unfolding first factorSteps boundSteps storedSteps columnSteps startsSteps brokenSteps rowsSteps any anyIn
 rows-repeat = refl
 
 rows-outside : verdict (factorSteps 2 F2-starts (0 ∷ 2 ∷ 1 ∷ []) F2-values) ≡ refused 3
-unfolding first factorSteps boundSteps entrySteps columnSteps startsSteps brokenSteps rowsSteps any anyIn
+unfolding first factorSteps boundSteps storedSteps columnSteps startsSteps brokenSteps rowsSteps any anyIn
 rows-outside = refl
 
 -- ---- step 6

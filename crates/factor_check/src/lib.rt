@@ -6,7 +6,7 @@ pub mod starts;
 ghost use mathlib.Core.Path.{_≡_};
 ghost use Rattle.refusal.specs.Steps.{verdict};
 ghost use Rattle.refusal.specs.Refusal.{replyOf};
-ghost use Rattle.columns.specs.Columns.{columnSteps, entrySteps, factorSteps};
+ghost use Rattle.columns.specs.Columns.{columnSteps, storedSteps, factorSteps};
 use bounds::check_bounds;
 use refusal::Checked;
 use rows::check_rows;
@@ -23,8 +23,8 @@ pub fn check_columns(n: usize, starts: &[u32], rows: &[u32], values: usize) -> C
 }
 
 // Steps 2 and 3 of a factor.
-pub fn check_entries(n: usize, starts: &[u32], rows: &[u32], values: &[f64]) -> Checked
-    ensures { λ r. ⌜ replyOf r ≡ verdict (entrySteps n (now (starts .entry)) (now (rows .entry)) (now (values .entry))) ⌝ }
+pub fn check_stored(n: usize, starts: &[u32], rows: &[u32], values: &[f64]) -> Checked
+    ensures { λ r. ⌜ replyOf r ≡ verdict (storedSteps n (now (starts .entry)) (now (rows .entry)) (now (values .entry))) ⌝ }
 {
     check_columns(n, starts, rows, values.len())
 }
@@ -35,6 +35,6 @@ pub fn check_factor(n: usize, starts: &[u32], rows: &[u32], values: &[f64]) -> C
 {
     match check_bounds(n, rows.len()) {
         Checked::Refused(why) => Checked::Refused(why),
-        Checked::Accepted => check_entries(n, starts, rows, values),
+        Checked::Accepted => check_stored(n, starts, rows, values),
     }
 }

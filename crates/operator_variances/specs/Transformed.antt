@@ -12,8 +12,8 @@ use Rattle.lists.specs.Overwrite.{overwrite}
 use Rattle.refusal.specs.Bounds.{maxEntries}
 use Rattle.refusal.specs.Steps.{Step, Reply, first, after, Passed, passed-clear, passed-front}
 use Rattle.refusal.specs.Groups.{grouped, AllPassed, groups-passed}
-use Rattle.columns.specs.Columns.{boundSteps, entrySteps}
-use Rattle.columns.specs.Factor.{boundSteps-sound, entrySteps-sound}
+use Rattle.columns.specs.Columns.{boundSteps, storedSteps}
+use Rattle.columns.specs.Factor.{boundSteps-sound, storedSteps-sound}
 use Rattle.columns.specs.Operator.{operatorRows, operatorBoundSteps, operatorSteps, OperatorRows, operatorSteps-sound}
 use Rattle.diagnostics.specs.declared.SelectedInverseDiagnostics.{SelectedInverseDiagnostics}
 use Rattle.selection.specs.Selection.{Selection, Lent, Room, roomOf, defaultLimit, fillSteps, selectedComplete, selectedAnswer, selectedTable, Accepted}
@@ -72,7 +72,7 @@ module _ (x : TransformedCall) where
   abbrev pub transformedGroups : Room → ℕ → List (List Step)
   transformedGroups lengths output =
       (boundSteps (x .n) (length (x .rows)) ++ operatorBoundSteps (x .rowStarts) (x .columns))
-      ∷ entrySteps (x .n) (x .starts) (x .rows) (x .values)
+      ∷ storedSteps (x .n) (x .starts) (x .rows) (x .values)
       ∷ columnCountSteps
       ∷ operatorSteps (x .n) (x .rowStarts) (x .columns) (length (x .weights))
       ∷ fillSteps (x .n) (x .starts) (x .rows) (x .values) (defaultLimit (x .rows)) lengths
@@ -120,7 +120,7 @@ module _ (x : TransformedCall) (lengths : Room) (output : ℕ) (p : Passed (tran
   transformed-accepted =
       let bounds = boundSteps (x .n) (length (x .rows)) in
       let B = boundSteps-sound (x .n) (length (x .rows)) (passed-front bounds (operatorBoundSteps (x .rowStarts) (x .columns)) (passed .0)) in
-      let F = entrySteps-sound (x .n) (x .starts) (x .rows) (x .values) (passed .1 .0) in
+      let F = storedSteps-sound (x .n) (x .starts) (x .rows) (x .values) (passed .1 .0) in
       let O = operatorSteps-sound (x .n) (x .rowStarts) (x .columns) (length (x .weights)) (passed .1 .1 .1 .0) in
       record {
         accepted = fill-accepted (transformedSelection x) lengths (B .small) F (operatorRequested-ranged O) (passed .1 .1 .1 .1 .0);

@@ -14,7 +14,7 @@ ghost use Rattle.operator_variances.specs.Transformed.{transformedCall, 
 use diagnostics::Selected;
 use diagnostics::SelectedInverseStatus;
 use factor_check::bounds::check_bounds;
-use factor_check::check_entries;
+use factor_check::check_stored;
 use fill::clear_scratch;
 use fill::fill_lists;
 use operator_check::check_operator;
@@ -65,7 +65,7 @@ fn check_transformed(
     );
     match bounds {
         Checked::Refused(why) => Checked::Refused(why),
-        Checked::Accepted => match check_entries(n, starts, rows, values) {
+        Checked::Accepted => match check_stored(n, starts, rows, values) {
             Checked::Refused(why) => Checked::Refused(why),
             Checked::Accepted => {
                 let count = check_column_count(ncols, n);

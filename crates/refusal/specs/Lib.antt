@@ -2,5 +2,6 @@
 pub mod Steps
 pub mod Groups
 pub mod FirstOf
+pub mod Told
 pub mod Refusal
 pub mod Bounds

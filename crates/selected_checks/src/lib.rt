@@ -12,7 +12,7 @@ ghost use Rattle.selection.specs.Selection.{limitFactor, room, roomSteps, fillS
 ghost use Rattle.selection.specs.RequestSteps.{requestBoundSteps};
 ghost use Rattle.selection.specs.Call.{call, selectedSteps};
 use factor_check::bounds::check_bounds;
-use factor_check::check_entries;
+use factor_check::check_stored;
 use kept_entries::diagonal_check::check_diagonals;
 use refusal::Checked;
 use refusal::MAX_ENTRIES;
@@ -127,7 +127,7 @@ pub fn check_selected(
     );
     match bounds {
         Checked::Refused(why) => Checked::Refused(why),
-        Checked::Accepted => match check_entries(n, starts, rows, values) {
+        Checked::Accepted => match check_stored(n, starts, rows, values) {
             Checked::Refused(why) => Checked::Refused(why),
             Checked::Accepted => {
                 let requests = check_requests(n, dimension, request_rows, request_columns);

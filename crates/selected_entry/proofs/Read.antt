@@ -3,11 +3,13 @@
 use Prim.Native.Nat.{ℕ, _+_, _-_, _≤_}
 use native.Mathlib.Omega.{arith}
 use mathlib.Core.Path.{_≡_, refl, sym, ap, subst, _∙_}
+use mathlib.Core.Bool.{true, false}
 use mathlib.Core.List.{List}
 use lib.ListN.{length, take, drop}
 use lib.Ieee.{Float}
-use borrow.Author.Tests.{leb-false}
-use Rattle.refusal.specs.Steps.{Step, Reply, refused, answered, first, verdict, settle, Passed, first-refused, first-passed}
+use borrow.Author.Tests.{leb-true, leb-false}
+use Rattle.refusal.specs.Steps.{Step, Reply, refused, answered, verdict, Passed}
+use Rattle.refusal.specs.Told.{told-refused, told-passed, told-answer}
 use Rattle.refusal.specs.Bounds.{maxDimension}
 use Rattle.refusal.specs.Refusal.{refusalNumber}
 use Rattle.refusal.specs.declared.Refusal.{Refusal}
@@ -17,46 +19,17 @@ use Rattle.diagnostics.specs.declared.SelectedInverseStatus.the-variants as sta
 use Rattle.result.specs.Lookup.{lookup}
 use Rattle.lookup.specs.Reply.{entryReply}
 use Rattle.lookup.specs.declared.ordered.Entry.{Entry}
-use Rattle.selection.specs.Selection.{Lent, roomOf, selectedAnswer}
+use Rattle.selection.specs.Selection.{Lent, roomOf, selectedComplete, selectedAnswer, ResultLists}
 use Rattle.selection.specs.Call.{Call, selectionOf, selectedSteps, accepted}
 use Rattle.selection.specs.Status.{status-tells, selected-complete}
 use Rattle.selected.specs.Selected.{SelectedEntries}
 use Rattle.diagnostics.specs.declared.Selected.{Selected}
 use Rattle.diagnostics.specs.declared.Selected.the-variants as reply
+use Rattle.exact_entries.specs.Recurrence.{found, found-entries}
 use Rattle.exact_entries.specs.ExactEntries.{exact-call}
 use Rattle.selected_entry.specs.declared.SelectedEntry.the-variants.{Found, ClosureTooLarge, Refused}
 use Rattle.selected_entry.specs.declared.SelectedEntry.{SelectedEntry}
-use Rattle.selected_entry.specs.SelectedEntry.{ReadEntry, QueueLoop, LookedAt, ElementsChecked}
-
--- ---- a reply tells whether a condition holds
-abbrev number : {A : Type 0} → Reply A → ℕ
-number (refused k) = k + 1
-number (answered a) = 0
-
-module _ {A : Type 0} (steps : List Step) (a : A) where
-  told-refused : {k : ℕ} → refused k ≡ first steps a → verdict steps ≡ refused k
-  told-refused {k} e = go (verdict steps) refl
-    where
-      go : (v : Reply (Unit {0})) → verdict steps ≡ v → verdict steps ≡ refused k
-      go (refused j) q =
-          let w : j + 1 ≡ k + 1 = ap number (sym (first-refused steps j a q) ∙ sym e) in
-          let z : j ≡ k = omega arith in
-          q ∙ ap (λ (i : ℕ). refused i) z
-      go (answered tt) q =
-          let w : k + 1 ≡ 0 = ap number (e ∙ first-passed steps a q) in
-          absurd (omega arith)
-
-  told-passed : {d : A} → answered d ≡ first steps a → Passed steps
-  told-passed {d} e = go (verdict steps) refl
-    where
-      go : (v : Reply (Unit {0})) → verdict steps ≡ v → Passed steps
-      go (refused j) q =
-          let w : 0 ≡ j + 1 = ap number (e ∙ first-refused steps j a q) in
-          absurd (omega arith)
-      go (answered tt) q = q
-
-  told-answer : {d : A} → answered d ≡ first steps a → d ≡ a
-  told-answer {d} e = ap (settle a) (e ∙ first-passed steps a (told-passed e))
+use Rattle.selected_entry.specs.SelectedEntry.{refusedWith, tooLarge, looked, entryAnswer, ReadEntry, LookUpInput, LookedAt, LookUpResult}
 
 -- a part from 0 on is the front
 front : (m : ℕ) (l : List ℕ) → take (m - 0) (drop 0 l) ≡ take m l
@@ -66,35 +39,52 @@ module _ (x : Call) (lent : Lent) where
   abbrev steps : List Step
   steps = selectedSteps x (roomOf lent)
 
-  abbrev answerOf : SelectedInverseDiagnostics
-  answerOf = selectedAnswer (selectionOf x)
+  abbrev diagnosis : SelectedInverseDiagnostics
+  diagnosis = selectedAnswer (selectionOf x)
 
   -- an answered call has starts to look up in
   pub read-ready : {rs rr : List ℕ} {rv : List Float} {s : List ℕ} (r : Selected) → SelectedEntries x lent r rs rr rv s
-      → length rs ≡ length (lent .resultStarts) → QueueLoop (x .n) rs r
+      → length rs ≡ length (lent .resultStarts) → LookUpInput (x .n) rs r
   read-ready (reply.Answered d) E e =
-      let A = accepted x (roomOf lent) (told-passed steps answerOf (E .replies)) in
+      let A = accepted x (roomOf lent) (told-passed steps diagnosis (E .replies)) in
       (A .small, omega (arith, A .starts-room))
   read-ready (reply.Refused why) E e = tt
+
+  module _ (row col : ℕ) where
+    -- the answer, from what the call and the lookup tell
+    answer-refused : {k : ℕ} → verdict steps ≡ refused k → refusedWith k ≡ entryAnswer x (roomOf lent) row col
+    unfolding entryAnswer
+    answer-refused e = rw e
+
+    answer-large : Passed steps → selectedComplete (selectionOf x) ≡ false → tooLarge ≡ entryAnswer x (roomOf lent) row col
+    unfolding entryAnswer
+    answer-large p c = rw (p, c)
+
+    answer-found : {rs rr : List ℕ} {rv : List Float} {s : List ℕ} → Passed steps → selectedComplete (selectionOf x) ≡ true
+        → ResultLists steps (selectionOf x) lent rs rr rv s → {z : Reply Float}
+        → z ≡ found (selectionOf x) rs rr rv row col → looked z ≡ entryAnswer x (roomOf lent) row col
+    unfolding entryAnswer
+    answer-found p c L h =
+        ap looked (h ∙ found-entries (selectionOf x) lent (accepted x (roomOf lent) p) steps p L (leb-true _ _ c) row col) ∙ rw (p, c)
 
   module _ {rs rr : List ℕ} {rv : List Float} {s : List ℕ} (row col : ℕ) where
     module _ {d : SelectedInverseDiagnostics} (E : SelectedEntries x lent (reply.Answered d) rs rr rv s) where
       passed : Passed steps
-      passed = told-passed steps answerOf (E .replies)
+      passed = told-passed steps diagnosis (E .replies)
 
-      status-same : (v : SelectedInverseStatus) → d .status ≡ v → answerOf .status ≡ v
-      status-same v e = ap (λ (y : SelectedInverseDiagnostics). y .status) (sym (told-answer steps answerOf (E .replies))) ∙ e
+      status-same : (v : SelectedInverseStatus) → d .status ≡ v → diagnosis .status ≡ v
+      status-same v e = ap (λ (y : SelectedInverseDiagnostics). y .status) (sym (told-answer steps diagnosis (E .replies))) ∙ e
 
       at-status : (v : SelectedInverseStatus) → d .status ≡ v → (r : SelectedEntry) → LookedAt (x .n) row col rs rr rv v r → ReadEntry x lent row col r rs rr rv s
       at-status status.ClosureTooLarge e r h =
           let large = status-tells (selectionOf x) status.ClosureTooLarge (status-same status.ClosureTooLarge e) in
           subst (λ (q : SelectedEntry). ReadEntry x lent row col q rs rr rv s) (sym h)
-          (record { replies = (passed, large); exact = λ whole C X inv. leb-false _ _ large; left = E .left })
+          (record { replies = answer-large row col passed large; exact = λ whole C X inv. leb-false _ _ large; left = E .left })
       at-status status.Complete e r h =
           let st = status-same status.Complete e in
           subst (λ (q : SelectedEntry). ReadEntry x lent row col q rs rr rv s) (sym (h .1))
           (record {
-            replies = (passed, status-tells (selectionOf x) status.Complete st, h .2);
+            replies = answer-found row col passed (status-tells (selectionOf x) status.Complete st) (E .left) (h .2);
             exact = λ whole C X inv.
                 let B = exact-call x lent passed whole C X inv (E .left) in (
                   selected-complete (selectionOf x) .0 st,
@@ -105,30 +95,30 @@ module _ (x : Call) (lent : Lent) where
           })
 
     -- the lookup after a call is what is promised of both
-    pub read-entry : (a : Selected) → SelectedEntries x lent a rs rr rv s → (r : SelectedEntry) → ElementsChecked (x .n) row col rs rr rv a r
+    pub read-entry : (a : Selected) → SelectedEntries x lent a rs rr rv s → (r : SelectedEntry) → LookUpResult (x .n) row col rs rr rv a r
         → ReadEntry x lent row col r rs rr rv s
     read-entry (reply.Answered d) E r h = at-status E (d .status) refl r h
     read-entry (reply.Refused why) E r h =
         subst (λ (q : SelectedEntry). ReadEntry x lent row col q rs rr rv s) (sym h)
-        (record { replies = told-refused steps answerOf (E .replies); exact = λ whole C X inv. tt; left = E .left })
+        (record { replies = answer-refused row col (told-refused steps diagnosis (E .replies)); exact = λ whole C X inv. tt; left = E .left })
 
 -- ---- the lookup itself
 
 module _ (n row col : ℕ) (rs rr : List ℕ) (rv : List Float) (a : Selected) where
-  pub looked-refused : (why : Refusal) → a ≡ reply.Refused why → ElementsChecked n row col rs rr rv a (Refused why)
-  looked-refused why e = subst (λ (q : Selected). ElementsChecked n row col rs rr rv q (Refused why)) (sym e) refl
+  pub looked-refused : (why : Refusal) → a ≡ reply.Refused why → LookUpResult n row col rs rr rv a (Refused why)
+  looked-refused why e = subst (λ (q : Selected). LookUpResult n row col rs rr rv q (Refused why)) (sym e) refl
 
   module _ (d : SelectedInverseDiagnostics) (e : a ≡ reply.Answered d) where
-    pub ready-answered : QueueLoop n rs a → (n ≤ maxDimension) × (n + 1 ≤ length rs)
-    ready-answered h = subst (QueueLoop n rs) e h
+    pub ready-answered : LookUpInput n rs a → (n ≤ maxDimension) × (n + 1 ≤ length rs)
+    ready-answered h = subst (LookUpInput n rs) e h
 
-    looked-status : (v : SelectedInverseStatus) → d .status ≡ v → (r : SelectedEntry) → LookedAt n row col rs rr rv v r → ElementsChecked n row col rs rr rv a r
+    looked-status : (v : SelectedInverseStatus) → d .status ≡ v → (r : SelectedEntry) → LookedAt n row col rs rr rv v r → LookUpResult n row col rs rr rv a r
     looked-status v q r h =
-        subst (λ (y : Selected). ElementsChecked n row col rs rr rv y r) (sym e) (subst (λ (y : SelectedInverseStatus). LookedAt n row col rs rr rv y r) (sym q) h)
+        subst (λ (y : Selected). LookUpResult n row col rs rr rv y r) (sym e) (subst (λ (y : SelectedInverseStatus). LookedAt n row col rs rr rv y r) (sym q) h)
 
-    pub looked-large : d .status ≡ status.ClosureTooLarge → ElementsChecked n row col rs rr rv a ClosureTooLarge
+    pub looked-large : d .status ≡ status.ClosureTooLarge → LookUpResult n row col rs rr rv a ClosureTooLarge
     looked-large q = looked-status status.ClosureTooLarge q ClosureTooLarge refl
 
     pub looked-found : d .status ≡ status.Complete → (f : Entry) → entryReply f ≡ lookup (take (n + 1 - 0) (drop 0 rs)) rr rv row col
-        → ElementsChecked n row col rs rr rv a (Found f)
+        → LookUpResult n row col rs rr rv a (Found f)
     looked-found q f h = looked-status status.Complete q (Found f) (f, refl, h ∙ ap (λ (l : List ℕ). lookup l rr rv row col) (front (n + 1) rs))

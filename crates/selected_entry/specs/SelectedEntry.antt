@@ -2,13 +2,13 @@
 -- Assumes nothing.
 use Prim.Native.Nat.{ℕ, _+_, _≤_, _<_, max, min}
 use mathlib.Core.Path.{_≡_}
-use mathlib.Core.Bool.{true, false}
+use mathlib.Core.Bool.{Bool, true, false}
 use mathlib.Core.List.{List}
 use lib.ListN.{length, take}
 use lib.IntN.{ℤ}
 use lib.Ieee.{Float}
 use Rattle.refusal.specs.Bounds.{maxDimension}
-use Rattle.refusal.specs.Steps.{refused, answered, verdict, Passed}
+use Rattle.refusal.specs.Steps.{Reply, refused, answered, verdict}
 use Rattle.refusal.specs.Refusal.{refusalNumber}
 use Rattle.integers.specs.Matrix.{Matrix}
 use Rattle.integers.specs.Inverse.{WholeInverse}
@@ -18,25 +18,42 @@ use Rattle.exact.specs.Factor.{factor}
 use Rattle.exact.specs.ExactCase.{ones}
 use Rattle.diagnostics.specs.declared.SelectedInverseStatus.{SelectedInverseStatus}
 use Rattle.diagnostics.specs.declared.SelectedInverseStatus.the-variants as status
-use Rattle.selection.specs.Selection.{Lent, roomOf, selectedSize, selectedComplete, ResultLists}
+use Rattle.selection.specs.Selection.{Lent, Room, roomOf, selectedSet, selectedSize, selectedComplete, selectedTable, ResultLists}
 use Rattle.selection.specs.Call.{Call, selectionOf, selectedSteps}
 use Rattle.diagnostics.specs.declared.Selected.{Selected}
 use Rattle.diagnostics.specs.declared.Selected.the-variants as reply
 use Rattle.lookup.specs.declared.ordered.Entry as inverse
 use Rattle.lookup.specs.Reply.{entryReply}
 use Rattle.result.specs.Lookup.{lookup}
+use Rattle.exact_entries.specs.ReadBack.{readBack}
 use Rattle.exact_entries.specs.Recurrence as entries
 use Rattle.exact_entries.specs.ExactEntries.{ExactCall}
 use Rattle.selected_entry.specs.declared.SelectedEntry.{SelectedEntry}
 use Rattle.selected_entry.specs.declared.SelectedEntry.the-variants.{Found, ClosureTooLarge, Refused}
 
--- the call's refusal, a closed set beyond the limit, or what the lookup finds in the lists that the call left
-abbrev pub Told : Call → Lent → ℕ → ℕ → List ℕ → List ℕ → List Float → SelectedEntry → Type 0
-Told x lent row col starts rows values (Found e) =
-    Passed (selectedSteps x (roomOf lent)) × (selectedComplete (selectionOf x) ≡ true)
-    × (entryReply e ≡ entries.found (selectionOf x) starts rows values row col)
-Told x lent row col starts rows values ClosureTooLarge = Passed (selectedSteps x (roomOf lent)) × (selectedComplete (selectionOf x) ≡ false)
-Told x lent row col starts rows values (Refused why) = verdict (selectedSteps x (roomOf lent)) ≡ refused (refusalNumber why)
+-- the call is refused with a number, the closed set is beyond the limit, or the lookup replies
+pub data EntryAnswer : Type 0 where
+  refusedWith : ℕ → EntryAnswer
+  tooLarge : EntryAnswer
+  looked : Reply Float → EntryAnswer
+
+-- what a reply says
+abbrev pub answerOf : SelectedEntry → EntryAnswer
+answerOf (Found e) = looked (entryReply e)
+answerOf ClosureTooLarge = tooLarge
+answerOf (Refused why) = refusedWith (refusalNumber why)
+
+-- from the call's verdict, whether the set is within the limit, and what reads back
+abbrev pub answerFrom : Reply (Unit {0}) → Bool → Reply Float → EntryAnswer
+answerFrom (refused k) complete z = refusedWith k
+answerFrom (answered u) false z = tooLarge
+answerFrom (answered u) true z = looked z
+
+-- what a call with lists of these lengths and a lookup answer
+unfoldable pub entryAnswer : Call → Room → ℕ → ℕ → EntryAnswer
+entryAnswer x lengths row col =
+    answerFrom (verdict (selectedSteps x lengths)) (selectedComplete (selectionOf x))
+    (readBack (x .n) (selectedSet (selectionOf x)) (selectedTable (selectionOf x)) row col)
 
 -- the exact case of an accepted call: the set is within the limit and the pair reads back as X's entry, or as absent if it is not in the set; or the set is
 -- beyond the limit
@@ -50,16 +67,16 @@ Exact x row col X (Refused why) = Unit {0}
 
 -- the reply, the lists as the call leaves them, and the exact case for every inverse X of L * Lᵀ
 pub record ReadEntry (x : Call) (lent : Lent) (row col : ℕ) (reply : SelectedEntry) (starts rows : List ℕ) (values : List Float) (scratch : List ℕ) : Type 0 where
-  pub replies : Told x lent row col starts rows values reply
+  pub replies : answerOf reply ≡ entryAnswer x (roomOf lent) row col
   pub exact : (whole : ℕ → List (Entry ℤ)) → ExactCall (selectionOf x) whole → (X : Matrix) → WholeInverse (x .n) (factor ones whole) X → Exact x row col X reply
   pub left : ResultLists (selectedSteps x (roomOf lent)) (selectionOf x) lent starts rows values scratch
 
 -- ---- the lookup after the call's answer
 
 -- an answer comes with starts to look up in
-abbrev pub QueueLoop : ℕ → List ℕ → Selected → Type 0
-QueueLoop n starts (reply.Answered d) = (n ≤ maxDimension) × (n + 1 ≤ length starts)
-QueueLoop n starts (reply.Refused why) = Unit {0}
+abbrev pub LookUpInput : ℕ → List ℕ → Selected → Type 0
+LookUpInput n starts (reply.Answered d) = (n ≤ maxDimension) × (n + 1 ≤ length starts)
+LookUpInput n starts (reply.Refused why) = Unit {0}
 
 abbrev pub LookedAt : ℕ → ℕ → ℕ → List ℕ → List ℕ → List Float → SelectedInverseStatus → SelectedEntry → Type 0
 LookedAt n row col starts rows values status.Complete r =
@@ -67,6 +84,6 @@ LookedAt n row col starts rows values status.Complete r =
 LookedAt n row col starts rows values status.ClosureTooLarge r = r ≡ ClosureTooLarge
 
 -- a refusal stays, and a result is looked up in
-abbrev pub ElementsChecked : ℕ → ℕ → ℕ → List ℕ → List ℕ → List Float → Selected → SelectedEntry → Type 0
-ElementsChecked n row col starts rows values (reply.Answered d) r = LookedAt n row col starts rows values (d .status) r
-ElementsChecked n row col starts rows values (reply.Refused why) r = r ≡ Refused why
+abbrev pub LookUpResult : ℕ → ℕ → ℕ → List ℕ → List ℕ → List Float → Selected → SelectedEntry → Type 0
+LookUpResult n row col starts rows values (reply.Answered d) r = LookedAt n row col starts rows values (d .status) r
+LookUpResult n row col starts rows values (reply.Refused why) r = r ≡ Refused why

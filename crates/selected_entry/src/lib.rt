@@ -1,7 +1,7 @@
 // One selected entry: the call for selected entries, then the lookup of a pair in its result. Its contract holds the exact case.
 ghost use Rattle.selection.specs.Selection.{lists, defaultLimit};
 ghost use Rattle.selection.specs.Call.{call};
-ghost use Rattle.selected_entry.specs.SelectedEntry.{QueueLoop, ElementsChecked, ReadEntry};
+ghost use Rattle.selected_entry.specs.SelectedEntry.{LookUpInput, LookUpResult, ReadEntry};
 use diagnostics::Selected;
 use diagnostics::SelectedInverseStatus;
 use lookup::get;
@@ -10,7 +10,7 @@ use refusal::Refusal;
 use selected::selected_inverse_entries;
 use selected::selected_inverse_entries_with_limit;
 
-// What the lookup finds, or why there is no result; `Told` of specs/SelectedEntry.antt says which.
+// What the lookup finds, or why there is no result; `answerOf` of specs/SelectedEntry.antt gives the number and value of each case.
 pub enum SelectedEntry {
     Found(Entry),
     ClosureTooLarge,
@@ -27,8 +27,8 @@ fn look_up(
     row: usize,
     col: usize,
 ) -> SelectedEntry
-    requires { ⌜ QueueLoop n (now «result_starts») answer ⌝ }
-    ensures { λ r. ⌜ ElementsChecked n row col (now («result_starts» .entry)) (now («result_rows» .entry)) (now («result_values» .entry)) answer r ⌝ }
+    requires { ⌜ LookUpInput n (now «result_starts») answer ⌝ }
+    ensures { λ r. ⌜ LookUpResult n row col (now («result_starts» .entry)) (now («result_rows» .entry)) (now («result_values» .entry)) answer r ⌝ }
 {
     match answer {
         Selected::Refused(why) => SelectedEntry::Refused(why),

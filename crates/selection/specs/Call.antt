@@ -9,8 +9,8 @@ use Rattle.refusal.specs.Bounds.{maxDimension}
 use Rattle.refusal.specs.Steps.{Step, Reply, first, Passed, passed-clear, passed-front, passed-back}
 use Rattle.refusal.specs.Groups.{grouped, AllPassed, groups-passed}
 use Rattle.pairs.specs.Pair.{pairTotal}
-use Rattle.columns.specs.Columns.{boundSteps, entrySteps}
-use Rattle.columns.specs.Factor.{Factor, boundSteps-sound, entrySteps-sound}
+use Rattle.columns.specs.Columns.{boundSteps, storedSteps}
+use Rattle.columns.specs.Factor.{Factor, boundSteps-sound, storedSteps-sound}
 use Rattle.columns.specs.Diagonal.{diagonalSteps, diagonalSteps-sound}
 use Rattle.closed_set.specs.ClosedSet.{Ranged}
 use Rattle.closed_set.specs.Requests.{requested, Requests, requested-ranged}
@@ -58,7 +58,7 @@ module _ (x : Call) where
   abbrev pub selectedGroups : Room → List (List Step)
   selectedGroups lengths =
       (boundSteps (x .n) (length (x .rows)) ++ requestBoundSteps (length (x .requestRows)))
-      ∷ entrySteps (x .n) (x .starts) (x .rows) (x .values)
+      ∷ storedSteps (x .n) (x .starts) (x .rows) (x .values)
       ∷ requestSteps (x .n) (x .dimension) (x .requestRows) (x .requestColumns)
       ∷ fillSteps (x .n) (x .starts) (x .rows) (x .values) (x .limit) lengths
       ∷ []
@@ -121,5 +121,5 @@ module _ (x : Call) (lengths : Room) (p : Passed (selectedSteps x lengths)) wher
   accepted =
       let bounds = boundSteps (x .n) (length (x .rows)) in
       let B = boundSteps-sound (x .n) (length (x .rows)) (passed-front bounds (requestBoundSteps (length (x .requestRows))) (passed .0)) in
-      fill-accepted (selectionOf x) lengths (B .small) (entrySteps-sound (x .n) (x .starts) (x .rows) (x .values) (passed .1 .0))
+      fill-accepted (selectionOf x) lengths (B .small) (storedSteps-sound (x .n) (x .starts) (x .rows) (x .values) (passed .1 .0))
       (requested-ranged (x .requestRows) (x .requestColumns) (x .n) accepted-requests) (passed .1 .1 .1 .0)

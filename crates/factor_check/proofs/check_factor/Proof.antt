@@ -15,8 +15,8 @@ enum-known-why c = search needs
 enum-told : tie.Need-enum-told
 enum-told c = search needs
 
-check-entries-requires : tie.Need-check-entries-requires
-check-entries-requires c κs = search needs
+check-stored-requires : tie.Need-check-stored-requires
+check-stored-requires c κs = search needs
 
 returns : tie.Need-returns
 unfolding factorSteps
@@ -28,7 +28,7 @@ returns-2 : tie.Need-returns-2
 unfolding factorSteps
 returns-2 c =
     let t = c .before in
-    c .check-entries .ensures ∙ sym (append-passed _ _ tt (sym (t .before .before .check-bounds .ensures) ∙ ap replyOf (t .enum-told .given .1)))
+    c .check-stored .ensures ∙ sym (append-passed _ _ tt (sym (t .before .before .check-bounds .ensures) ∙ ap replyOf (t .enum-told .given .1)))
 
 pub check-factor-spec : {M : Type 1} → statement M
 check-factor-spec =
@@ -37,6 +37,6 @@ check-factor-spec =
     check-bounds-requires
     enum-known-why
     enum-told
-    check-entries-requires
+    check-stored-requires
     returns
     returns-2)

@@ -6,8 +6,8 @@ use borrow.Author.Needs.{needs}
 use Rattle.refusal.specs.Steps.{Step, verdict, Passed, append-refused, append-passed, passed-front}
 use Rattle.refusal.specs.FirstOf.{verdicts}
 use Rattle.refusal.specs.Refusal.{replyOf}
-use Rattle.columns.specs.Columns.{boundSteps, entrySteps}
-use Rattle.columns.specs.Factor.{FactorBounded, boundSteps-sound, entrySteps-sound}
+use Rattle.columns.specs.Columns.{boundSteps, storedSteps}
+use Rattle.columns.specs.Factor.{FactorBounded, boundSteps-sound, storedSteps-sound}
 use Rattle.columns.specs.Operator.{operatorRows, operatorBoundSteps, operatorSteps}
 use Rattle.selection.specs.Selection.{room, defaultLimit, fillSteps}
 use Rattle.operator_variances.specs.Transformed.{TransformedCall, transformedCall, columnCountSteps, outputSteps, transformedSteps}
@@ -28,7 +28,7 @@ module _ (f : tie.After-first-of) where
   bounds = let a = begin f .args in boundSteps (a .n) (length (now (a .rows))) ++ operatorBoundSteps (now (a .row-starts)) (now (a .columns))
 
   abbrev entries : List Step
-  entries = let a = begin f .args in entrySteps (a .n) (now (a .starts)) (now (a .rows)) (now (a .values))
+  entries = let a = begin f .args in storedSteps (a .n) (now (a .starts)) (now (a .rows)) (now (a .values))
 
   abbrev operator : List Step
   operator = let a = begin f .args in operatorSteps (a .n) (now (a .row-starts)) (now (a .columns)) (length (now (a .weights)))
@@ -62,7 +62,7 @@ bounded t =
 
 -- 2 and 3 pass
 entered : (t : tie.After-enum-told2) → Passed (entries (t .before .before .before .before .before))
-entered t = sym (t .before .before .check-entries .ensures) ∙ ap replyOf (t .enum-told2 .given .1)
+entered t = sym (t .before .before .check-stored .ensures) ∙ ap replyOf (t .enum-told2 .given .1)
 
 check-bounds-requires : tie.Need-check-bounds-requires
 check-bounds-requires c κs = search needs
@@ -79,8 +79,8 @@ enum-known-bounds c = search needs
 enum-told : tie.Need-enum-told
 enum-told c = search needs
 
-check-entries-requires : tie.Need-check-entries-requires
-check-entries-requires c κs = search needs
+check-stored-requires : tie.Need-check-stored-requires
+check-stored-requires c κs = search needs
 
 enum-known-why : tie.Need-enum-known-why
 enum-known-why c = search needs
@@ -100,7 +100,7 @@ default-limit-requires c κs = bounded (c .before .before .before .before .befor
 check-fill-requires : tie.Need-check-fill-requires
 check-fill-requires c κs =
     let t = c .before .before .before in
-    (bounded (t .before .before .before) .small, entrySteps-sound _ _ _ _ (entered t))
+    (bounded (t .before .before .before) .small, storedSteps-sound _ _ _ _ (entered t))
 
 operator-rows-requires : tie.Need-operator-rows-requires
 operator-rows-requires c κs = search needs
@@ -131,7 +131,7 @@ returns-2 c =
     let f = t .before .before in
     sym
     (append-passed (bounds f) (entries f ++ later f) tt (within t)
-    ∙ append-refused (entries f) (later f) _ tt (sym (e .check-entries .ensures) ∙ ap replyOf (c .before .why .given .1)))
+    ∙ append-refused (entries f) (later f) _ tt (sym (e .check-stored .ensures) ∙ ap replyOf (c .before .why .given .1)))
 
 returns-3 : tie.Need-returns-3
 unfolding transformedSteps
@@ -164,7 +164,7 @@ check-transformed-spec =
     first-of-requires
     enum-known-bounds
     enum-told
-    check-entries-requires
+    check-stored-requires
     enum-known-why
     enum-told-2
     check-column-count-requires

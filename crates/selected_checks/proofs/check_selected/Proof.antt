@@ -6,8 +6,8 @@ use borrow.Author.Needs.{needs}
 use Rattle.refusal.specs.Steps.{Step, verdict, Passed, append-refused, append-passed, passed-front}
 use Rattle.refusal.specs.FirstOf.{orElse, verdicts}
 use Rattle.refusal.specs.Refusal.{replyOf}
-use Rattle.columns.specs.Columns.{boundSteps, entrySteps}
-use Rattle.columns.specs.Factor.{boundSteps-sound, entrySteps-sound}
+use Rattle.columns.specs.Columns.{boundSteps, storedSteps}
+use Rattle.columns.specs.Factor.{boundSteps-sound, storedSteps-sound}
 use Rattle.selection.specs.Selection.{room, fillSteps}
 use Rattle.selection.specs.RequestSteps.{requestBoundSteps, requestSteps}
 use Rattle.selection.specs.Call.{selectedSteps}
@@ -23,7 +23,7 @@ module _ (f : tie.After-first-of) where
   bounds = let a = begin f .args in boundSteps (a .n) (length (now (a .rows))) ++ requestBoundSteps (length (now (a .request-rows)))
 
   abbrev entries : List Step
-  entries = let a = begin f .args in entrySteps (a .n) (now (a .starts)) (now (a .rows)) (now (a .values))
+  entries = let a = begin f .args in storedSteps (a .n) (now (a .starts)) (now (a .rows)) (now (a .values))
 
   abbrev requests : List Step
   requests = let a = begin f .args in requestSteps (a .n) (a .dimension) (now (a .request-rows)) (now (a .request-columns))
@@ -45,7 +45,7 @@ within t = sym (bounds-told (t .before .before)) ∙ ap replyOf (t .enum-told .g
 
 -- 2 and 3 pass
 entered : (t : tie.After-enum-told2) → Passed (entries (t .before .before .before .before .before))
-entered t = sym (t .before .before .check-entries .ensures) ∙ ap replyOf (t .enum-told2 .given .1)
+entered t = sym (t .before .before .check-stored .ensures) ∙ ap replyOf (t .enum-told2 .given .1)
 
 check-bounds-requires : tie.Need-check-bounds-requires
 check-bounds-requires c κs = search needs
@@ -62,8 +62,8 @@ enum-known-bounds c = search needs
 enum-told : tie.Need-enum-told
 enum-told c = search needs
 
-check-entries-requires : tie.Need-check-entries-requires
-check-entries-requires c κs = search needs
+check-stored-requires : tie.Need-check-stored-requires
+check-stored-requires c κs = search needs
 
 enum-known-why : tie.Need-enum-known-why
 enum-known-why c = search needs
@@ -79,7 +79,7 @@ check-fill-requires c κs =
     let t = c .before in
     let u = t .before .before .before in
     let a = begin (u .before .before) .args in
-    (boundSteps-sound (a .n) (length (now (a .rows))) (passed-front _ (requestBoundSteps (length (now (a .request-rows)))) (within u)) .small, entrySteps-sound _ _ _ _ (entered t))
+    (boundSteps-sound (a .n) (length (now (a .rows))) (passed-front _ (requestBoundSteps (length (now (a .request-rows)))) (within u)) .small, storedSteps-sound _ _ _ _ (entered t))
 
 first-of-requires-2 : tie.Need-first-of-requires-2
 first-of-requires-2 c κs = search needs
@@ -98,7 +98,7 @@ returns-2 c =
     let f = t .before .before in
     sym
     (append-passed (bounds f) (entries f ++ (requests f ++ fill f)) tt (within t)
-    ∙ append-refused (entries f) (requests f ++ fill f) _ tt (sym (e .check-entries .ensures) ∙ ap replyOf (c .before .why .given .1)))
+    ∙ append-refused (entries f) (requests f ++ fill f) _ tt (sym (e .check-stored .ensures) ∙ ap replyOf (c .before .why .given .1)))
 
 returns-3 : tie.Need-returns-3
 unfolding selectedSteps
@@ -122,7 +122,7 @@ check-selected-spec =
     first-of-requires
     enum-known-bounds
     enum-told
-    check-entries-requires
+    check-stored-requires
     enum-known-why
     enum-told-2
     check-requests-requires
