@@ -3,3 +3,4 @@ pub mod ReadBack
 pub mod Columns
 pub mod Recurrence
 pub mod ExactEntries
+pub mod Count

@@ -11,7 +11,8 @@ use lib.Ieee.{Float, nan}
 use borrow.Author.Tests.{le-leb}
 use Rattle.lists.specs.Tabulate.{tabulate-at, tabulate-length}
 use Rattle.lists.specs.Overwrite.{overwrite, overwrite-at}
-use Rattle.refusal.specs.Steps.{Passed, after-passed}
+use Rattle.refusal.specs.Steps.{Step, answered, Passed, after-passed}
+use Rattle.refusal.specs.Told.{told-passed, told-answer}
 use Rattle.columns.specs.Columns.{start, value}
 use Rattle.columns.specs.Operator.{operatorRows}
 use Rattle.integers.specs.Matrix.{Matrix}
@@ -22,7 +23,10 @@ use Rattle.exact.specs.Exact.{floats}
 use Rattle.exact.specs.Factor.{factor}
 use Rattle.exact.specs.ExactCase.{ones}
 use Rattle.closed_set.specs.ClosedSet.{request}
+use Rattle.diagnostics.specs.declared.SelectedInverseDiagnostics.{SelectedInverseDiagnostics}
 use Rattle.diagnostics.specs.declared.SelectedInverseStatus.the-variants.{Complete}
+use Rattle.diagnostics.specs.declared.Selected.{Selected}
+use Rattle.diagnostics.specs.Selected.{selectedReplyOf}
 use Rattle.selection.specs.Selection.{Lent, roomOf, selectedAnswer, selectedTable, ResultLists}
 use Rattle.selection.specs.Status.{selected-complete}
 use Rattle.exact_entries.specs.ExactEntries.{ExactCall, ReadsBack, exact-entries, exact-either}
@@ -30,7 +34,7 @@ use Rattle.request_marks.specs.OperatorRequests.{places-requested}
 use Rattle.quadratic_form.specs.RowValue.{columnAt, rowValue, operatorValues, operatorValue}
 use Rattle.quadratic_form.specs.ExactRow.{quadratic, RowWithin, rowValue-exact}
 use Rattle.operator_variances.specs.Transformed.{TransformedCall, transformedSelection, transformedSteps, transformedValues, transformedAfter}
-use Rattle.operator_variances.specs.Transformed.{AcceptedTransformed, transformed-accepted}
+use Rattle.operator_variances.specs.Transformed.{TransformedDiagonal, AcceptedTransformed, transformed-accepted}
 
 module _ (x : TransformedCall) where
   -- the first place of row i, and how many places it has
@@ -85,3 +89,20 @@ module _ (x : TransformedCall) (lent : Lent) (output : List Float) (passed : Pas
           ∙ overwrite-at (transformedValues x) output i nan
           (omega (arith, tabulate-length (operatorValue (x .rowStarts) (x .columns) (x .weights) (selectedTable (transformedSelection x))) (operatorRows (x .rowStarts))))
           ∙ tabulate-at (operatorValue (x .rowStarts) (x .columns) (x .weights) (selectedTable (transformedSelection x))) (operatorRows (x .rowStarts)) i nan l
+
+-- ---- of a reply
+module _ (x : TransformedCall) (lent : Lent) (output : List Float) {reply : Selected} {rs rr : List ℕ} {rv : List Float} {s : List ℕ} {out : List Float}
+    (C : TransformedDiagonal x lent output reply rs rr rv s out) {d : SelectedInverseDiagnostics} (answer : selectedReplyOf reply ≡ answered d)
+    (whole : ℕ → List (Entry ℤ)) (E : ExactCall (transformedSelection x) whole) (X : Matrix) (is : WholeInverse (x .n) (factor ones whole) X) where
+  abbrev checks : List Step
+  checks = transformedSteps x (roomOf lent) (length output)
+
+  all : Passed checks
+  all = told-passed checks (selectedAnswer (transformedSelection x)) (sym answer ∙ C .replies)
+
+  -- demand 3, of the reply: d is the diagnosis, X is what reads back, and the output holds each row's wᵀXw
+  pub transformed-exact-reply : (d ≡ selectedAnswer (transformedSelection x)) × TransformedExact x rs rr rv out X
+  transformed-exact-reply = (
+    told-answer checks (selectedAnswer (transformedSelection x)) (sym answer ∙ C .replies),
+    subst (λ (o : List Float). TransformedExact x rs rr rv o X) (sym (C .output-is)) (transformed-exact x lent output all whole E X is (C .left)),
+  )

@@ -1,6 +1,6 @@
 -- The exact case of the diagonal in original order: output i is the exact variance of original cell i.
 -- Assumes nothing.
-use Prim.Native.Nat.{ℕ, _<_}
+use Prim.Native.Nat.{ℕ, _≤_, _<_}
 use native.Mathlib.Omega.{arith}
 use mathlib.Core.Path.{_≡_, refl, sym, ap, subst, _∙_}
 use mathlib.Core.Bool.{Bool, true, not}
@@ -8,10 +8,11 @@ use mathlib.Core.List.{List, [], _∷_, _++_}
 use lib.ListN.{length, getD}
 use lib.IntN.{ℤ}
 use lib.Ieee.{Float, nan}
-use borrow.Author.Tests.{le-leb}
+use borrow.Author.Tests.{le-leb, lt-leb, leb-true, not-false}
 use Rattle.lists.specs.Tabulate.{tabulate-at}
 use Rattle.lists.specs.Overwrite.{overwrite, overwrite-at}
-use Rattle.refusal.specs.Steps.{Step, Passed, after-passed, passed-append, clear-passed}
+use Rattle.refusal.specs.Steps.{Step, refused, answered, Passed, after-passed, first-hit, first-passed, append-passed, passed-append, passed-front, passed-back, passed-clear, clear-passed}
+use Rattle.refusal.specs.Told.{told-passed, told-answer}
 use Rattle.integers.specs.Matrix.{Matrix}
 use Rattle.integers.specs.Inverse.{WholeInverse}
 use Rattle.takahashi.specs.Entries.{Entry}
@@ -21,13 +22,16 @@ use Rattle.exact.specs.ExactCase.{ones}
 use Rattle.closed_set.specs.ClosedSet.{request}
 use Rattle.factor_order.specs.Permutation.{index, reordered}
 use Rattle.factor_order.specs.Laws.{reordered-length, reordered-at}
+use Rattle.diagnostics.specs.declared.SelectedInverseDiagnostics.{SelectedInverseDiagnostics}
 use Rattle.diagnostics.specs.declared.SelectedInverseStatus.the-variants.{Complete}
-use Rattle.selection.specs.Selection.{Lent, roomOf, selectedComplete, selectedAnswer, selectedTable, ResultLists}
+use Rattle.diagnostics.specs.declared.Selected.{Selected}
+use Rattle.diagnostics.specs.Selected.{selectedReplyOf}
+use Rattle.selection.specs.Selection.{Lent, roomOf, defaultLimit, selectedSize, selectedComplete, selectedAnswer, selectedTable, ResultLists}
 use Rattle.selection.specs.Status.{selected-complete}
 use Rattle.exact_entries.specs.ExactEntries.{ExactCall, ReadsBack, exact-entries, exact-at}
 use Rattle.request_marks.specs.DiagonalMarks.{diagonal-requested}
 use Rattle.original_diagonal.specs.Original.{OriginalCall, originalSelection, originalSteps, coveredSteps, factorDiagonal, originalAfter}
-use Rattle.original_diagonal.specs.Original.{AcceptedOriginal, original-accepted}
+use Rattle.original_diagonal.specs.Original.{OriginalDiagonal, AcceptedOriginal, original-accepted}
 
 -- X is what reads back, and its diagonal in original order what the output holds
 pub record OriginalExact (x : OriginalCall) (rs rr : List ℕ) (rv out : List Float) (X : Matrix) : Type 0 where
@@ -67,3 +71,42 @@ module _ (x : OriginalCall) (lent : Lent) (output : List Float) (passed : Passed
           ∙ overwrite-at (reordered (x .perm) (factorDiagonal x)) output i nan (omega (arith, reordered-length (x .perm) (factorDiagonal x), A .long))
           ∙ reordered-at (x .perm) (factorDiagonal x) i (omega (arith, A .long))
           ∙ tabulate-at (λ j. selectedTable (originalSelection x) j j) (x .n) (index (x .perm) i) nan (inside i l)
+
+-- ---- of a reply
+module _ (x : OriginalCall) (lent : Lent) (output : List Float) {reply : Selected} {rs rr : List ℕ} {rv : List Float} {s : List ℕ} {out : List Float}
+    (C : OriginalDiagonal x lent output reply rs rr rv s out) where
+  abbrev checks : List Step
+  checks = originalSteps x (roomOf lent) (length output)
+
+  abbrev eight : List Step
+  eight = (8, not (selectedComplete (originalSelection x))) ∷ []
+
+  module _ (passed : Passed checks) where
+    -- past the checks, a set within the limit is answered with the diagnosis
+    pub within-reply : selectedSize (originalSelection x) ≤ defaultLimit (x .rows) → selectedReplyOf reply ≡ answered (selectedAnswer (originalSelection x))
+    within-reply h =
+        C .replies
+        ∙ first-passed (checks ++ eight) (selectedAnswer (originalSelection x)) (passed-append checks eight passed (clear-passed eight (ap not (le-leb _ _ h), tt)))
+
+    -- any other is refused with 8
+    pub beyond-reply : defaultLimit (x .rows) < selectedSize (originalSelection x) → selectedReplyOf reply ≡ refused 8
+    beyond-reply h =
+        C .replies
+        ∙ append-passed checks eight (selectedAnswer (originalSelection x)) passed
+        ∙ first-hit 8 [] (selectedAnswer (originalSelection x)) (ap not (lt-leb (selectedSize (originalSelection x)) (defaultLimit (x .rows)) h))
+
+  -- demand 3, of the reply: d is the diagnosis, Complete, X is what reads back, and its diagonal in original order is the output
+  module _ {d : SelectedInverseDiagnostics} (answer : selectedReplyOf reply ≡ answered d) (whole : ℕ → List (Entry ℤ)) (E : ExactCall (originalSelection x) whole)
+      (X : Matrix) (is : WholeInverse (x .n) (factor ones whole) X) where
+    all : Passed (checks ++ eight)
+    all = told-passed (checks ++ eight) (selectedAnswer (originalSelection x)) (sym answer ∙ C .replies)
+
+    covered-is : selectedComplete (originalSelection x) ≡ true
+    covered-is = not-false _ (passed-clear eight (passed-back checks eight all) .0)
+
+    pub original-exact-reply : (d ≡ selectedAnswer (originalSelection x)) × (selectedSize (originalSelection x) ≤ defaultLimit (x .rows)) × OriginalExact x rs rr rv out X
+    original-exact-reply = (
+      told-answer (checks ++ eight) (selectedAnswer (originalSelection x)) (sym answer ∙ C .replies),
+      leb-true _ _ covered-is,
+      subst (λ (o : List Float). OriginalExact x rs rr rv o X) (sym (C .output-is)) (original-exact x lent output (passed-front checks eight all) whole E X is (C .left)),
+    )

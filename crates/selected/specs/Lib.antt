@@ -1,2 +1,3 @@
 -- Selected entries: what the call replies and leaves.
 pub mod Selected
+pub mod ExactReply
