@@ -12,7 +12,6 @@ use diagnostics::selected_inverse_diagnostics;
 use kept_entries::factor_pairs;
 use queue::close_queue;
 use refusal::MAX_DIMENSION;
-use scratch::queue_start;
 
 // The counts of a closure: requested pairs; the closed set's pairs, or limit + 1 where it has more; and which of the two.
 pub struct Closure {
@@ -45,10 +44,8 @@ pub fn takahashi_dependency_closure(
     }
     let mut span_starts = [0; MAX_DIMENSION];
     let mut span_ends = [0; MAX_DIMENSION];
-    let pairs = queue_start(n);
     let count = close_queue(
         n,
-        pairs,
         starts,
         rows,
         values,

@@ -13,10 +13,6 @@ use lib.ListN.{length, getD, take, drop, length-append, length-take, length-drop
 use lib.Seq.{getD-set-same, getD-append-add, getD-take, getD-drop, length-take-le}
 use lib.Ieee.{Float, nan}
 use borrow.Author.Tests.{lt-ltb}
-use Rattle.refusal.specs.Bounds.{maxDimension}
-use Rattle.pairs.specs.Pair.{pairTotal}
-use Rattle.pairs.specs.Scratch.{queueStart}
-use Rattle.pairs.specs.ColumnOrder.{columnMarking}
 use Rattle.columns.specs.Columns.{row}
 use Rattle.exact.specs.Exact.{float-off}
 use Rattle.column_sums.specs.Sums.{Summing}
@@ -34,13 +30,11 @@ pub record PartDivided (j : ℕ) (d : Float) (rows : List ℕ) (first last : ℕ
   pub below : (q : ℕ) → first ≤ q → q < last → j < row rows q → getD z q nan ≡ float-off d (getD z₀ q nan)
   pub after : (q : ℕ) → last ≤ q → getD z q nan ≡ getD z₀ q nan
 
--- the diagonal's entry can be made, if it is in the set
-pub record DiagonalRoom (n pairs j q s e : ℕ) (rows : List ℕ) (values : List Float) (scratch : List ℕ) (size : ℕ) : Type 0 where
-  pub small : n ≤ maxDimension
-  pub inside : j < n
-  pub room : queueStart n + pairTotal n ≤ length scratch
-  pub fits : columnMarking n scratch j j ≡ true → q < size
-  pub sums : columnMarking n scratch j j ≡ true → Summing n pairs j j s e rows values scratch size
+-- the diagonal's entry can be made, where q's row is j
+pub record DiagonalRoom (n j q s e : ℕ) (rows : List ℕ) (values : List Float) (entryRows scratch : List ℕ) (size : ℕ) : Type 0 where
+  pub listed : q < length entryRows
+  pub fits : q < size
+  pub sums : row entryRows q ≡ j → Summing n j j s e rows values scratch size
 
 -- ---- the division
 

@@ -48,9 +48,8 @@ pub record Solved (n : ℕ) (S : ℕ → ℕ → Bool) (Z : ℕ → ℕ → Floa
   pub entries : SolvedFrom n S Z m z
 
 -- column j, once the later columns are done
-pub record ColumnStep (n pairs j : ℕ) (starts rows : List ℕ) (values : List Float) (firsts listed scratch : List ℕ) (z : List Float) : Type 0 where
+pub record ColumnStep (n j : ℕ) (starts rows : List ℕ) (values : List Float) (firsts listed scratch : List ℕ) (z : List Float) : Type 0 where
   pub route : ClosureRoute n starts rows values firsts listed scratch (length z)
-  pub all : pairs ≡ queueStart n
   pub inside : j < n
   pub later : SolvedFrom n (columnMarking n scratch) (floatTable n starts rows values) (j + 1) z
 

@@ -19,7 +19,7 @@ use Rattle.column_sums.specs.Sums.{inverseAt, entrySum, withProduct, wit
 use Rattle.column_sums.specs.Stored.{Sums, first-less, later-row}
 
 -- the stored entry at p, and the sums from q to below last, to which its product can be added
-pub record StoredRoom (n pairs j p q last : ℕ) (rows : List ℕ) (values : List Float) (entryRows scratch : List ℕ) (size : ℕ) : Type 0 where
+pub record StoredRoom (n j p q last : ℕ) (rows : List ℕ) (values : List Float) (entryRows scratch : List ℕ) (size : ℕ) : Type 0 where
   pub stored : p < length rows
   pub weighed : p < length values
   pub ordered : q ≤ last
@@ -27,7 +27,7 @@ pub record StoredRoom (n pairs j p q last : ℕ) (rows : List ℕ) (values : Lis
   pub below : (i : ℕ) → q ≤ i → i < last → j < row entryRows i
   pub ascends : Ascends entryRows q last
   pub column : (from : ℕ) → q ≤ from → from < last → row rows p ≤ row entryRows from → keptBelow rows (nonzero values) j p ≡ true
-      → ColumnProductsRoom n pairs (row rows p) from last entryRows scratch size
+      → ColumnProductsRoom n (row rows p) from last entryRows scratch size
 
 -- the sums from m to below last, whose rows are not less than p's, have the product of the stored entry at p; all others are as they were
 pub record Stepped (n j p q m last : ℕ) (rows : List ℕ) (values : List Float) (entryRows scratch : List ℕ) (z z′ : List Float) : Type 0 where
@@ -41,8 +41,8 @@ pub record Stepped (n j p q m last : ℕ) (rows : List ℕ) (values : List Float
   pub after : (i : ℕ) → last ≤ i → getD z′ i nan ≡ getD z i nan
 
 -- the column's sums, cleared
-pub record SumsRoom (n pairs j first last s e : ℕ) (rows : List ℕ) (values : List Float) (entryRows scratch : List ℕ) (z : List Float) : Type 0 where
-  pub sums : Sums n pairs j first last s e rows values entryRows scratch (length z)
+pub record SumsRoom (n j first last s e : ℕ) (rows : List ℕ) (values : List Float) (entryRows scratch : List ℕ) (z : List Float) : Type 0 where
+  pub sums : Sums n j first last s e rows values entryRows scratch (length z)
   pub cleared : (q : ℕ) → first ≤ q → q < last → getD z q nan ≡ f0
 
 -- each entry from first to below last is its sum over the stored entries up to its row, of those from s to below p
@@ -58,8 +58,8 @@ RowsBefore first q p e rows entryRows = (i t : ℕ) → first ≤ i → i < q �
 
 -- ---- one stored entry
 
-module _ {n pairs j p q last : ℕ} {rows : List ℕ} {values : List Float} {entryRows scratch : List ℕ} {size : ℕ}
-    (R : StoredRoom n pairs j p q last rows values entryRows scratch size) where
+module _ {n j p q last : ℕ} {rows : List ℕ} {values : List Float} {entryRows scratch : List ℕ} {size : ℕ}
+    (R : StoredRoom n j p q last rows values entryRows scratch size) where
   -- it is not below the diagonal
   pub step-above : (z : List Float) → row rows p ≤ j → Stepped n j p q q last rows values entryRows scratch z z
   step-above z h = record {
@@ -115,14 +115,14 @@ module _ {n pairs j p q last : ℕ} {rows : List ℕ} {values : List Float} {ent
       after = A .after;
     }
 
-    pub step-room : m < last → keptBelow rows (nonzero values) j p ≡ true → ColumnProductsRoom n pairs (row rows p) m last entryRows scratch size
+    pub step-room : m < last → keptBelow rows (nonzero values) j p ≡ true → ColumnProductsRoom n (row rows p) m last entryRows scratch size
     step-room h k = R .column m (F .from) h (F .stops h) k
 
 -- ---- all stored entries
 
-module _ {n pairs j first last s e : ℕ} {rows : List ℕ} {values : List Float} {entryRows scratch : List ℕ} {size : ℕ}
-    (R : Sums n pairs j first last s e rows values entryRows scratch size) where
-  pub lower-entry : (p q : ℕ) → s ≤ p → p < e → first ≤ q → q ≤ last → StoredRoom n pairs j p q last rows values entryRows scratch size
+module _ {n j first last s e : ℕ} {rows : List ℕ} {values : List Float} {entryRows scratch : List ℕ} {size : ℕ}
+    (R : Sums n j first last s e rows values entryRows scratch size) where
+  pub lower-entry : (p q : ℕ) → s ≤ p → p < e → first ≤ q → q ≤ last → StoredRoom n j p q last rows values entryRows scratch size
   lower-entry p q lo hi from upto = record {
     stored = omega (arith, R .storing .column .stored);
     weighed = omega (arith, R .storing .column .weighed);
@@ -132,7 +132,6 @@ module _ {n pairs j first last s e : ℕ} {rows : List ℕ} {values : List Float
     ascends = λ i i′ a. R .storing .ascends i i′ (omega arith);
     column = λ m a b h k. record {
       small = R .storing .small;
-      all = entry m (omega arith) b .all;
       right = entry m (omega arith) b .inside p lo hi;
       some = b;
       fits = R .storing .fits;
@@ -145,7 +144,7 @@ module _ {n pairs j first last s e : ℕ} {rows : List ℕ} {values : List Float
     };
   }
     where
-      entry : (i : ℕ) → first ≤ i → i < last → Summing n pairs (row entryRows i) j s e rows values scratch size
+      entry : (i : ℕ) → first ≤ i → i < last → Summing n (row entryRows i) j s e rows values scratch size
       entry i c d = R .storing .sums i c d (R .below i c d)
 
       up : (m : ℕ) → first ≤ m → row rows p ≤ row entryRows m → (i : ℕ) → m ≤ i → i < last → row rows p ≤ row entryRows i

@@ -15,7 +15,7 @@ use Rattle.pairs.specs.ColumnOrder.{colStart, columnPlace}
 use Rattle.columns.specs.Columns.{row, value}
 use Rattle.columns.specs.Kept.{f0, nonzero, nonzero-not, keptBelow}
 use Rattle.layout.specs.Position.{word-left, word-position, word-reads}
-use Rattle.layout.specs.Run.{run-apart, run-is}
+use Rattle.column_sums.specs.Run.{rowPositions, RunRoom, Follows}
 use Rattle.column_sums.specs.Sums.{positionOf, inverseAt, Reading, Summing, summing-entry, adding-read, Continued, sumBetween, sumBetween-next, withProduct-kept}
 
 -- the value at p is 0.0
@@ -32,19 +32,16 @@ pub record RestRunRoom (first e position values size : ℕ) : Type 0 where
   pub weighed : e ≤ values
   pub fits : position + (e - first) ≤ size
 
--- a word for the row of each value from `first` to below e, `shift` words past it, with a position of the inverse
-pub record RestRowsRoom (shift first e : ℕ) (rows : List ℕ) (values : ℕ) (scratch : List ℕ) (size : ℕ) : Type 0 where
+-- a word for the row of each value from `first` to below e, `base` words past it, with a position of the inverse
+pub record RestRowsRoom (base first e : ℕ) (rows : List ℕ) (values : ℕ) (scratch : List ℕ) (size : ℕ) : Type 0 where
   pub ordered : first ≤ e
   pub stored : e ≤ length rows
   pub weighed : e ≤ values
-  pub words : (p : ℕ) → first ≤ p → p < e → (shift + row rows p < length scratch) × (getD scratch (shift + row rows p) 0 < size)
+  pub words : (p : ℕ) → first ≤ p → p < e → (base + row rows p < length scratch) × (rowPositions base rows scratch p < size)
 
--- the positions of a run, and those of rows
+-- the positions of a run
 abbrev pub runPositions : ℕ → ℕ → ℕ → ℕ
 runPositions first position p = position + (p - first)
-
-abbrev pub rowPositions : ℕ → List ℕ → List ℕ → ℕ → ℕ
-rowPositions shift rows scratch p = getD scratch (shift + row rows p) 0
 
 -- x is the sum after the products of the values from `first` to below e and the entries at their positions: whatever numbers f start with `sum`
 -- and go on by one product each, x is the last
@@ -55,80 +52,83 @@ Summed values z first e position sum x =
     → x ≡ f e
 
 -- the entries from `first` to below e of column j, whose rows are all greater than i; where `zeros` is false none is 0.0
-pub record Rest (n pairs i j first e : ℕ) (zeros : Bool) (rows : List ℕ) (values : List Float) (scratch : List ℕ) (size : ℕ) : Type 0 where
+pub record Rest (n i j first e : ℕ) (zeros : Bool) (rows : List ℕ) (values : List Float) (scratch : List ℕ) (size : ℕ) : Type 0 where
   pub some : first < e
-  pub summing : Summing n pairs i j first e rows values scratch size
+  pub summing : Summing n i j first e rows values scratch size
   pub below : j ≤ i
   pub above : (p : ℕ) → first ≤ p → p < e → i < row rows p
   pub whole : zeros ≡ false → (p : ℕ) → first ≤ p → p < e → nonzero values p ≡ true
   pub rises : (p q : ℕ) → first ≤ p → p < q → q < e → keptBelow rows (nonzero values) j p ≡ true → keptBelow rows (nonzero values) j q ≡ true
       → positionOf n scratch i (row rows p) < positionOf n scratch i (row rows q)
 
-module _ {n pairs i j first e : ℕ} {zeros : Bool} {rows : List ℕ} {values : List Float} {scratch : List ℕ} {size : ℕ}
-    (R : Rest n pairs i j first e zeros rows values scratch size) (none : zeros ≡ false) where
+-- none is 0.0, and the words of the rows are read from the base of column i
+module _ {n i j first e : ℕ} {zeros : Bool} {rows : List ℕ} {values : List Float} {scratch : List ℕ} {size : ℕ}
+    (R : Rest n i j first e zeros rows values scratch size) (none : zeros ≡ false) (base : ℕ) (based : base + i ≡ queueStart n + colStart n i) where
   rest-kept : (p : ℕ) → first ≤ p → p < e → keptBelow rows (nonzero values) j p ≡ true
   rest-kept p lo hi =
       and-both (ltb j (row rows p)) (nonzero values p) (lt-ltb j (row rows p) (omega (arith, R .below, R .above p lo hi))) (R .whole none p lo hi)
 
   -- an entry of the inverse can be read
-  rest-read : (p : ℕ) → first ≤ p → p < e → Reading n pairs i (row rows p) scratch size
+  rest-read : (p : ℕ) → first ≤ p → p < e → Reading n i (row rows p) scratch size
   rest-read p lo hi = adding-read (summing-entry (R .summing) p lo hi) (rest-kept p lo hi)
 
-  -- its word, from the shift of column i
-  module _ (shift : ℕ) (w : shift + i ≡ pairs + colStart n i) (p : ℕ) (lo : first ≤ p) (hi : p < e) where
-    word-is : shift + row rows p ≡ queueStart n + columnPlace n (max i (row rows p)) (min i (row rows p))
-    word-is = word-left n pairs shift i (row rows p) (R .summing .all) w (omega (arith, R .above p lo hi))
+  word-is : (p : ℕ) → first ≤ p → p < e → base + row rows p ≡ queueStart n + columnPlace n (max i (row rows p)) (min i (row rows p))
+  word-is p lo hi = word-left n base i (row rows p) based (omega (arith, R .above p lo hi))
 
-    pub rest-word : (shift + row rows p < length scratch) × (getD scratch (shift + row rows p) 0 < size)
-    rest-word = word-reads (rest-read p lo hi) word-is
+  rest-word : (p : ℕ) → first ≤ p → p < e → (base + row rows p < length scratch) × (rowPositions base rows scratch p < size)
+  rest-word p lo hi = word-reads (rest-read p lo hi) (word-is p lo hi)
 
-    pub rest-position : getD scratch (shift + row rows p) 0 ≡ positionOf n scratch i (row rows p)
-    rest-position = word-position (rest-read p lo hi) word-is
+  rest-position : (p : ℕ) → first ≤ p → p < e → rowPositions base rows scratch p ≡ positionOf n scratch i (row rows p)
+  rest-position p lo hi = word-position (rest-read p lo hi) (word-is p lo hi)
 
-  abbrev at : ℕ → ℕ
-  at p = positionOf n scratch i (row rows p)
+  -- read from the words
+  pub rows-room : RestRowsRoom base first e rows (length values) scratch size
+  rows-room = record {
+    ordered = omega (arith, R .some);
+    stored = R .summing .column .stored;
+    weighed = R .summing .column .weighed;
+    words = rest-word;
+  }
 
-  rises : (p q : ℕ) → first ≤ p → p < q → q < e → at p < at q
-  rises p q lo l hi = R .rises p q lo l hi (rest-kept p lo (omega arith)) (rest-kept q (omega arith) hi)
-
-  -- the last position is not before the first
-  pub rest-order : at first ≤ at (e - 1)
-  rest-order = omega (arith, run-apart at first e rises first (e - 1) (omega arith) (omega (arith, R .some)) (omega (arith, R .some)))
-
-  -- the sum over the entries at their positions is the sum
-  rest-summed : (z : List Float) (sum x : Float) (position : ℕ → ℕ) → ((p : ℕ) → first ≤ p → p < e → position p ≡ at p)
-      → Summed values z first e position sum x → Continued rows values j (inverseAt n scratch z i) first e sum x
-  rest-summed z sum x position same S s h q =
+  pub rows-summed : (z : List Float) (sum x : Float) → Summed values z first e (rowPositions base rows scratch) sum x
+      → Continued rows values j (inverseAt n scratch z i) first e sum x
+  rows-summed z sum x S s h q =
       let r = inverseAt n scratch z i in
       S (λ p. sumBetween rows values j r s p) q
       (λ p lo hi.
-      ap (λ (k : ℕ). add binary64 (sumBetween rows values j r s p) (mul binary64 (value values p) (getD z k nan))) (same p lo hi)
+      ap (λ (k : ℕ). add binary64 (sumBetween rows values j r s p) (mul binary64 (value values p) (getD z k nan))) (rest-position p lo hi)
       ∙ withProduct-kept rows values j p r (sumBetween rows values j r s p) (rest-kept p lo hi)
       ∙ sym (sumBetween-next rows values j r s p (omega arith)))
 
-  -- read from the words
-  module _ (shift : ℕ) (w : shift + i ≡ pairs + colStart n i) where
-    pub rows-room : RestRowsRoom shift first e rows (length values) scratch size
-    rows-room = record {
-      ordered = omega (arith, R .some);
-      stored = R .summing .column .stored;
-      weighed = R .summing .column .weighed;
-      words = rest-word shift w;
-    }
+  -- the positions rise
+  pub rest-rises : RunRoom base first e rows scratch
+  rest-rises = record {
+    some = R .some;
+    listed = R .summing .column .stored;
+    inside = λ p lo hi. rest-word p lo hi .0;
+    rises = λ p q lo l hi.
+        let h : p < e = omega arith in
+        let k : first ≤ q = omega arith in
+        omega (arith, rest-position p lo h, rest-position q k hi, R .rises p q lo l hi (rest-kept p lo h) (rest-kept q k hi));
+  }
 
-    pub rows-summed : (z : List Float) (sum x : Float) → Summed values z first e (rowPositions shift rows scratch) sum x
+  -- read from a run, whose first position is known
+  module _ (F : Follows (rowPositions base rows scratch) first e) (position : ℕ) (at : position ≡ rowPositions base rows scratch first) where
+    pub run-room : RestRunRoom first e position (length values) size
+    run-room =
+        let s = R .some in
+        record {
+          ordered = omega arith;
+          weighed = R .summing .column .weighed;
+          fits = omega (arith, F (e - 1) (omega arith) (omega arith), rest-word (e - 1) (omega arith) (omega arith) .1);
+        }
+
+    pub run-summed : (z : List Float) (sum x : Float) → Summed values z first e (runPositions first position) sum x
         → Continued rows values j (inverseAt n scratch z i) first e sum x
-    rows-summed z sum x = rest-summed z sum x (rowPositions shift rows scratch) (rest-position shift w)
-
-  -- read from a run: where the first position and the last are as far apart as their places, all follow one another
-  module _ (ends : at (e - 1) ≡ at first + (e - 1 - first)) where
-    pub run-room : RestRunRoom first e (at first) (length values) size
-    run-room = record {
-      ordered = omega (arith, R .some);
-      weighed = R .summing .column .weighed;
-      fits = omega (arith, ends, R .some, rest-read (e - 1) (omega (arith, R .some)) (omega (arith, R .some)) .known);
-    }
-
-    pub run-summed : (z : List Float) (sum x : Float) → Summed values z first e (runPositions first (at first)) sum x
-        → Continued rows values j (inverseAt n scratch z i) first e sum x
-    run-summed z sum x = rest-summed z sum x (runPositions first (at first)) (λ p lo hi. sym (run-is at first e rises ends p lo hi))
+    run-summed z sum x S =
+        rows-summed z sum x
+        (λ f b s.
+        S f b
+        (λ p lo hi.
+        let same : position + (p - first) ≡ rowPositions base rows scratch p = omega (arith, F p lo hi) in
+        ap (λ (k : ℕ). add binary64 (f p) (mul binary64 (value values p) (getD z k nan))) same ∙ s p lo hi))

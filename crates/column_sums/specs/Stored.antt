@@ -19,7 +19,7 @@ use Rattle.column_sums.specs.Sums.{positionOf, inverseAt, entrySum, sumB
 
 -- the result's entries from first to below last of column j, whose factor entries are stored from s to below e: their sums can be taken from
 -- entries behind them, whose positions rise with either row of a pair along a column
-pub record Storing (n pairs j first last s e : ℕ) (rows : List ℕ) (values : List Float) (entryRows scratch : List ℕ) (size : ℕ) : Type 0 where
+pub record Storing (n j first last s e : ℕ) (rows : List ℕ) (values : List Float) (entryRows scratch : List ℕ) (size : ℕ) : Type 0 where
   pub small : n ≤ maxDimension
   pub inside : j < n
   pub ordered : first ≤ last
@@ -27,7 +27,7 @@ pub record Storing (n pairs j first last s e : ℕ) (rows : List ℕ) (values : 
   pub listed : last ≤ length entryRows
   pub column : Column rows (length values) s e
   pub ascends : Ascends entryRows first last
-  pub sums : (q : ℕ) → first ≤ q → q < last → j < row entryRows q → Summing n pairs (row entryRows q) j s e rows values scratch size
+  pub sums : (q : ℕ) → first ≤ q → q < last → j < row entryRows q → Summing n (row entryRows q) j s e rows values scratch size
   pub behind : (q p : ℕ) → first ≤ q → q < last → j < row entryRows q → s ≤ p → p < e → keptBelow rows (nonzero values) j p ≡ true
       → last ≤ positionOf n scratch (row entryRows q) (row rows p)
   pub rises : (q q′ p : ℕ) → first ≤ q → q < q′ → q′ < last → j < row entryRows q → s ≤ p → p < e → keptBelow rows (nonzero values) j p ≡ true
@@ -43,8 +43,8 @@ pub record SumsStored (n j first q s e : ℕ) (rows : List ℕ) (values : List F
   pub after : (p : ℕ) → q ≤ p → getD z p nan ≡ getD z₀ p nan
 
 -- the same entries, where every row is below j
-pub record Sums (n pairs j first last s e : ℕ) (rows : List ℕ) (values : List Float) (entryRows scratch : List ℕ) (size : ℕ) : Type 0 where
-  pub storing : Storing n pairs j first last s e rows values entryRows scratch size
+pub record Sums (n j first last s e : ℕ) (rows : List ℕ) (values : List Float) (entryRows scratch : List ℕ) (size : ℕ) : Type 0 where
+  pub storing : Storing n j first last s e rows values entryRows scratch size
   pub below : (q : ℕ) → first ≤ q → q < last → j < row entryRows q
 
 -- ---- rows that ascend
@@ -93,8 +93,8 @@ module _ {rows : List ℕ} {s e : ℕ} (C : Column rows e s e) (i : ℕ) where
 
 -- ---- what is written is not read
 
-module _ {n pairs j first last s e : ℕ} {rows : List ℕ} {values : List Float} {entryRows scratch : List ℕ} {size : ℕ}
-    (R : Sums n pairs j first last s e rows values entryRows scratch size) where
+module _ {n j first last s e : ℕ} {rows : List ℕ} {values : List Float} {entryRows scratch : List ℕ} {size : ℕ}
+    (R : Sums n j first last s e rows values entryRows scratch size) where
   pub unread : (z₀ z : List Float) (p q : ℕ) → s ≤ p → p ≤ e → first ≤ q → q < last → ((i : ℕ) → last ≤ i → getD z i nan ≡ getD z₀ i nan)
       → entrySum n j s p rows values scratch z (row entryRows q) ≡ entrySum n j s p rows values scratch z₀ (row entryRows q)
   unread z₀ z p q lo hi a b after =
@@ -105,8 +105,8 @@ module _ {n pairs j first last s e : ℕ} {rows : List ℕ} {values : List Float
 
 module _ {n j first last s e : ℕ} {rows : List ℕ} {values : List Float} {entryRows scratch : List ℕ} {from : ℕ}
     (F : FirstFrom (j + 1) entryRows first last from) where
-  pub from-sums : {pairs size : ℕ} → Storing n pairs j first last s e rows values entryRows scratch size → from < last
-      → Sums n pairs j from last s e rows values entryRows scratch size
+  pub from-sums : {size : ℕ} → Storing n j first last s e rows values entryRows scratch size → from < last
+      → Sums n j from last s e rows values entryRows scratch size
   from-sums R h = record {
     storing = record {
       small = R .small;

@@ -41,9 +41,8 @@ abbrev pub entrySum : ℕ → ℕ → ℕ → ℕ → List ℕ → List Float �
 entrySum n j s e rows values scratch inverse i = sumBetween rows values j (inverseAt n scratch inverse i) s e
 
 -- a stored entry whose product can be taken
-pub record Adding (n pairs i j p : ℕ) (rows : List ℕ) (values : List Float) (scratch : List ℕ) (size : ℕ) : Type 0 where
+pub record Adding (n i j p : ℕ) (rows : List ℕ) (values : List Float) (scratch : List ℕ) (size : ℕ) : Type 0 where
   pub small : n ≤ maxDimension
-  pub all : pairs ≡ queueStart n
   pub left : i < n
   pub stored : p < length rows
   pub weighed : p < length values
@@ -52,9 +51,8 @@ pub record Adding (n pairs i j p : ℕ) (rows : List ℕ) (values : List Float) 
   pub known : keptBelow rows (nonzero values) j p ≡ true → positionOf n scratch i (row rows p) < size
 
 -- stored entries whose products can be taken
-pub record Summing (n pairs i j s e : ℕ) (rows : List ℕ) (values : List Float) (scratch : List ℕ) (size : ℕ) : Type 0 where
+pub record Summing (n i j s e : ℕ) (rows : List ℕ) (values : List Float) (scratch : List ℕ) (size : ℕ) : Type 0 where
   pub small : n ≤ maxDimension
-  pub all : pairs ≡ queueStart n
   pub left : i < n
   pub column : Column rows (length values) s e
   pub inside : (p : ℕ) → s ≤ p → p < e → row rows p < n
@@ -62,11 +60,10 @@ pub record Summing (n pairs i j s e : ℕ) (rows : List ℕ) (values : List Floa
   pub known : (p : ℕ) → s ≤ p → p < e → keptBelow rows (nonzero values) j p ≡ true → positionOf n scratch i (row rows p) < size
 
 -- one of them
-pub summing-entry : {n pairs i j s e : ℕ} {rows : List ℕ} {values : List Float} {scratch : List ℕ} {size : ℕ}
-    → Summing n pairs i j s e rows values scratch size → (p : ℕ) → s ≤ p → p < e → Adding n pairs i j p rows values scratch size
+pub summing-entry : {n i j s e : ℕ} {rows : List ℕ} {values : List Float} {scratch : List ℕ} {size : ℕ}
+    → Summing n i j s e rows values scratch size → (p : ℕ) → s ≤ p → p < e → Adding n i j p rows values scratch size
 summing-entry S p lo hi = record {
   small = S .small;
-  all = S .all;
   left = S .left;
   stored = omega (arith, S .column .stored);
   weighed = omega (arith, S .column .weighed);
@@ -76,11 +73,10 @@ summing-entry S p lo hi = record {
 }
 
 -- those from m on
-pub summing-from : {n pairs i j s e : ℕ} {rows : List ℕ} {values : List Float} {scratch : List ℕ} {size : ℕ}
-    → Summing n pairs i j s e rows values scratch size → (m : ℕ) → s ≤ m → m ≤ e → Summing n pairs i j m e rows values scratch size
+pub summing-from : {n i j s e : ℕ} {rows : List ℕ} {values : List Float} {scratch : List ℕ} {size : ℕ}
+    → Summing n i j s e rows values scratch size → (m : ℕ) → s ≤ m → m ≤ e → Summing n i j m e rows values scratch size
 summing-from S m lo hi = record {
   small = S .small;
-  all = S .all;
   left = S .left;
   column = record {
     ordered = hi;
@@ -94,9 +90,9 @@ summing-from S m lo hi = record {
 }
 
 -- the inverse's entry for it
-pub adding-read : {n pairs i j p : ℕ} {rows : List ℕ} {values : List Float} {scratch : List ℕ} {size : ℕ}
-    → Adding n pairs i j p rows values scratch size → keptBelow rows (nonzero values) j p ≡ true → Reading n pairs i (row rows p) scratch size
-adding-read A k = record { small = A .small; all = A .all; left = A .left; right = A .inside; room = A .room; known = A .known k }
+pub adding-read : {n i j p : ℕ} {rows : List ℕ} {values : List Float} {scratch : List ℕ} {size : ℕ}
+    → Adding n i j p rows values scratch size → keptBelow rows (nonzero values) j p ≡ true → Reading n i (row rows p) scratch size
+adding-read A k = record { small = A .small; left = A .left; right = A .inside; room = A .room; known = A .known k }
 
 -- ---- one product
 

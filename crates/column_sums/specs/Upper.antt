@@ -22,14 +22,14 @@ use Rattle.column_sums.specs.Stored.{Sums, SumsStored, first-less, first
 use Rattle.column_sums.specs.Lower.{ProductsAdded}
 
 -- the sum at q, and the stored entries from p to below e, whose greater rows can be added
-pub record EntryRoom (n pairs j p e q : ℕ) (zero : Bool) (rows : List ℕ) (values : List Float) (entryRows scratch : List ℕ) (size : ℕ) : Type 0 where
+pub record EntryRoom (n j p e q : ℕ) (zero : Bool) (rows : List ℕ) (values : List Float) (entryRows scratch : List ℕ) (size : ℕ) : Type 0 where
   pub small : n ≤ maxDimension
   pub inside : row entryRows q < n
   pub listed : q < length entryRows
   pub fits : q < size
   pub ordered : p ≤ e
   pub stored : e ≤ length rows
-  pub rest : (m : ℕ) → FirstFrom (row entryRows q + 1) rows p e m → m < e → Rest n pairs (row entryRows q) j m e zero rows values scratch size
+  pub rest : (m : ℕ) → FirstFrom (row entryRows q + 1) rows p e m → m < e → Rest n (row entryRows q) j m e zero rows values scratch size
 
 -- m is where the rows greater than that of q start, and the sum at q is continued by them; all others are as they were
 pub record RestAdded (n j p e q m : ℕ) (rows : List ℕ) (values : List Float) (entryRows scratch : List ℕ) (z z′ : List Float) : Type 0 where
@@ -39,8 +39,8 @@ pub record RestAdded (n j p e q m : ℕ) (rows : List ℕ) (values : List Float)
   pub others : (i : ℕ) → i ≢ q → getD z′ i nan ≡ getD z i nan
 
 -- the column's sums, and whether one of its stored values is 0.0
-pub record RestsRoom (n pairs j first last s e : ℕ) (zero : Bool) (rows : List ℕ) (values : List Float) (entryRows scratch : List ℕ) (size : ℕ) : Type 0 where
-  pub sums : Sums n pairs j first last s e rows values entryRows scratch size
+pub record RestsRoom (n j first last s e : ℕ) (zero : Bool) (rows : List ℕ) (values : List Float) (entryRows scratch : List ℕ) (size : ℕ) : Type 0 where
+  pub sums : Sums n j first last s e rows values entryRows scratch size
   pub zero-is : zero ≡ anyIn (zeroAt values) s e
 
 -- the entries from first to below q that were sums up to their row are whole sums; those from q on are as they were
@@ -78,9 +78,9 @@ module _ {n j p e q m : ℕ} {rows : List ℕ} {values : List Float} {entryRows 
 
 -- ---- all sums
 
-module _ {n pairs j first last s e : ℕ} {zero : Bool} {rows : List ℕ} {values : List Float} {entryRows scratch : List ℕ} {size : ℕ}
-    (R : RestsRoom n pairs j first last s e zero rows values entryRows scratch size) where
-  pub rest-entry : (p q : ℕ) → s ≤ p → p ≤ e → first ≤ q → q < last → EntryRoom n pairs j p e q zero rows values entryRows scratch size
+module _ {n j first last s e : ℕ} {zero : Bool} {rows : List ℕ} {values : List Float} {entryRows scratch : List ℕ} {size : ℕ}
+    (R : RestsRoom n j first last s e zero rows values entryRows scratch size) where
+  pub rest-entry : (p q : ℕ) → s ≤ p → p ≤ e → first ≤ q → q < last → EntryRoom n j p e q zero rows values entryRows scratch size
   rest-entry p q lo hi from below =
       let S = R .sums .storing in
       let b = R .sums .below q from below in
@@ -155,8 +155,8 @@ module _ {n pairs j first last s e : ℕ} {zero : Bool} {rows : List ℕ} {value
         other i k b = elim (decLe q i) [ yes l ↦ absurd (k (omega arith)) | no l ↦ omega arith ]
 
 -- no stored row is greater than the first sum's row, and so none is greater than any of theirs
-module _ {n pairs j first last s e : ℕ} {rows : List ℕ} {values : List Float} {entryRows scratch : List ℕ} {size : ℕ}
-    (R : Sums n pairs j first last s e rows values entryRows scratch size) where
+module _ {n j first last s e : ℕ} {rows : List ℕ} {values : List Float} {entryRows scratch : List ℕ} {size : ℕ}
+    (R : Sums n j first last s e rows values entryRows scratch size) where
   pub rests-idle : (z : List Float) → anyIn (outsideAt (row entryRows first + 1) rows) s e ≡ false → RestsAdded n j first last s e rows values entryRows scratch z z
   rests-idle z h = record {
     long = refl;
@@ -175,11 +175,11 @@ module _ {n pairs j first last s e : ℕ} {rows : List ℕ} {values : List Float
           ]
 
 -- both passes, once the entries are cleared
-pub sums-stored : {n pairs j first last s e : ℕ} {rows : List ℕ} {values : List Float} {entryRows scratch : List ℕ} {size : ℕ}
-    → Sums n pairs j first last s e rows values entryRows scratch size → {z₀ z₁ z₂ z₃ : List Float} → PartSet first last zeros z₀ z₁
+pub sums-stored : {n j first last s e : ℕ} {rows : List ℕ} {values : List Float} {entryRows scratch : List ℕ} {size : ℕ}
+    → Sums n j first last s e rows values entryRows scratch size → {z₀ z₁ z₂ z₃ : List Float} → PartSet first last zeros z₀ z₁
     → ProductsAdded n j first last s e rows values entryRows scratch z₁ z₂ → RestsAdded n j first last s e rows values entryRows scratch z₂ z₃
     → SumsStored n j first last s e rows values entryRows scratch z₀ z₃
-sums-stored {n} {pairs} {j} {first} {last} {s} {e} R {z₀} {z₁} {z₂} {z₃} C L A = record {
+sums-stored {n} {j} {first} {last} {s} {e} R {z₀} {z₁} {z₂} {z₃} C L A = record {
   long = A .long ∙ L .long ∙ C .long;
   sums = λ q lo hi h.
       let w = L .sums q lo hi in

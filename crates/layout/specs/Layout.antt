@@ -66,8 +66,7 @@ positions-more {base} {first} {e} {rows} {s₀} {q} {r} {s} O h l at P = record 
 -- ---- one column
 
 -- the column's marks start at `place`, and there is room for its rows and their positions
-pub record LayColumn (n pairs place c first : ℕ) (rows s : List ℕ) : Type 0 where
-  pub all : pairs ≡ queueStart n
+pub record LayColumn (n place c first : ℕ) (rows s : List ℕ) : Type 0 where
   pub room : ColumnRoom n place c first rows s
   pub few : first + tally (columnTest n s c) c n ≤ maxPairs
 
@@ -80,7 +79,7 @@ pub record ColumnLaid (n c first : ℕ) (rows₀ s₀ rows s : List ℕ) (count 
   pub before : (q : ℕ) → q < queueStart n + colStart n c → getD s q 0 ≡ getD s₀ q 0
   pub after : (q : ℕ) → queueStart n + columnPlace n n c ≤ q → getD s q 0 ≡ getD s₀ q 0
 
-module _ {n pairs place c first : ℕ} {rows₀ s₀ : List ℕ} (O : LayColumn n pairs place c first rows₀ s₀)
+module _ {n place c first : ℕ} {rows₀ s₀ : List ℕ} (O : LayColumn n place c first rows₀ s₀)
     {rows : List ℕ} {next : ℕ} (L : ColumnListed n c n first rows₀ s₀ rows next) where
   abbrev test : ℕ → Bool
   test = columnTest n s₀ c
@@ -99,11 +98,11 @@ module _ {n pairs place c first : ℕ} {rows₀ s₀ : List ℕ} (O : LayColumn 
   picked q h l = select-at test c n (q - first) (omega (arith, O .room .inside)) (omega (arith, L .count-is))
 
   -- the word of a row's position
-  word-is : (r : ℕ) → c ≤ r → pairs + (place - c) + r ≡ queueStart n + columnPlace n r c
-  word-is r h = omega (arith, O .all, O .room .start, colStart-least n c (omega (arith, O .room .inside)))
+  word-is : (r : ℕ) → c ≤ r → queueStart n + (place - c) + r ≡ queueStart n + columnPlace n r c
+  word-is r h = omega (arith, O .room .start, colStart-least n c (omega (arith, O .room .inside)))
 
   -- room for the positions
-  pub column-positions : PositionsRoom (pairs + (place - c)) first next rows s₀
+  pub column-positions : PositionsRoom (queueStart n + (place - c)) first next rows s₀
   column-positions = record {
     order = omega (arith, L .count-is);
     listed = omega (arith, L .count-is, O .room .fits, ap length (L .rows-is) ∙ splice-length first listed rows₀ (O .room .fits));
@@ -116,7 +115,7 @@ module _ {n pairs place c first : ℕ} {rows₀ s₀ : List ℕ} (O : LayColumn 
   }
 
   -- the column with its positions
-  pub column-laid : {s : List ℕ} → PositionsLaid (pairs + (place - c)) first next rows s₀ s → ColumnLaid n c first rows₀ s₀ rows s next
+  pub column-laid : {s : List ℕ} → PositionsLaid (queueStart n + (place - c)) first next rows s₀ s → ColumnLaid n c first rows₀ s₀ rows s next
   column-laid {s} P = record {
     listed = L;
     long = P .long;
@@ -125,7 +124,7 @@ module _ {n pairs place c first : ℕ} {rows₀ s₀ : List ℕ} (O : LayColumn 
         let few : first + k < next = omega (arith, L .count-is, tally-strict test c r n h l t) in
         let z : first + k - first ≡ k = omega arith in
         let row : getD rows (first + k) 0 ≡ r = row-at (first + k) (omega arith) few ∙ ap (λ (i : ℕ). getD listed i 0) z ∙ select-tally test c r n h l t in
-        ap (λ (w : ℕ). getD s w 0) (sym (ap (λ (i : ℕ). pairs + (place - c) + i) row ∙ word-is r h)) ∙ P .placed (first + k) (omega arith) few;
+        ap (λ (w : ℕ). getD s w 0) (sym (ap (λ (i : ℕ). queueStart n + (place - c) + i) row ∙ word-is r h)) ∙ P .placed (first + k) (omega arith) few;
     before = λ w b. P .others w (λ q h l e. omega (arith, row-at q h l, word-is (getD listed (q - first) 0) (picked q h l .from)));
     after = λ w b. P .others w (λ q h l e.
         omega (arith, row-at q h l, word-is (getD listed (q - first) 0) (picked q h l .from), picked q h l .below));
@@ -217,10 +216,9 @@ module _ {n : ℕ} {starts₀ rows₀ s₀ : List ℕ} (M : LayOut n starts₀ r
   column-fits l = omega (arith, K .count-is, columnCount-next n S c, columnCount-mono n S (c + 1) n (omega arith), ap length (same-rows n (omega arith)))
 
   -- room for a column
-  pub columns-room : (pairs place : ℕ) → pairs ≡ queueStart n → place ≡ colStart n c → c < n → length rows ≡ length rows₀
-      → LayColumn n pairs place c count rows s
-  columns-room pairs place all start l long = record {
-    all = all;
+  pub columns-room : (place : ℕ) → place ≡ colStart n c → c < n → length rows ≡ length rows₀
+      → LayColumn n place c count rows s
+  columns-room place start l long = record {
     room = record {
       small = M .small;
       inside = l;

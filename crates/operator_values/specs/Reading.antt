@@ -21,11 +21,11 @@ abbrev pub placed : ℕ → List ℕ → List Float → ℕ → ℕ → Float
 placed n scratch inverse r c = getD inverse (getD scratch (queueStart n + columnPlace n r c) 0) nan
 
 -- the operator's places from s to below e, the pairs of whose columns can be read among `size` entries
-pub record RowReading (n pairs : ℕ) (columns : List ℕ) (weights : ℕ) (scratch : List ℕ) (size s e : ℕ) : Type 0 where
+pub record RowReading (n : ℕ) (columns : List ℕ) (weights : ℕ) (scratch : List ℕ) (size s e : ℕ) : Type 0 where
   pub ordered : s ≤ e
   pub stored : e ≤ length columns
   pub weighed : e ≤ weights
-  pub reads : (a b : ℕ) → s ≤ a → a < e → s ≤ b → b < e → Reading n pairs (columnAt columns a) (columnAt columns b) scratch size
+  pub reads : (a b : ℕ) → s ≤ a → a < e → s ≤ b → b < e → Reading n (columnAt columns a) (columnAt columns b) scratch size
 
 -- an operator past its checks, whose rows' pairs can be read, and an output of `room` places
 pub record OperatorReading (n : ℕ) (rowStarts columns : List ℕ) (weights : ℕ) (scratch : List ℕ) (size room : ℕ) : Type 0 where
@@ -38,9 +38,9 @@ pub record OperatorReading (n : ℕ) (rowStarts columns : List ℕ) (weights : �
 
 -- one of its rows
 pub row-reading : {n : ℕ} {rowStarts columns : List ℕ} {weights : ℕ} {scratch : List ℕ} {size room : ℕ}
-    → OperatorReading n rowStarts columns weights scratch size room → (pairs : ℕ) → pairs ≡ queueStart n → (i : ℕ) → i < operatorRows rowStarts
-    → RowReading n pairs columns weights scratch size (start rowStarts i) (start rowStarts (i + 1))
-row-reading R pairs all i h =
+    → OperatorReading n rowStarts columns weights scratch size room → (i : ℕ) → i < operatorRows rowStarts
+    → RowReading n columns weights scratch size (start rowStarts i) (start rowStarts (i + 1))
+row-reading R i h =
     let O = R .operator in
     let end = starts-end (O .starts-rise) (i + 1) (omega arith) in
     record {
@@ -49,7 +49,6 @@ row-reading R pairs all i h =
       weighed = omega (arith, O .weighed);
       reads = λ a b la ha lb hb. record {
         small = R .small;
-        all = all;
         left = O .inside a (omega arith);
         right = O .inside b (omega arith);
         room = R .words;

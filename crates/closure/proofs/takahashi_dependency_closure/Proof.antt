@@ -11,18 +11,15 @@ use Rattle.closure.proofs.takahashi_dependency_closure.Tie as tie
 
 -- where the call begins
 abbrev begin : tie.After-close-queue → tie.Start
-begin q = q .before .before .before .before .before .before .before .before .before .before .before .before
+begin q = q .before .before .before .before .before .before .before .before .before .before .before
 
-add-t14 : tie.Need-add-t14
-add-t14 c = search needs
+add-t13 : tie.Need-add-t13
+add-t13 c = search needs
 
 returns : tie.Need-returns
 returns c =
     let s = c .before .before .before .before .before .before in
     closes (λ req R. requests-past (nonzero (now (s .args .values))) (s .args .limit) (s .pre) req R (c .if1 .taken))
-
-queue-start-requires : tie.Need-queue-start-requires
-queue-start-requires c κs = search needs
 
 slice-aggregate-close-queue : tie.Need-slice-aggregate-close-queue
 slice-aggregate-close-queue c = search needs
@@ -33,11 +30,10 @@ slice-aggregate-close-queue-2 c = search needs
 close-queue-requires : tie.Need-close-queue-requires
 close-queue-requires c κs =
     let p = c .before .before .before .before in
-    let s = p .before .before .before .before .before .before .before in
+    let s = p .before .before .before .before .before .before in
     let long = length-replicate {A = ℕ} maxDimension 0 in
     record {
       small = s .pre .small;
-      all = p .queue-start .ensures .0;
       factor = s .pre .factor;
       entered = s .pre .entered;
       stopped = s .pre .stopped;
@@ -45,7 +41,7 @@ close-queue-requires c κs =
       spanEnds-fit = omega (arith, s .pre .small);
       unset = λ a l. getD-replicate {A = ℕ} maxDimension a 0 0 (omega (arith, s .pre .small));
       marked = s .pre .marked;
-      low = p .before .if1 .left;
+      low = p .if1 .left;
     }
 
 same-length : tie.Need-same-length
@@ -76,9 +72,8 @@ pub takahashi-dependency-closure-spec : {M : Type 1} → statement M
 takahashi-dependency-closure-spec =
     tie.close
     (tie.spec
-    add-t14
+    add-t13
     returns
-    queue-start-requires
     slice-aggregate-close-queue
     slice-aggregate-close-queue-2
     close-queue-requires

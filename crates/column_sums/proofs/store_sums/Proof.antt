@@ -18,7 +18,7 @@ begin f = f .before .before .before .before .before .before
 sums : (t : tie.Then1) →
     let f = t .before in
     let a = begin f .args in
-    Sums (a .n) (a .pairs) (a .j) (f .first-from .result) (a .last) (a .s) (a .e) (now (a .rows)) (now (a .values)) (now (a .entry-rows)) (now (a .scratch))
+    Sums (a .n) (a .j) (f .first-from .result) (a .last) (a .s) (a .e) (now (a .rows)) (now (a .values)) (now (a .entry-rows)) (now (a .scratch))
     (length (now (a .inverse)))
 sums t = let f = t .before in from-sums (f .first-from .ensures) (begin f .pre) (t .if1 .taken)
 
