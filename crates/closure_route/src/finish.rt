@@ -10,21 +10,9 @@ ghost use Rattle.column_sums.specs.Part.{putIf};
 ghost use Rattle.column_sums.specs.Sums.{entrySum};
 ghost use Rattle.closure_route.specs.Finish.{Divided, PartDivided, DiagonalRoom};
 use column_sums::sums::entry_sum;
+use entry_steps::entry_below;
+use entry_steps::entry_on_diagonal;
 use words::at;
-
-// An entry below the diagonal, from its sum.
-fn off_diagonal(d: f64, sum: f64) -> f64
-    ensures { λ z. ⌜ z ≡ float-off d sum ⌝ }
-{
-    -sum / d
-}
-
-// An entry on the diagonal, from its sum.
-fn on_diagonal(d: f64, sum: f64) -> f64
-    ensures { λ z. ⌜ z ≡ float-on d sum ⌝ }
-{
-    1.0 / (d * d) - sum / d
-}
 
 // Divides the sum at q of a column's own part, where its row i is below j.
 fn divide_entry(part: &mut [f64], q: usize, i: usize, j: usize, d: f64)
@@ -34,7 +22,7 @@ fn divide_entry(part: &mut [f64], q: usize, i: usize, j: usize, d: f64)
     if i <= j {
         return;
     }
-    part[q] = off_diagonal(d, part[q]);
+    part[q] = entry_below(d, part[q]);
 }
 
 // Divides the sums of column j, whose own part of the inverse and of the result's rows are lent.
@@ -80,5 +68,5 @@ pub fn store_diagonal(
         return;
     }
     let sum = entry_sum(n, j, j, s, e, rows, values, scratch, inverse);
-    inverse[q] = on_diagonal(d, sum);
+    inverse[q] = entry_on_diagonal(d, sum);
 }

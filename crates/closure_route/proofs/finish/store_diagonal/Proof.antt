@@ -39,8 +39,8 @@ returns c =
 entry-sum-requires : tie.Need-entry-sum-requires
 entry-sum-requires c κs = let t = c .before in start (t .before) .pre .sums (own t)
 
-on-diagonal-requires : tie.Need-on-diagonal-requires
-on-diagonal-requires c κs = search needs
+entry-on-diagonal-requires : tie.Need-entry-on-diagonal-requires
+entry-on-diagonal-requires c κs = search needs
 
 mul-inverse : tie.Need-mul-inverse
 mul-inverse c = search needs
@@ -57,7 +57,7 @@ returns-2 c =
     let t = f .before .before in
     let s = start (t .before) in
     let a = s .args in
-    ap (set (now (a .inverse)) (a .q)) (c .on-diagonal .ensures ∙ ap (float-on (a .d)) (f .entry-sum .ensures))
+    ap (set (now (a .inverse)) (a .q)) (c .entry-on-diagonal .ensures ∙ ap (float-on (a .d)) (f .entry-sum .ensures))
     ∙ ap (λ (b : Bool). putIf b (now (a .inverse)) (a .q) (entry-of s)) (sym (eq-eqb (row (now (a .entry-rows)) (a .q)) (a .j) (own t)))
 
 pub store-diagonal-spec : {M : Type 1} → statement M
@@ -67,7 +67,7 @@ store-diagonal-spec =
     at-requires
     returns
     entry-sum-requires
-    on-diagonal-requires
+    entry-on-diagonal-requires
     mul-inverse
     slice-write-inverse
     same-length
