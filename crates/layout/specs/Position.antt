@@ -1,8 +1,7 @@
 -- Where the inverse's entry for a pair is read: its position stands in a word behind the marks.
 -- Assumes nothing.
-use Prim.Native.Nat.{ℕ, _+_, _-_, _*_, _/_, _≤_, _<_, min, max}
+use Prim.Native.Nat.{ℕ, _+_, _-_, _≤_, _<_, min, max}
 use native.Mathlib.Omega.{arith}
-use native.Mathlib.Nat.{mul-add}
 use mathlib.Core.Path.{_≡_, ap, ap₂}
 use mathlib.Core.Bool.{Bool, true}
 use mathlib.Core.List.{List}
@@ -11,7 +10,7 @@ use lib.Ieee.{Float, nan}
 use Rattle.refusal.specs.Bounds.{maxDimension}
 use Rattle.pairs.specs.Pair.{pairTotal, maxPairs, pairTotal-small}
 use Rattle.pairs.specs.Scratch.{queueStart, queueStart-small}
-use Rattle.pairs.specs.ColumnOrder.{colStart, colStart-half, colStart-mono, colStart-total, columnPlace, columnPlace-below}
+use Rattle.pairs.specs.ColumnOrder.{colStart, colStart-mono, colStart-total, columnPlace, columnPlace-below}
 use Rattle.entries.specs.Entries.{position}
 
 -- the position of each member of a set stands behind the marks
@@ -53,12 +52,6 @@ pub reading-inside : {n i k : ℕ} {scratch : List ℕ} {size : ℕ} → Reading
 reading-inside {n} {i} {k} R =
     let b = columnPlace-below n (max i k) (min i k) (omega arith) (omega (arith, R .left, R .right)) in
     omega (arith, R .room)
-
--- as the code computes the shift of column c
-pub shift-start : (n c : ℕ) → c < n → c * (2 * n - 1 - c) / 2 + c ≡ colStart n c
-shift-start n c h =
-    let q : 2 * n + 1 - c ≡ 2 * n - 1 - c + 2 = omega arith in
-    omega (arith, colStart-half n c (omega arith), ap (λ (k : ℕ). c * k) q, mul-add c (2 * n - 1 - c) 2)
 
 -- from the base of the column of the lesser of the two
 pub word-right : (n base i k : ℕ) → base + k ≡ queueStart n + colStart n k → k ≤ i

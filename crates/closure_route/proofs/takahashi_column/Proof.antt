@@ -5,7 +5,7 @@ use Rattle.pairs.specs.ColumnOrder.{columnMarking}
 use Rattle.entries.specs.Entries.{columnCount}
 use denote.Ref.{now}
 use borrow.Author.Needs.{needs}
-use Rattle.closure_route.specs.Column.{Ends, storing-at, part-at, diagonal-at, solved-empty, solved-at}
+use Rattle.closure_route.proofs.ColumnLaws.{Ends, storing-at, part-at, diagonal-at, solved-empty, solved-at}
 use Rattle.closure_route.proofs.takahashi_column.Statement.{statement}
 use Rattle.closure_route.proofs.takahashi_column.Tie as tie
 

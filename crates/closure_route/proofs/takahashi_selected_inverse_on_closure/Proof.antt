@@ -8,7 +8,8 @@ use denote.Ref.{now}
 use borrow.Author.Needs.{needs}
 use Rattle.pairs.specs.ColumnOrder.{columnMarking}
 use Rattle.entries.specs.Entries.{floatTable}
-use Rattle.closure_route.specs.Route.{ClosureRoute, SolvedFrom, Solved, solved-none, solved-next, solved-all}
+use Rattle.closure_route.specs.Route.{ClosureRoute, SolvedFrom, Solved}
+use Rattle.closure_route.proofs.RouteLaws.{solved-none, solved-next, solved-all}
 use Rattle.closure_route.proofs.takahashi_selected_inverse_on_closure.Statement.{statement}
 use Rattle.closure_route.proofs.takahashi_selected_inverse_on_closure.Tie as tie
 

@@ -4,7 +4,8 @@ use mathlib.Core.Path.{_≡_, refl, subst, _∙_}
 use lib.ListN.{length}
 use denote.Ref.{now}
 use borrow.Author.Needs.{needs}
-use Rattle.column_sums.specs.Lower.{RowsBefore, ProductsAdded, lower-entry, lowered-none, passed-more, lowered-more}
+use Rattle.column_sums.specs.Lower.{ProductsAdded}
+use Rattle.column_sums.proofs.LowerLaws.{RowsBefore, lower-entry, lowered-none, passed-more, lowered-more}
 use Rattle.column_sums.proofs.add_products.Statement.{statement}
 use Rattle.column_sums.proofs.add_products.Tie as tie
 

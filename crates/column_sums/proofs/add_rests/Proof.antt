@@ -4,7 +4,8 @@ use mathlib.Core.Path.{_≡_, refl, subst, _∙_}
 use lib.ListN.{length}
 use denote.Ref.{now}
 use borrow.Author.Needs.{needs}
-use Rattle.column_sums.specs.Upper.{Reached, RestsAdded, rest-entry, rests-none, reached-more, rests-more}
+use Rattle.column_sums.specs.Upper.{RestsAdded}
+use Rattle.column_sums.proofs.UpperLaws.{Reached, rest-entry, rests-none, reached-more, rests-more}
 use Rattle.column_sums.proofs.add_rests.Statement.{statement}
 use Rattle.column_sums.proofs.add_rests.Tie as tie
 

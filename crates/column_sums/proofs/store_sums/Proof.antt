@@ -6,8 +6,9 @@ use Rattle.columns.specs.Columns.{outsideAt}
 use lib.ListN.{length}
 use denote.Ref.{now}
 use borrow.Author.Needs.{needs}
-use Rattle.column_sums.specs.Stored.{Sums, from-sums, from-stored, none-stored}
-use Rattle.column_sums.specs.Upper.{rests-idle, sums-stored}
+use Rattle.column_sums.specs.Stored.{Sums}
+use Rattle.column_sums.proofs.StoredLaws.{from-sums, from-stored, none-stored}
+use Rattle.column_sums.proofs.UpperLaws.{rests-idle, sums-stored}
 use Rattle.column_sums.proofs.store_sums.Statement.{statement}
 use Rattle.column_sums.proofs.store_sums.Tie as tie
 

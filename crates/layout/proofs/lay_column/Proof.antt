@@ -2,7 +2,7 @@ use native.Mathlib.Omega.{arith}
 use borrow.Author.Needs.{needs}
 use Rattle.pairs.specs.Pair.{pairTotal-small}
 use Rattle.pairs.specs.ColumnOrder.{colStart-least, colStart-mono, colStart-total}
-use Rattle.layout.specs.Layout.{column-positions, column-laid}
+use Rattle.layout.proofs.LayoutLaws.{column-positions, column-laid}
 use Rattle.layout.proofs.lay_column.Statement.{statement}
 use Rattle.layout.proofs.lay_column.Tie as tie
 

@@ -6,7 +6,7 @@ use denote.Ref.{now}
 use borrow.Author.Needs.{needs}
 use Rattle.pairs.specs.Pair.{maxPairs, pairTotal-small}
 use Rattle.pairs.specs.ColumnOrder.{colStart, colStart-none, colStart-next, colStart-mono, colStart-total}
-use Rattle.layout.specs.Layout.{ColumnsLaid, columns-none, columns-few, columns-room, columns-reached, columns-more, columns-end}
+use Rattle.layout.proofs.LayoutLaws.{ColumnsLaid, columns-none, columns-few, columns-room, columns-reached, columns-more, columns-end}
 use Rattle.layout.proofs.lay_out.Statement.{statement}
 use Rattle.layout.proofs.lay_out.Tie as tie
 

@@ -5,7 +5,7 @@ use lib.ListN.{length, getD}
 use denote.Ref.{now}
 use borrow.Author.Needs.{needs}
 use Rattle.column_sums.specs.Run.{rowPositions}
-use Rattle.column_sums.specs.Products.{column-rows, rows-column, column-rises, column-run, run-column}
+use Rattle.column_sums.proofs.ProductLaws.{column-rows, rows-column, column-rises, column-run, run-column}
 use Rattle.column_sums.proofs.products.add_column.Statement.{statement}
 use Rattle.column_sums.proofs.products.add_column.Tie as tie
 

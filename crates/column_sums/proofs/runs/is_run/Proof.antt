@@ -5,7 +5,8 @@ use lib.ListN.{length, getD}
 use denote.Ref.{now}
 use borrow.Author.Needs.{needs}
 use borrow.Author.Tests.{eqb-true}
-use Rattle.column_sums.specs.Run.{rowPositions, run-apart, run-is}
+use Rattle.column_sums.specs.Run.{rowPositions}
+use Rattle.column_sums.proofs.RunLaws.{run-apart, run-is}
 use Rattle.column_sums.proofs.runs.is_run.Statement.{statement}
 use Rattle.column_sums.proofs.runs.is_run.Tie as tie
 

@@ -7,7 +7,8 @@ use denote.Ref.{now}
 use borrow.Author.Needs.{needs}
 use Rattle.columns.specs.Columns.{row, value}
 use Rattle.columns.specs.Kept.{nonzero, keptBelow}
-use Rattle.column_sums.specs.Sums.{inverseAt, adding-read, withProduct-above, withProduct-zero, withProduct-kept, kept-below}
+use Rattle.column_sums.specs.Sums.{inverseAt}
+use Rattle.column_sums.proofs.SumLaws.{adding-read, withProduct-above, withProduct-zero, withProduct-kept, kept-below}
 use Rattle.column_sums.proofs.sums.add_product.Statement.{statement}
 use Rattle.column_sums.proofs.sums.add_product.Tie as tie
 

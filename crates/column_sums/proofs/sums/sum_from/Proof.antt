@@ -5,7 +5,8 @@ use lib.Ieee.{Float}
 use denote.Ref.{now}
 use borrow.Author.Needs.{needs}
 use Rattle.layout.specs.Position.{shift-fits}
-use Rattle.column_sums.specs.Sums.{inverseAt, Continued, withProduct, sumBetween-next, summing-entry}
+use Rattle.column_sums.specs.Sums.{inverseAt, Continued, withProduct, sumBetween-next}
+use Rattle.column_sums.proofs.SumLaws.{summing-entry}
 use Rattle.column_sums.proofs.sums.sum_from.Statement.{statement}
 use Rattle.column_sums.proofs.sums.sum_from.Tie as tie
 

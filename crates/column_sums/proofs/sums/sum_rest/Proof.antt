@@ -7,7 +7,7 @@ use denote.Ref.{now}
 use borrow.Author.Needs.{needs}
 use borrow.Author.Tests.{not-true}
 use Rattle.column_sums.specs.Run.{rowPositions}
-use Rattle.column_sums.specs.Rest.{rows-room, rows-summed, rest-rises, run-room, run-summed}
+use Rattle.column_sums.proofs.RestLaws.{rows-room, rows-summed, rest-rises, run-room, run-summed}
 use Rattle.column_sums.proofs.sums.sum_rest.Statement.{statement}
 use Rattle.column_sums.proofs.sums.sum_rest.Tie as tie
 

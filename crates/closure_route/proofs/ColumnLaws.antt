@@ -18,7 +18,7 @@ use Rattle.lists.specs.Select.{select-holds}
 use Rattle.pairs.specs.ColumnOrder.{columnMarking, setSize}
 use Rattle.closed_set.specs.ClosedSet.{descends, descends-at}
 use Rattle.columns.specs.Columns.{start, row}
-use Rattle.columns.specs.Kept.{nonzero, keptBelow, entry, desc, diag, pattern}
+use Rattle.columns.specs.Kept.{nonzero, keptBelow, desc, diag, pattern}
 use Rattle.columns.specs.Factor.{Column, factor-column}
 use Rattle.columns.specs.Pattern.{pattern-at}
 use Rattle.takahashi.specs.Recurrence.{Lower, Solves, at}
