@@ -16,6 +16,7 @@ use borrow.Author.Tests.{le-ltb, lt-ltb, ltb-true, eqb-true}
 use Rattle.lists.specs.Test.{and-left, and-both, or-cases, or-left, or-right}
 use Rattle.refusal.specs.Bounds.{maxDimension}
 use Rattle.pairs.specs.Pair.{pairTotal, ordered, ordered-is, is-ordered}
+use Rattle.pairs.specs.Scratch.{queueStart}
 use Rattle.pairs.specs.ColumnOrder.{columnMarking}
 use Rattle.columns.specs.Columns.{start, row}
 use Rattle.columns.specs.Kept.{keptBelow, pattern}
@@ -303,8 +304,8 @@ column-word : {n : ℕ} {starts rows : List ℕ} {nz : ℕ → Bool} {limit : �
     → QueueColumn n starts rows nz limit s₀ first head w s count p → Queued n s w
 column-word {n} {head = head} {s = s} K = subst (λ (x : ℕ). Queued n s x) (K .taken .here) (K .serving .marked .queued head (K .ahead))
 
-module _ {n pairs : ℕ} {starts rows : List ℕ} {values limit : ℕ} (nz : ℕ → Bool) {stops spanStarts spanEnds s₀ : List ℕ} {first : ℕ}
-    (I : QueueInput n pairs starts rows values nz stops spanStarts spanEnds limit s₀ first) where
+module _ {n : ℕ} {starts rows : List ℕ} {values limit : ℕ} (nz : ℕ → Bool) {stops spanStarts spanEnds s₀ : List ℕ} {first : ℕ}
+    (I : QueueInput n starts rows values nz stops spanStarts spanEnds limit s₀ first) where
   pub serving-none : Serving n starts rows nz limit s₀ first s₀ 0 first
   serving-none = record {
     marked = I .marked;
@@ -317,31 +318,31 @@ module _ {n pairs : ℕ} {starts rows : List ℕ} {values limit : ℕ} (nz : ℕ
 
   module _ {s : List ℕ} {head count : ℕ} (U₀ : Serving n starts rows nz limit s₀ first s head count) where
     -- the place of the word at head
-    pub head-words : head < count → pairs + head < length s
-    head-words l = omega (arith, I .all, U₀ .marked .room, count-most (U₀ .marked))
+    pub head-words : head < count → queueStart n + head < length s
+    head-words l = omega (arith, U₀ .marked .room, count-most (U₀ .marked))
 
     pub head-pairs : head < count → head < pairTotal n
     head-pairs l = omega (arith, count-most (U₀ .marked))
 
     -- that word, as the code reads it
-    pub word-queued : {w : ℕ} → head < count → w ≡ getD s (pairs + head) 0 → Queued n s w
-    word-queued {w} l e = subst (λ (x : ℕ). Queued n s x) (sym (e ∙ ap (λ (k : ℕ). getD s (k + head) 0) (I .all))) (U₀ .marked .queued head l)
+    pub word-queued : {w : ℕ} → head < count → w ≡ queueWord n s head → Queued n s w
+    word-queued {w} l e = subst (λ (x : ℕ). Queued n s x) (sym e) (U₀ .marked .queued head l)
 
     -- its column and the next are within the starts
-    pub word-starts : {w : ℕ} → head < count → w ≡ getD s (pairs + head) 0 → columnOf w + 1 < length starts
+    pub word-starts : {w : ℕ} → head < count → w ≡ queueWord n s head → columnOf w + 1 < length starts
     word-starts l e = let Q = word-queued l e in omega (arith, I .factor .starts-rise .columns, Q .ordered, Q .inside)
 
     -- its column is one of the factor's
-    pub word-inside : {w : ℕ} → head < count → w ≡ getD s (pairs + head) 0 → columnOf w < n
+    pub word-inside : {w : ℕ} → head < count → w ≡ queueWord n s head → columnOf w < n
     word-inside l e = let Q = word-queued l e in omega (arith, Q .ordered, Q .inside)
 
     -- its stop is stored
-    pub word-end : {w stop : ℕ} → head < count → w ≡ getD s (pairs + head) 0 → Stop starts rows nz (columnOf w) stop → EndRoom (columnOf w) stop starts rows
+    pub word-end : {w stop : ℕ} → head < count → w ≡ queueWord n s head → Stop starts rows nz (columnOf w) stop → EndRoom (columnOf w) stop starts rows
     word-end l e T =
         record { next = word-starts l e; stored = starts-end (I .factor .starts-rise) _ (omega (arith, word-inside l e)); after = T .after }
 
     -- the words at hand are those where the inner loop begins
-    pub column-none : {w p : ℕ} → head < count → count ≤ limit → w ≡ getD s (pairs + head) 0 → p ≡ start starts (columnOf w)
+    pub column-none : {w p : ℕ} → head < count → count ≤ limit → w ≡ queueWord n s head → p ≡ start starts (columnOf w)
         → QueueColumn n starts rows nz limit s count head w s count p
     column-none {w} {p} l low e q = record {
       ahead = l;
@@ -355,7 +356,7 @@ module _ {n pairs : ℕ} {starts rows : List ℕ} {values limit : ℕ} (nz : ℕ
         most = U₀ .most;
       };
       taken = record {
-        here = sym (e ∙ ap (λ (k : ℕ). getD s (k + head) 0) (I .all));
+        here = sym e;
         from = omega arith;
         deps = λ k lo hi t. absurd (omega arith);
       };
@@ -429,8 +430,8 @@ module _ {n pairs : ℕ} {starts rows : List ℕ} {values limit : ℕ} (nz : ℕ
 
 -- ---- the outer loop
 
-module _ {n pairs : ℕ} {starts rows : List ℕ} {values limit : ℕ} (nz : ℕ → Bool) {stops spanStarts spanEnds s₀ : List ℕ} {first : ℕ}
-    (I : QueueInput n pairs starts rows values nz stops spanStarts spanEnds limit s₀ first) where
+module _ {n : ℕ} {starts rows : List ℕ} {values limit : ℕ} (nz : ℕ → Bool) {stops spanStarts spanEnds s₀ : List ℕ} {first : ℕ}
+    (I : QueueInput n starts rows values nz stops spanStarts spanEnds limit s₀ first) where
   pub ready-none : QueueLoop n starts rows nz limit s₀ first stops spanStarts spanEnds s₀ 0 first
   ready-none = record {
     serving = serving-none nz I;
@@ -600,8 +601,8 @@ module _ {n pairs : ℕ} {starts rows : List ℕ} {values limit : ℕ} (nz : ℕ
 
 -- ---- one stored entry
 
-module _ {n pairs : ℕ} {starts rows : List ℕ} {values limit : ℕ} (nz : ℕ → Bool) {stops spanStarts spanEnds s₀ : List ℕ} {first : ℕ}
-    (I : QueueInput n pairs starts rows values nz stops spanStarts spanEnds limit s₀ first) {s₁ : List ℕ} {first₁ head w : ℕ} {s : List ℕ} {count p : ℕ}
+module _ {n : ℕ} {starts rows : List ℕ} {values limit : ℕ} (nz : ℕ → Bool) {stops spanStarts spanEnds s₀ : List ℕ} {first : ℕ}
+    (I : QueueInput n starts rows values nz stops spanStarts spanEnds limit s₀ first) {s₁ : List ℕ} {first₁ head w : ℕ} {s : List ℕ} {count p : ℕ}
     (K : QueueColumn n starts rows nz limit s₁ first₁ head w s count p) where
   abbrev r : ℕ
   r = rowOf w

@@ -8,6 +8,7 @@ ghost use Rattle.closure.specs.Queue.{QueueInput, EndRoom, EndOf, afterS
 use super::stops::find_stop;
 use marked_pairs::PACKING;
 use marked_pairs::insert_closure_pair;
+use scratch::queue_start;
 use words::at;
 
 // Where closing (r, c) ends among the entries of column c: at its stop, if the row there is at most r, else with the column.
@@ -71,7 +72,6 @@ fn end_column(
 // where its column has a stop before its end.
 pub fn close_queue(
     n: usize,
-    pairs: usize,
     starts: &[u32],
     rows: &[u32],
     values: &[f64],
@@ -82,15 +82,16 @@ pub fn close_queue(
     span_ends: &mut [u32],
     scratch: &mut [u32],
 ) -> usize
-    requires { ⌜ QueueInput n pairs (now starts) (now rows) (length (now values)) (nonzero (now values)) (now stops) (now «span_starts») (now «span_ends») limit
+    requires { ⌜ QueueInput n (now starts) (now rows) (length (now values)) (nonzero (now values)) (now stops) (now «span_starts») (now «span_ends») limit
         (now scratch) first ⌝ }
     ensures { λ m. ⌜ QueueClosed n (now (starts .entry)) (now (rows .entry)) (nonzero (now (values .entry))) limit
         (now (scratch .entry)) first (now (stops .exit)) (now (scratch .exit)) m ⌝ }
 {
+    let start = queue_start(n);
     let mut count = first;
     let mut head = 0;
     'queue: while head < count {
-        let w = at(scratch, pairs + head);
+        let w = at(scratch, start + head);
         let r = w / PACKING;
         let c = w % PACKING;
         let next = after_span(head, c, span_starts, span_ends);

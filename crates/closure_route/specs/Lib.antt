@@ -1,5 +1,4 @@
 -- The closure route: the recurrence over any closed set.
 pub mod Finish
 pub mod Route
-pub mod Column
 pub mod Members

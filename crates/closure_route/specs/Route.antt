@@ -2,13 +2,13 @@
 -- Assumes nothing.
 use Prim.Native.Nat.{ℕ, _+_, _/_, _≤_, _<_}
 use native.Mathlib.Omega.{arith}
-use mathlib.Core.Path.{_≡_, refl, sym, ap, _∙_}
+use mathlib.Core.Path.{_≡_, sym, ap, _∙_}
 use mathlib.Core.Bool.{Bool, true}
 use mathlib.Core.List.{List}
 use lib.ListN.{length, getD}
 use lib.Ieee.{Float, nan}
 use Rattle.lists.specs.Tabulate.{tabulate-at}
-use Rattle.lists.specs.Overwrite.{overwrite, overwrite-at, overwrite-length}
+use Rattle.lists.specs.Overwrite.{overwrite-at, overwrite-length}
 use Rattle.bits.specs.Bits.{bit-same}
 use Rattle.refusal.specs.Bounds.{maxDimension}
 use Rattle.pairs.specs.Pair.{pairTotal}
@@ -18,8 +18,8 @@ use Rattle.closed_set.specs.ClosedSet.{Closed, Pattern}
 use Rattle.columns.specs.Kept.{nonzero, pattern}
 use Rattle.columns.specs.Factor.{Factor}
 use Rattle.columns.specs.Diagonal.{Diagonals}
-use Rattle.entries.specs.Entries.{columnCount, position, entryStarts, entryRows, entryValues, floatTable, entryStarts-length, entryRows-length}
-use Rattle.entries.specs.Position.{entryRows-at, entryValues-overwrite, position-below, columnCount-cong, position-cong}
+use Rattle.entries.specs.Entries.{columnCount, position, entryStarts, entryRows, floatTable, entryStarts-length, entryRows-length}
+use Rattle.entries.specs.Position.{entryRows-at, position-below, columnCount-cong, position-cong}
 use Rattle.layout.specs.Layout.{LayOut, LaidOut}
 
 -- a factor past its checks, the marks of a closed set with its members' positions, its starts and rows, and room for its entries
@@ -48,25 +48,10 @@ pub record Solved (n : ℕ) (S : ℕ → ℕ → Bool) (Z : ℕ → ℕ → Floa
   pub entries : SolvedFrom n S Z m z
 
 -- column j, once the later columns are done
-pub record ColumnStep (n pairs j : ℕ) (starts rows : List ℕ) (values : List Float) (firsts listed scratch : List ℕ) (z : List Float) : Type 0 where
+pub record ColumnStep (n j : ℕ) (starts rows : List ℕ) (values : List Float) (firsts listed scratch : List ℕ) (z : List Float) : Type 0 where
   pub route : ClosureRoute n starts rows values firsts listed scratch (length z)
-  pub all : pairs ≡ queueStart n
   pub inside : j < n
   pub later : SolvedFrom n (columnMarking n scratch) (floatTable n starts rows values) (j + 1) z
-
--- ---- the columns, one after the other
-
-module _ {n : ℕ} {S : ℕ → ℕ → Bool} {Z : ℕ → ℕ → Float} where
-  pub solved-none : (z : List Float) → Solved n S Z n z z
-  solved-none z = record { long = refl; rest = λ q l. refl; entries = λ r c h p l. absurd (omega arith) }
-
-  pub solved-next : {m j : ℕ} {z₀ z z′ : List Float} → Solved n S Z m z₀ z → Solved n S Z j z z′ → Solved n S Z j z₀ z′
-  solved-next A B = record { long = B .long ∙ A .long; rest = λ q l. B .rest q l ∙ A .rest q l; entries = B .entries }
-
-  -- all columns
-  pub solved-all : {z₀ z : List Float} → setSize n S ≤ length z₀ → Solved n S Z 0 z₀ z → z ≡ overwrite (entryValues n S Z) z₀
-  solved-all {z₀} {z} fits A =
-      entryValues-overwrite n S Z nan z₀ z fits (A .long) (A .rest) (λ r c h l t. A .entries r c (omega arith) h l t)
 
 -- ---- what the layout leaves is what the route asks
 

@@ -1,32 +1,18 @@
 // The finishing steps of a column of the inverse, once its sums are stored: the division below the diagonal, and the diagonal's entry.
 ghost use mathlib.Core.Path.{_≡_};
 ghost use Prim.Native.Nat.{_-_, _<_, _≤_};
-ghost use lib.Dec.{ltb};
+ghost use lib.Dec.{eqb, ltb};
 ghost use lib.ListN.{length, getD};
 ghost use lib.Ieee.{nan};
-ghost use Rattle.pairs.specs.ColumnOrder.{columnMarking};
+ghost use Rattle.columns.specs.Columns.{row};
 ghost use Rattle.exact.specs.Exact.{float-off, float-on};
 ghost use Rattle.column_sums.specs.Part.{putIf};
 ghost use Rattle.column_sums.specs.Sums.{entrySum};
 ghost use Rattle.closure_route.specs.Finish.{Divided, PartDivided, DiagonalRoom};
 use column_sums::sums::entry_sum;
-use marked_pairs::column_place;
+use entry_steps::entry_below;
+use entry_steps::entry_on_diagonal;
 use words::at;
-use words::bit_words::bit;
-
-// An entry below the diagonal, from its sum.
-fn off_diagonal(d: f64, sum: f64) -> f64
-    ensures { λ z. ⌜ z ≡ float-off d sum ⌝ }
-{
-    -sum / d
-}
-
-// An entry on the diagonal, from its sum.
-fn on_diagonal(d: f64, sum: f64) -> f64
-    ensures { λ z. ⌜ z ≡ float-on d sum ⌝ }
-{
-    1.0 / (d * d) - sum / d
-}
 
 // Divides the sum at q of a column's own part, where its row i is below j.
 fn divide_entry(part: &mut [f64], q: usize, i: usize, j: usize, d: f64)
@@ -36,7 +22,7 @@ fn divide_entry(part: &mut [f64], q: usize, i: usize, j: usize, d: f64)
     if i <= j {
         return;
     }
-    part[q] = off_diagonal(d, part[q]);
+    part[q] = entry_below(d, part[q]);
 }
 
 // Divides the sums of column j, whose own part of the inverse and of the result's rows are lent.
@@ -60,10 +46,9 @@ pub fn divide_part(inverse: &mut [f64], rows: &[u32], first: usize, last: usize,
     divide_column(&mut inverse[first..last], &rows[first..last], j, d);
 }
 
-// Stores the diagonal's entry of column j at q, where it is in the set.
+// Stores the diagonal's entry of column j at q, where q's row is j.
 pub fn store_diagonal(
     n: usize,
-    pairs: usize,
     j: usize,
     q: usize,
     s: usize,
@@ -71,17 +56,17 @@ pub fn store_diagonal(
     d: f64,
     rows: &[u32],
     values: &[f64],
+    entry_rows: &[u32],
     scratch: &[u32],
     inverse: &mut [f64],
 )
-    requires { ⌜ DiagonalRoom n pairs j q s e (now rows) (now values) (now scratch) (length (now inverse)) ⌝ }
-    ensures { λ _. ⌜ now (inverse .exit) ≡ putIf (columnMarking n (now (scratch .entry)) j j) (now (inverse .entry)) q
+    requires { ⌜ DiagonalRoom n j q s e (now rows) (now values) (now «entry_rows») (now scratch) (length (now inverse)) ⌝ }
+    ensures { λ _. ⌜ now (inverse .exit) ≡ putIf (eqb (row (now («entry_rows» .entry)) q) j) (now (inverse .entry)) q
         (float-on d (entrySum n j s e (now (rows .entry)) (now (values .entry)) (now (scratch .entry)) (now (inverse .entry)) j)) ⌝ }
 {
-    let p = column_place(n, j, j);
-    if !bit(scratch, p) {
+    if at(entry_rows, q) != j {
         return;
     }
-    let sum = entry_sum(n, pairs, j, j, s, e, rows, values, scratch, inverse);
-    inverse[q] = on_diagonal(d, sum);
+    let sum = entry_sum(n, j, j, s, e, rows, values, scratch, inverse);
+    inverse[q] = entry_on_diagonal(d, sum);
 }

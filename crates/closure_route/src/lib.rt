@@ -13,14 +13,12 @@ use column_sums::store_sums;
 use finish::divide_part;
 use finish::store_diagonal;
 use kept_entries::diagonal::diagonal;
-use scratch::queue_start;
 use words::at;
 
 // The entries of column j, once those of the later columns are there: the sums, their division, and last the diagonal's entry. A column without
 // entries is passed over.
 fn takahashi_column(
     n: usize,
-    pairs: usize,
     j: usize,
     starts: &[u32],
     rows: &[u32],
@@ -30,7 +28,7 @@ fn takahashi_column(
     entry_values: &mut [f64],
     scratch: &[u32],
 )
-    requires { ⌜ ColumnStep n pairs j (now starts) (now rows) (now values) (now «entry_starts») (now «entry_rows») (now scratch) (now «entry_values») ⌝ }
+    requires { ⌜ ColumnStep n j (now starts) (now rows) (now values) (now «entry_starts») (now «entry_rows») (now scratch) (now «entry_values») ⌝ }
     ensures { λ _. ⌜ Solved n (columnMarking n (now (scratch .entry))) (floatTable n (now (starts .entry)) (now (rows .entry)) (now (values .entry))) j
         (now («entry_values» .entry)) (now («entry_values» .exit)) ⌝ }
 {
@@ -44,7 +42,6 @@ fn takahashi_column(
     let d = diagonal(n, starts, rows, values, j);
     store_sums(
         n,
-        pairs,
         j,
         first,
         last,
@@ -59,7 +56,6 @@ fn takahashi_column(
     divide_part(entry_values, entry_rows, first, last, j, d);
     store_diagonal(
         n,
-        pairs,
         j,
         first,
         s,
@@ -67,6 +63,7 @@ fn takahashi_column(
         d,
         rows,
         values,
+        entry_rows,
         scratch,
         entry_values,
     );
@@ -87,13 +84,11 @@ pub fn takahashi_selected_inverse_on_closure(
     ensures { λ _. ⌜ now («entry_values» .exit) ≡ overwrite (entryValues n (columnMarking n (now (scratch .entry)))
         (floatTable n (now (starts .entry)) (now (rows .entry)) (now (values .entry)))) (now («entry_values» .entry)) ⌝ }
 {
-    let pairs = queue_start(n);
     let mut j = n;
     while 0 < j {
         j -= 1;
         takahashi_column(
             n,
-            pairs,
             j,
             starts,
             rows,

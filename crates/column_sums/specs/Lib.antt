@@ -1,5 +1,6 @@
 -- The sums of a column's entries on the closure route.
 pub mod Part
+pub mod Run
 pub mod Products
 pub mod Sums
 pub mod Rest

@@ -2,12 +2,11 @@
 -- Assumes nothing.
 use Prim.Native.Nat.{ℕ, zero, suc, _+_, _-_, _≤_, _<_}
 use native.Mathlib.Omega.{arith}
-use mathlib.Core.Path.{_≡_, refl, sym, ap, ap₂, subst, _∙_}
-use mathlib.Core.Bool.{Bool, true, false, _&&_}
+use mathlib.Core.Path.{_≡_, refl, sym, ap, subst, _∙_}
+use mathlib.Core.Bool.{Bool, true, false}
 use mathlib.Core.List.{List, [], _∷_, _++_, map, map-append}
 use lib.ListN.{length}
-use lib.Ieee.{Float, binary64, ofBits, ne, add, mul}
-use borrow.Author.Tests.{lt-ltb, le-ltb}
+use lib.Ieee.{Float, binary64, ofBits, add, mul}
 use Rattle.lists.specs.Select.{one, select, select-none, select-next}
 use Rattle.refusal.specs.Bounds.{maxDimension}
 use Rattle.pairs.specs.Pair.{pairTotal}
@@ -41,9 +40,8 @@ abbrev pub entrySum : ℕ → ℕ → ℕ → ℕ → List ℕ → List Float �
 entrySum n j s e rows values scratch inverse i = sumBetween rows values j (inverseAt n scratch inverse i) s e
 
 -- a stored entry whose product can be taken
-pub record Adding (n pairs i j p : ℕ) (rows : List ℕ) (values : List Float) (scratch : List ℕ) (size : ℕ) : Type 0 where
+pub record Adding (n i j p : ℕ) (rows : List ℕ) (values : List Float) (scratch : List ℕ) (size : ℕ) : Type 0 where
   pub small : n ≤ maxDimension
-  pub all : pairs ≡ queueStart n
   pub left : i < n
   pub stored : p < length rows
   pub weighed : p < length values
@@ -52,72 +50,13 @@ pub record Adding (n pairs i j p : ℕ) (rows : List ℕ) (values : List Float) 
   pub known : keptBelow rows (nonzero values) j p ≡ true → positionOf n scratch i (row rows p) < size
 
 -- stored entries whose products can be taken
-pub record Summing (n pairs i j s e : ℕ) (rows : List ℕ) (values : List Float) (scratch : List ℕ) (size : ℕ) : Type 0 where
+pub record Summing (n i j s e : ℕ) (rows : List ℕ) (values : List Float) (scratch : List ℕ) (size : ℕ) : Type 0 where
   pub small : n ≤ maxDimension
-  pub all : pairs ≡ queueStart n
   pub left : i < n
   pub column : Column rows (length values) s e
   pub inside : (p : ℕ) → s ≤ p → p < e → row rows p < n
   pub room : queueStart n + pairTotal n ≤ length scratch
   pub known : (p : ℕ) → s ≤ p → p < e → keptBelow rows (nonzero values) j p ≡ true → positionOf n scratch i (row rows p) < size
-
--- one of them
-pub summing-entry : {n pairs i j s e : ℕ} {rows : List ℕ} {values : List Float} {scratch : List ℕ} {size : ℕ}
-    → Summing n pairs i j s e rows values scratch size → (p : ℕ) → s ≤ p → p < e → Adding n pairs i j p rows values scratch size
-summing-entry S p lo hi = record {
-  small = S .small;
-  all = S .all;
-  left = S .left;
-  stored = omega (arith, S .column .stored);
-  weighed = omega (arith, S .column .weighed);
-  inside = S .inside p lo hi;
-  room = S .room;
-  known = S .known p lo hi;
-}
-
--- those from m on
-pub summing-from : {n pairs i j s e : ℕ} {rows : List ℕ} {values : List Float} {scratch : List ℕ} {size : ℕ}
-    → Summing n pairs i j s e rows values scratch size → (m : ℕ) → s ≤ m → m ≤ e → Summing n pairs i j m e rows values scratch size
-summing-from S m lo hi = record {
-  small = S .small;
-  all = S .all;
-  left = S .left;
-  column = record {
-    ordered = hi;
-    stored = S .column .stored;
-    weighed = S .column .weighed;
-    ascends = λ q p a. S .column .ascends q p (omega arith);
-  };
-  inside = λ p a. S .inside p (omega arith);
-  room = S .room;
-  known = λ p a. S .known p (omega arith);
-}
-
--- the inverse's entry for it
-pub adding-read : {n pairs i j p : ℕ} {rows : List ℕ} {values : List Float} {scratch : List ℕ} {size : ℕ}
-    → Adding n pairs i j p rows values scratch size → keptBelow rows (nonzero values) j p ≡ true → Reading n pairs i (row rows p) scratch size
-adding-read A k = record { small = A .small; all = A .all; left = A .left; right = A .inside; room = A .room; known = A .known k }
-
--- ---- one product
-
-module _ (rows : List ℕ) (values : List Float) (j p : ℕ) (r : ℕ → Float) (sum : Float) where
-  -- an entry that is not kept below the diagonal
-  pub passed-over : keptBelow rows (nonzero values) j p ≡ false → sum ≡ withProduct rows values j r p sum
-  passed-over t = ap (λ (b : Bool). run floats r sum (entriesAt rows values (one b p))) (sym t)
-
-  pub withProduct-above : row rows p ≤ j → sum ≡ withProduct rows values j r p sum
-  withProduct-above h = passed-over (ap (λ (b : Bool). b && nonzero values p) (le-ltb j (row rows p) h))
-
-  pub withProduct-zero : j < row rows p → ne (value values p) f0 ≡ false → sum ≡ withProduct rows values j r p sum
-  withProduct-zero h e = passed-over (ap₂ (λ (a b : Bool). a && b) (lt-ltb j (row rows p) h) e)
-
-  -- and one that is
-  pub kept-below : j < row rows p → ne (value values p) f0 ≡ true → keptBelow rows (nonzero values) j p ≡ true
-  kept-below h e = ap₂ (λ (a b : Bool). a && b) (lt-ltb j (row rows p) h) e
-
-  pub withProduct-kept : keptBelow rows (nonzero values) j p ≡ true
-      → add binary64 sum (mul binary64 (value values p) (r (row rows p))) ≡ withProduct rows values j r p sum
-  withProduct-kept t = ap (λ (b : Bool). run floats r sum (entriesAt rows values (one b p))) (sym t)
 
 -- ---- the sum
 

@@ -1,6 +1,7 @@
 // The sums of a column of the recurrence over a closed set, stored at the places of its entries below the diagonal. Of each sum the descendants
 // up to its row are added first, a descendant at a time to all sums; then the greater ones, a sum at a time. The order within a sum is ascending.
 pub mod products;
+pub mod runs;
 pub mod sums;
 
 ghost use mathlib.Core.Path.{_≡_};
@@ -35,7 +36,6 @@ fn clear_part(first: usize, last: usize, inverse: &mut [f64])
 // nothing. Returns where those sums start.
 fn add_stored(
     n: usize,
-    pairs: usize,
     j: usize,
     p: usize,
     q: usize,
@@ -46,7 +46,7 @@ fn add_stored(
     scratch: &[u32],
     inverse: &mut [f64],
 ) -> usize
-    requires { ⌜ StoredRoom n pairs j p q last (now rows) (now values) (now «entry_rows») (now scratch) (length (now inverse)) ⌝ }
+    requires { ⌜ StoredRoom n j p q last (now rows) (now values) (now «entry_rows») (now scratch) (length (now inverse)) ⌝ }
     ensures { λ m. ⌜ Stepped n j p q m last (now (rows .entry)) (now (values .entry)) (now («entry_rows» .entry)) (now (scratch .entry))
         (now (inverse .entry)) (now (inverse .exit)) ⌝ }
 {
@@ -60,7 +60,7 @@ fn add_stored(
         return from;
     }
     if from < last {
-        add_column(n, pairs, k, l, from, last, entry_rows, scratch, inverse);
+        add_column(n, k, l, from, last, entry_rows, scratch, inverse);
     }
     from
 }
@@ -68,7 +68,6 @@ fn add_stored(
 // Adds to each sum of column j, from first to last, the products of the descendants up to its row.
 fn add_products(
     n: usize,
-    pairs: usize,
     j: usize,
     first: usize,
     last: usize,
@@ -80,26 +79,14 @@ fn add_products(
     scratch: &[u32],
     inverse: &mut [f64],
 )
-    requires { ⌜ SumsRoom n pairs j first last s e (now rows) (now values) (now «entry_rows») (now scratch) (now inverse) ⌝ }
+    requires { ⌜ SumsRoom n j first last s e (now rows) (now values) (now «entry_rows») (now scratch) (now inverse) ⌝ }
     ensures { λ _. ⌜ ProductsAdded n j first last s e (now (rows .entry)) (now (values .entry)) (now («entry_rows» .entry)) (now (scratch .entry))
         (now (inverse .entry)) (now (inverse .exit)) ⌝ }
 {
     let mut q = first;
     let mut p = s;
     while p < e {
-        q = add_stored(
-            n,
-            pairs,
-            j,
-            p,
-            q,
-            last,
-            rows,
-            values,
-            entry_rows,
-            scratch,
-            inverse,
-        );
+        q = add_stored(n, j, p, q, last, rows, values, entry_rows, scratch, inverse);
         p += 1;
     }
 }
@@ -107,7 +94,6 @@ fn add_products(
 // Adds to the sum at q the products of the descendants greater than its row, which are stored from p on. Returns where they start.
 fn add_rest(
     n: usize,
-    pairs: usize,
     j: usize,
     p: usize,
     e: usize,
@@ -119,7 +105,7 @@ fn add_rest(
     scratch: &[u32],
     inverse: &mut [f64],
 ) -> usize
-    requires { ⌜ EntryRoom n pairs j p e q zeros (now rows) (now values) (now «entry_rows») (now scratch) (length (now inverse)) ⌝ }
+    requires { ⌜ EntryRoom n j p e q zeros (now rows) (now values) (now «entry_rows») (now scratch) (length (now inverse)) ⌝ }
     ensures { λ m. ⌜ RestAdded n j p e q m (now (rows .entry)) (now (values .entry)) (now («entry_rows» .entry)) (now (scratch .entry))
         (now (inverse .entry)) (now (inverse .exit)) ⌝ }
 {
@@ -129,7 +115,6 @@ fn add_rest(
         let start = inverse[q];
         let sum = sum_rest(
             n,
-            pairs,
             i,
             j,
             from,
@@ -149,7 +134,6 @@ fn add_rest(
 // The same for each sum of column j, from first to last.
 fn add_rests(
     n: usize,
-    pairs: usize,
     j: usize,
     first: usize,
     last: usize,
@@ -162,7 +146,7 @@ fn add_rests(
     scratch: &[u32],
     inverse: &mut [f64],
 )
-    requires { ⌜ RestsRoom n pairs j first last s e zeros (now rows) (now values) (now «entry_rows») (now scratch) (length (now inverse)) ⌝ }
+    requires { ⌜ RestsRoom n j first last s e zeros (now rows) (now values) (now «entry_rows») (now scratch) (length (now inverse)) ⌝ }
     ensures { λ _. ⌜ RestsAdded n j first last s e (now (rows .entry)) (now (values .entry)) (now («entry_rows» .entry)) (now (scratch .entry))
         (now (inverse .entry)) (now (inverse .exit)) ⌝ }
 {
@@ -171,7 +155,6 @@ fn add_rests(
     while q < last {
         p = add_rest(
             n,
-            pairs,
             j,
             p,
             e,
@@ -201,7 +184,6 @@ fn has_greater(i: usize, s: usize, e: usize, rows: &[u32]) -> bool
 // Stores the sums of column j, whose entries in the result are those from first to last: each row below j.
 pub fn store_sums(
     n: usize,
-    pairs: usize,
     j: usize,
     first: usize,
     last: usize,
@@ -213,7 +195,7 @@ pub fn store_sums(
     scratch: &[u32],
     inverse: &mut [f64],
 )
-    requires { ⌜ Storing n pairs j first last s e (now rows) (now values) (now «entry_rows») (now scratch) (length (now inverse)) ⌝ }
+    requires { ⌜ Storing n j first last s e (now rows) (now values) (now «entry_rows») (now scratch) (length (now inverse)) ⌝ }
     ensures { λ _. ⌜ SumsStored n j first last s e (now (rows .entry)) (now (values .entry)) (now («entry_rows» .entry)) (now (scratch .entry))
         (now (inverse .entry)) (now (inverse .exit)) ⌝ }
 {
@@ -222,7 +204,6 @@ pub fn store_sums(
         clear_part(from, last, inverse);
         add_products(
             n,
-            pairs,
             j,
             from,
             last,
@@ -238,7 +219,6 @@ pub fn store_sums(
             let zeros = has_zero(s, e, values);
             add_rests(
                 n,
-                pairs,
                 j,
                 from,
                 last,

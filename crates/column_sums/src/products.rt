@@ -3,7 +3,8 @@ ghost use mathlib.Core.Path.{_≡_};
 ghost use lib.ListN.{length, getD, set};
 ghost use Rattle.column_sums.specs.Part.{PartSet};
 ghost use Rattle.column_sums.specs.Products.{withTerm, runTerms, rowTerms, columnTerms, RunProductsRoom, WordProductRoom, RowsProductsRoom, ColumnProductsRoom};
-use layout::positions::column_shift;
+use super::runs::is_run;
+use layout::positions::column_base;
 use words::at;
 
 // Adds to each entry from `from` to last the product of l and an entry, the first at the position, each next one place further.
@@ -54,11 +55,10 @@ fn add_rows(
 // A run shorter than this is not looked for.
 const SHORT: usize = 4;
 
-// Adds to each sum from `from` to last the product of the descendant k, whose factor entry is l. Where the positions of the first and the
-// last row differ by as much as their places, those between follow one another.
+// Adds to each sum from `from` to last the product of the descendant k, whose factor entry is l. Where the positions
+// of the rows follow one another the entries are read from a run.
 pub fn add_column(
     n: usize,
-    pairs: usize,
     k: usize,
     l: f64,
     from: usize,
@@ -67,20 +67,18 @@ pub fn add_column(
     scratch: &[u32],
     inverse: &mut [f64],
 )
-    requires { ⌜ ColumnProductsRoom n pairs k from last (now «entry_rows») (now scratch) (length (now inverse)) ⌝ }
+    requires { ⌜ ColumnProductsRoom n k from last (now «entry_rows») (now scratch) (length (now inverse)) ⌝ }
     ensures { λ _. ⌜ PartSet from last (columnTerms n k l (now («entry_rows» .entry)) (now (scratch .entry)) (now (inverse .entry)))
         (now (inverse .entry)) (now (inverse .exit)) ⌝ }
 {
-    let base = pairs + column_shift(n, k);
+    let base = column_base(n, k);
     if last - from < SHORT {
         add_rows(base, from, last, l, entry_rows, scratch, inverse);
         return;
     }
-    let a = at(scratch, base + at(entry_rows, from));
-    let b = at(scratch, base + at(entry_rows, last - 1));
-    // Positions rise with the row, so here each is one past the position before it.
-    if b - a == last - 1 - from {
-        add_run(from, last, a, l, inverse);
+    if is_run(base, from, last, entry_rows, scratch) {
+        let position = at(scratch, base + at(entry_rows, from));
+        add_run(from, last, position, l, inverse);
     } else {
         add_rows(base, from, last, l, entry_rows, scratch, inverse);
     }

@@ -4,16 +4,24 @@ ghost use mathlib.Core.Bool.{true};
 ghost use Prim.Native.Nat.{_+_, _≤_, _<_};
 ghost use lib.ListN.{length};
 ghost use Rattle.lists.specs.Test.{anyIn};
+ghost use Rattle.pairs.specs.Scratch.{queueStart};
+ghost use Rattle.pairs.specs.ColumnOrder.{colStart};
+ghost use Rattle.column_sums.specs.Run.{rowPositions};
 ghost use Rattle.column_sums.specs.Sums.{inverseAt, Adding, Summing, withProduct, sumBetween, Continued};
-ghost use Rattle.column_sums.specs.Rest.{zeroAt, Summed, runPositions, rowPositions, RestRunRoom, RestRowsRoom, Rest};
+ghost use Rattle.column_sums.specs.Rest.{zeroAt, Summed, runPositions, RestRunRoom, RestRowsRoom, Rest};
+use super::runs::is_run;
+use layout::positions::column_base;
 use layout::positions::column_shift;
-use layout::positions::read_entry;
+use layout::positions::pair_entry;
+use scratch::queue_start;
 use words::at;
 
 // The sum with the product of the stored entry at p, where it is kept below the diagonal of column j; other entries are passed over.
+// The positions start at the word `positions`, and those of column i are `base` words past its rows.
 fn add_product(
     n: usize,
-    pairs: usize,
+    positions: usize,
+    base: usize,
     i: usize,
     j: usize,
     p: usize,
@@ -23,7 +31,8 @@ fn add_product(
     scratch: &[u32],
     inverse: &[f64],
 ) -> f64
-    requires { ⌜ Adding n pairs i j p (now rows) (now values) (now scratch) (length (now inverse)) ⌝ }
+    requires { ⌜ (positions ≡ queueStart n) × (base + i ≡ queueStart n + colStart n i) ⌝ }
+    requires { ⌜ Adding n i j p (now rows) (now values) (now scratch) (length (now inverse)) ⌝ }
     ensures { λ x. ⌜ x ≡ withProduct (now (rows .entry)) (now (values .entry)) j (inverseAt n (now (scratch .entry)) (now (inverse .entry)) i) p sum ⌝ }
 {
     let k = at(rows, p);
@@ -32,7 +41,7 @@ fn add_product(
     }
     let l = values[p];
     if l != 0.0 {
-        return sum + l * read_entry(n, pairs, i, k, scratch, inverse);
+        return sum + l * pair_entry(n, positions, base, i, k, scratch, inverse);
     }
     sum
 }
@@ -40,7 +49,6 @@ fn add_product(
 // The sum, continued by l(k) Z(i, k) over the descendants k of column j that are stored from `first` to e.
 fn sum_from(
     n: usize,
-    pairs: usize,
     i: usize,
     j: usize,
     first: usize,
@@ -51,13 +59,27 @@ fn sum_from(
     scratch: &[u32],
     inverse: &[f64],
 ) -> f64
-    requires { ⌜ Summing n pairs i j first e (now rows) (now values) (now scratch) (length (now inverse)) ⌝ }
+    requires { ⌜ Summing n i j first e (now rows) (now values) (now scratch) (length (now inverse)) ⌝ }
     ensures { λ x. ⌜ Continued (now (rows .entry)) (now (values .entry)) j (inverseAt n (now (scratch .entry)) (now (inverse .entry)) i) first e start x ⌝ }
 {
+    let positions = queue_start(n);
+    let base = positions + column_shift(n, i);
     let mut sum = start;
     let mut p = first;
     while p < e {
-        sum = add_product(n, pairs, i, j, p, sum, rows, values, scratch, inverse);
+        sum = add_product(
+            n,
+            positions,
+            base,
+            i,
+            j,
+            p,
+            sum,
+            rows,
+            values,
+            scratch,
+            inverse,
+        );
         p += 1;
     }
     sum
@@ -66,7 +88,6 @@ fn sum_from(
 // The sum of l(k) Z(i, k) over the descendants k of column j, ascending; its entries are stored from s to e.
 pub fn entry_sum(
     n: usize,
-    pairs: usize,
     i: usize,
     j: usize,
     s: usize,
@@ -76,10 +97,10 @@ pub fn entry_sum(
     scratch: &[u32],
     inverse: &[f64],
 ) -> f64
-    requires { ⌜ Summing n pairs i j s e (now rows) (now values) (now scratch) (length (now inverse)) ⌝ }
+    requires { ⌜ Summing n i j s e (now rows) (now values) (now scratch) (length (now inverse)) ⌝ }
     ensures { λ x. ⌜ x ≡ sumBetween (now (rows .entry)) (now (values .entry)) j (inverseAt n (now (scratch .entry)) (now (inverse .entry)) i) s e ⌝ }
 {
-    sum_from(n, pairs, i, j, s, e, 0.0, rows, values, scratch, inverse)
+    sum_from(n, i, j, s, e, 0.0, rows, values, scratch, inverse)
 }
 
 // Whether one of the values from s to e is 0.0. The loop has one exit, so that it is compiled to vector instructions.
@@ -121,9 +142,9 @@ fn sum_run(
     sum
 }
 
-// The sum, continued by the products of the values from `first` to e and the entries of the inverse whose positions stand `shift` words past the rows.
+// The sum, continued by the products of the values from `first` to e and the entries of the inverse whose positions stand `base` words past the rows.
 fn sum_rows(
-    shift: usize,
+    base: usize,
     first: usize,
     e: usize,
     start: f64,
@@ -132,13 +153,13 @@ fn sum_rows(
     scratch: &[u32],
     inverse: &[f64],
 ) -> f64
-    requires { ⌜ RestRowsRoom shift first e (now rows) (length (now values)) (now scratch) (length (now inverse)) ⌝ }
-    ensures { λ x. ⌜ Summed (now (values .entry)) (now (inverse .entry)) first e (rowPositions shift (now (rows .entry)) (now (scratch .entry))) start x ⌝ }
+    requires { ⌜ RestRowsRoom base first e (now rows) (length (now values)) (now scratch) (length (now inverse)) ⌝ }
+    ensures { λ x. ⌜ Summed (now (values .entry)) (now (inverse .entry)) first e (rowPositions base (now (rows .entry)) (now (scratch .entry))) start x ⌝ }
 {
     let mut sum = start;
     let mut p = first;
     while p < e {
-        let position = at(scratch, shift + at(rows, p));
+        let position = at(scratch, base + at(rows, p));
         sum = sum + values[p] * inverse[position];
         p += 1;
     }
@@ -149,7 +170,6 @@ fn sum_rows(
 // their entries of the inverse are read from column i, and from a run of it where the positions follow one another.
 pub fn sum_rest(
     n: usize,
-    pairs: usize,
     i: usize,
     j: usize,
     first: usize,
@@ -161,29 +181,16 @@ pub fn sum_rest(
     scratch: &[u32],
     inverse: &[f64],
 ) -> f64
-    requires { ⌜ Rest n pairs i j first e zeros (now rows) (now values) (now scratch) (length (now inverse)) ⌝ }
+    requires { ⌜ Rest n i j first e zeros (now rows) (now values) (now scratch) (length (now inverse)) ⌝ }
     ensures { λ x. ⌜ Continued (now (rows .entry)) (now (values .entry)) j (inverseAt n (now (scratch .entry)) (now (inverse .entry)) i) first e start x ⌝ }
 {
     if !zeros {
-        let shift = pairs + column_shift(n, i);
-        let position = at(scratch, shift + at(rows, first));
-        let last = at(scratch, shift + at(rows, e - 1));
-        if last - position == e - 1 - first {
+        let base = column_base(n, i);
+        if is_run(base, first, e, rows, scratch) {
+            let position = at(scratch, base + at(rows, first));
             return sum_run(first, e, position, start, values, inverse);
         }
-        return sum_rows(shift, first, e, start, rows, values, scratch, inverse);
+        return sum_rows(base, first, e, start, rows, values, scratch, inverse);
     }
-    sum_from(
-        n,
-        pairs,
-        i,
-        j,
-        first,
-        e,
-        start,
-        rows,
-        values,
-        scratch,
-        inverse,
-    )
+    sum_from(n, i, j, first, e, start, rows, values, scratch, inverse)
 }

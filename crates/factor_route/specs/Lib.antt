@@ -1,6 +1,4 @@
 -- The factor route: the recurrence over the kept pattern.
 pub mod ColumnMarks
 pub mod Walk
-pub mod RouteLayout
 pub mod Route
-pub mod RouteCall

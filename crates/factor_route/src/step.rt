@@ -7,21 +7,9 @@ ghost use Rattle.refusal.specs.Bounds.{maxDimension};
 ghost use Rattle.lists.specs.Overwrite.{splice};
 ghost use Rattle.exact.specs.Exact.{floats, float-off, float-on};
 ghost use Rattle.scatter.specs.Scatter.{steps, stepSum, stepped};
+use entry_steps::entry_below;
+use entry_steps::entry_on_diagonal;
 use refusal::MAX_DIMENSION;
-
-// An entry below the diagonal, from the diagonal d of the factor and the sum s.
-fn entry_below(d: f64, s: f64) -> f64
-    ensures { λ z. ⌜ z ≡ float-off d s ⌝ }
-{
-    -s / d
-}
-
-// The entry on the diagonal.
-fn entry_on_diagonal(d: f64, s: f64) -> f64
-    ensures { λ z. ⌜ z ≡ float-on d s ⌝ }
-{
-    1.0 / (d * d) - s / d
-}
 
 // The m values below the diagonal; returns the diagonal's sum.
 fn column_below(

@@ -4,5 +4,4 @@ pub mod WordListed
 pub mod WordRows
 pub mod ColumnRows
 pub mod Position
-pub mod Run
 pub mod Layout

@@ -1,8 +1,7 @@
 -- Where the inverse's entry for a pair is read: its position stands in a word behind the marks.
 -- Assumes nothing.
-use Prim.Native.Nat.{ℕ, _+_, _-_, _*_, _/_, _≤_, _<_, min, max}
+use Prim.Native.Nat.{ℕ, _+_, _-_, _≤_, _<_, min, max}
 use native.Mathlib.Omega.{arith}
-use native.Mathlib.Nat.{mul-add}
 use mathlib.Core.Path.{_≡_, ap, ap₂}
 use mathlib.Core.Bool.{Bool, true}
 use mathlib.Core.List.{List}
@@ -11,7 +10,7 @@ use lib.Ieee.{Float, nan}
 use Rattle.refusal.specs.Bounds.{maxDimension}
 use Rattle.pairs.specs.Pair.{pairTotal, maxPairs, pairTotal-small}
 use Rattle.pairs.specs.Scratch.{queueStart, queueStart-small}
-use Rattle.pairs.specs.ColumnOrder.{colStart, colStart-half, colStart-mono, colStart-total, columnPlace, columnPlace-below}
+use Rattle.pairs.specs.ColumnOrder.{colStart, colStart-mono, colStart-total, columnPlace, columnPlace-below}
 use Rattle.entries.specs.Entries.{position}
 
 -- the position of each member of a set stands behind the marks
@@ -27,9 +26,8 @@ abbrev pub inverseAt : ℕ → List ℕ → List Float → ℕ → ℕ → Float
 inverseAt n s inverse i k = getD inverse (positionOf n s i k) nan
 
 -- an entry of the inverse that can be read: `size` is the number of its entries
-pub record Reading (n pairs i k : ℕ) (scratch : List ℕ) (size : ℕ) : Type 0 where
+pub record Reading (n i k : ℕ) (scratch : List ℕ) (size : ℕ) : Type 0 where
   pub small : n ≤ maxDimension
-  pub all : pairs ≡ queueStart n
   pub left : i < n
   pub right : k < n
   pub room : queueStart n + pairTotal n ≤ length scratch
@@ -49,34 +47,28 @@ place-turned n i k h =
     ap₂ (columnPlace n) e f
 
 -- the word with its position is there
-pub reading-inside : {n pairs i k : ℕ} {scratch : List ℕ} {size : ℕ} → Reading n pairs i k scratch size
+pub reading-inside : {n i k : ℕ} {scratch : List ℕ} {size : ℕ} → Reading n i k scratch size
     → queueStart n + columnPlace n (max i k) (min i k) < length scratch
-reading-inside {n} {pairs} {i} {k} R =
+reading-inside {n} {i} {k} R =
     let b = columnPlace-below n (max i k) (min i k) (omega arith) (omega (arith, R .left, R .right)) in
     omega (arith, R .room)
 
--- as the code computes the shift of column c
-pub shift-start : (n c : ℕ) → c < n → c * (2 * n - 1 - c) / 2 + c ≡ colStart n c
-shift-start n c h =
-    let q : 2 * n + 1 - c ≡ 2 * n - 1 - c + 2 = omega arith in
-    omega (arith, colStart-half n c (omega arith), ap (λ (k : ℕ). c * k) q, mul-add c (2 * n - 1 - c) 2)
-
--- from the shift of the lesser of the two, past the marks
-pub word-right : (n pairs base i k : ℕ) → pairs ≡ queueStart n → base + k ≡ pairs + colStart n k → k ≤ i
+-- from the base of the column of the lesser of the two
+pub word-right : (n base i k : ℕ) → base + k ≡ queueStart n + colStart n k → k ≤ i
     → base + i ≡ queueStart n + columnPlace n (max i k) (min i k)
-word-right n pairs base i k all e h = omega (arith, place-ordered n i k h)
+word-right n base i k e h = omega (arith, place-ordered n i k h)
 
-pub word-left : (n pairs base i k : ℕ) → pairs ≡ queueStart n → base + i ≡ pairs + colStart n i → i ≤ k
+pub word-left : (n base i k : ℕ) → base + i ≡ queueStart n + colStart n i → i ≤ k
     → base + k ≡ queueStart n + columnPlace n (max i k) (min i k)
-word-left n pairs base i k all e h = omega (arith, place-turned n i k h)
+word-left n base i k e h = omega (arith, place-turned n i k h)
 
 -- the shift fits, past the marks
-pub shift-fits : (n pairs c shift : ℕ) → n ≤ maxDimension → pairs ≡ queueStart n → c < n → shift + c ≡ colStart n c → pairs + shift ≤ maxPairs + maxPairs
-shift-fits n pairs c shift small all h e =
+pub shift-fits : (n c shift : ℕ) → n ≤ maxDimension → c < n → shift + c ≡ colStart n c → queueStart n + shift ≤ maxPairs + maxPairs
+shift-fits n c shift small h e =
     omega (arith, queueStart-small n small, pairTotal-small n small, colStart-mono n c n (omega arith), colStart-total n)
 
 -- a word that has the position of the pair, and can be read
-module _ {n pairs i k : ℕ} {scratch : List ℕ} {size : ℕ} (R : Reading n pairs i k scratch size) {word : ℕ}
+module _ {n i k : ℕ} {scratch : List ℕ} {size : ℕ} (R : Reading n i k scratch size) {word : ℕ}
     (w : word ≡ queueStart n + columnPlace n (max i k) (min i k)) where
   pub word-position : getD scratch word 0 ≡ positionOf n scratch i k
   word-position = ap (λ (x : ℕ). getD scratch x 0) w

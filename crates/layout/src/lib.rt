@@ -28,25 +28,23 @@ fn lay_positions(base: usize, first: usize, end: usize, rows: &[u32], scratch: &
 // Lists the rows of column c, whose marks start at `place`, behind `first` rows, with their positions; returns how many are listed.
 fn lay_column(
     n: usize,
-    pairs: usize,
     place: usize,
     c: usize,
     first: usize,
     rows: &mut [u32],
     scratch: &mut [u32],
 ) -> usize
-    requires { ⌜ LayColumn n pairs place c first (now rows) (now scratch) ⌝ }
+    requires { ⌜ LayColumn n place c first (now rows) (now scratch) ⌝ }
     ensures { λ m. ⌜ ColumnLaid n c first (now (rows .entry)) (now (scratch .entry)) (now (rows .exit)) (now (scratch .exit)) m ⌝ }
 {
     let next = list_column(n, place, c, first, rows, scratch);
-    lay_positions(pairs + (place - c), first, next, rows, scratch);
+    lay_positions(queue_start(n) + (place - c), first, next, rows, scratch);
     next
 }
 
 // The same for a column that closing reached; any other has no marked pair, and is passed over.
 fn lay_reached_column(
     n: usize,
-    pairs: usize,
     place: usize,
     c: usize,
     first: usize,
@@ -54,13 +52,13 @@ fn lay_reached_column(
     rows: &mut [u32],
     scratch: &mut [u32],
 ) -> usize
-    requires { ⌜ LayColumn n pairs place c first (now rows) (now scratch) × (c < length (now reached)) × ReachedColumn n c (now reached) (now scratch) ⌝ }
+    requires { ⌜ LayColumn n place c first (now rows) (now scratch) × (c < length (now reached)) × ReachedColumn n c (now reached) (now scratch) ⌝ }
     ensures { λ m. ⌜ ColumnLaid n c first (now (rows .entry)) (now (scratch .entry)) (now (rows .exit)) (now (scratch .exit)) m ⌝ }
 {
     if at(reached, c) == 0 {
         return first;
     }
-    lay_column(n, pairs, place, c, first, rows, scratch)
+    lay_column(n, place, c, first, rows, scratch)
 }
 
 // Writes the starts and rows of the set that the marks say, and each member's position, as many words past the queue's start as its place; returns how many members it has.
@@ -76,13 +74,12 @@ pub fn lay_out(
     ensures { λ m. ⌜ LaidOut n (now (starts .entry)) (now (rows .entry)) (now (scratch .entry))
         (now (starts .exit)) (now (rows .exit)) (now (scratch .exit)) m ⌝ }
 {
-    let pairs = queue_start(n);
     let mut count = 0;
     let mut place = 0;
     let mut c = 0;
     while c < n {
         starts[c] = count as u32;
-        count = lay_reached_column(n, pairs, place, c, count, reached, rows, scratch);
+        count = lay_reached_column(n, place, c, count, reached, rows, scratch);
         place += n - c;
         c += 1;
     }

@@ -16,7 +16,6 @@ use Rattle.pairs.specs.ColumnOrder.{setSize}
 use Rattle.columns.specs.Columns.{start, value}
 use Rattle.columns.specs.Factor.{starts-end}
 use Rattle.columns.specs.Operator.{operatorRows, OperatorRows}
-use Rattle.takahashi.specs.Recurrence.{at}
 use Rattle.closed_set.specs.ClosedSet.{Holds}
 use Rattle.exact.specs.Exact.{floats}
 use Rattle.entries.specs.Entries.{position, entryValues, entryValues-length}

@@ -100,12 +100,8 @@ pairTotal-half n = refl
 
 -- ---- places
 
-module _ (r c n : ℕ) (h : c ≤ r) where
-  pub rowPlace-row : rowPlace r c < pairTotal (r + 1)
-  rowPlace-row = omega (arith, pairTotal-next r)
-
-  pub rowPlace-below : r < n → rowPlace r c < pairTotal n
-  rowPlace-below l = omega (arith, pairTotal-next r, pairTotal-mono (r + 1) n (omega arith))
+pub rowPlace-below : (r c n : ℕ) → c ≤ r → r < n → rowPlace r c < pairTotal n
+rowPlace-below r c n h l = omega (arith, pairTotal-next r, pairTotal-mono (r + 1) n (omega arith))
 
 row-before : (r c r′ c′ : ℕ) → c ≤ r → r < r′ → rowPlace r c < rowPlace r′ c′
 row-before r c r′ c′ h l = omega (arith, pairTotal-next r, pairTotal-mono (r + 1) r′ (omega arith))

@@ -42,11 +42,7 @@ scratchWords-queue n = omega arith
 pub scratchWords-room : (n : ℕ) {words : ℕ} → scratchWords n ≤ words → queueStart n + pairTotal n ≤ words
 scratchWords-room n h = omega (arith, scratchWords-queue n)
 
--- both are small
+-- the queue's start is small
 pub queueStart-small : (n : ℕ) → n ≤ maxDimension → queueStart n ≤ maxPairs
 unfolding queueStart
 queueStart-small n h = pairTotal-small n h
-
-pub scratchWords-small : (n : ℕ) → n ≤ maxDimension → scratchWords n ≤ 2 * maxPairs + 4 * maxDimension
-unfolding scratchWords
-scratchWords-small n h = omega (arith, pairTotal-small n h)

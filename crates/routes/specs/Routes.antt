@@ -1,24 +1,14 @@
 -- What the choice between the two routes asks, and that either route gives the same entries.
 -- Assumes nothing.
-use Prim.Native.Nat.{ℕ, _+_, _≤_, _<_}
-use native.Mathlib.Omega.{arith}
-use mathlib.Core.Path.{_≡_, sym, ap, subst, _∙_}
-use mathlib.Core.Bool.{Bool, true}
+use Prim.Native.Nat.{ℕ, _+_}
+use mathlib.Core.Path.{_≡_}
 use mathlib.Core.List.{List}
-use lib.ListN.{length, take}
+use lib.ListN.{take}
 use lib.Ieee.{Float}
-use Rattle.lists.specs.Overwrite.{overwrite}
-use Rattle.pairs.specs.Pair.{pairTotal}
-use Rattle.pairs.specs.ColumnOrder.{columnMarking, setSize, setSize-cong}
-use Rattle.columns.specs.Kept.{nonzero, pattern, keptPair, factorPairs}
-use Rattle.closed_set.specs.FactorPattern.{factor-pattern}
-use Rattle.entries.specs.Entries.{entryStarts, entryRows, entryValues, floatTable}
-use Rattle.entries.specs.Position.{entryStarts-cong, entryRows-cong, entryValues-cong}
+use Rattle.pairs.specs.ColumnOrder.{columnMarking, setSize}
+use Rattle.columns.specs.Kept.{nonzero, factorPairs}
+use Rattle.entries.specs.Entries.{entryStarts, entryRows}
 use Rattle.closure_route.specs.Route.{ClosureRoute}
-use Rattle.factor_route.specs.Route.{RouteInput}
-use Rattle.factor_route.specs.RouteCall.{agree-closed}
-use Rattle.routes.specs.Agree.{samePairs, samePairs-agree}
-use Rattle.routes.specs.KeptPattern.{ChoiceInput}
 
 -- the closure route's input with the counts of kept and of marked pairs, and the result laid out over the marked set
 pub record RoutesInput (n : ℕ) (starts rows : List ℕ) (values : List Float) (kept closed : ℕ) (firsts listed scratch : List ℕ) (size : ℕ) : Type 0 where
@@ -27,39 +17,3 @@ pub record RoutesInput (n : ℕ) (starts rows : List ℕ) (values : List Float) 
   pub closed-is : closed ≡ setSize n (columnMarking n scratch)
   pub starts-laid : take (n + 1) firsts ≡ entryStarts n (columnMarking n scratch)
   pub rows-laid : take (setSize n (columnMarking n scratch)) listed ≡ entryRows n (columnMarking n scratch)
-
-module _ {n : ℕ} {starts rows : List ℕ} {values : List Float} {kept closed : ℕ} {firsts listed scratch : List ℕ} {size : ℕ}
-    (G : RoutesInput n starts rows values kept closed firsts listed scratch size) where
-  pub choice-input : ChoiceInput n starts rows values kept closed scratch
-  choice-input = record {
-    small = G .route .small;
-    factor = G .route .factor;
-    room = omega (arith, G .route .room);
-    kept-is = G .kept-is;
-    closed-is = G .closed-is;
-  }
-
-  abbrev S : ℕ → ℕ → Bool
-  S = columnMarking n scratch
-
-  abbrev K : ℕ → ℕ → Bool
-  K = keptPair starts rows (nonzero values)
-
-  module _ (agree : samePairs n S K ≡ true) where
-    same : (r c : ℕ) → c ≤ r → r < n → S r c ≡ K r c
-    same = samePairs-agree n S K agree
-
-    pub pattern-input : RouteInput n starts rows values firsts listed size
-    pattern-input = record {
-      small = G .route .small;
-      factor = G .route .factor;
-      diagonals = G .route .diagonals;
-      closed = agree-closed n (pattern starts rows (nonzero values)) S K (factor-pattern (nonzero values) (G .route .factor)) same (G .route .closed);
-      laid-starts = G .starts-laid ∙ entryStarts-cong n S K same;
-      laid-rows = ap (λ (k : ℕ). take k listed) (sym (setSize-cong n S K same)) ∙ G .rows-laid ∙ entryRows-cong n S K same;
-      room = subst (λ (k : ℕ). k ≤ size) (setSize-cong n S K same) (G .route .values-fit);
-    }
-
-    pub pattern-values : (z₀ : List Float) {z : List Float} → z ≡ overwrite (entryValues n K (floatTable n starts rows values)) z₀
-        → z ≡ overwrite (entryValues n S (floatTable n starts rows values)) z₀
-    pattern-values z₀ e = e ∙ ap (λ (l : List Float). overwrite l z₀) (sym (entryValues-cong n S K same (floatTable n starts rows values)))

@@ -21,9 +21,6 @@ returns c =
     let s = c .before .before .before .before .before .before in
     closes (λ req R. requests-past (nonzero (now (s .args .values))) (s .args .limit) (s .pre) req R (c .if1 .taken))
 
-queue-start-requires : tie.Need-queue-start-requires
-queue-start-requires c κs = search needs
-
 slice-aggregate-close-queue : tie.Need-slice-aggregate-close-queue
 slice-aggregate-close-queue c = search needs
 
@@ -33,11 +30,10 @@ slice-aggregate-close-queue-2 c = search needs
 close-queue-requires : tie.Need-close-queue-requires
 close-queue-requires c κs =
     let p = c .before .before .before .before in
-    let s = begin (p .before) in
+    let s = begin p in
     let long = length-replicate {A = ℕ} maxDimension 0 in
     record {
       small = s .pre .small;
-      all = p .queue-start .ensures .0;
       factor = s .pre .factor;
       entered = s .pre .entered;
       stopped = s .pre .stopped;
@@ -45,7 +41,7 @@ close-queue-requires c κs =
       spanEnds-fit = omega (arith, s .pre .small);
       unset = λ a l. getD-replicate {A = ℕ} maxDimension a 0 0 (omega (arith, s .pre .small));
       marked = s .pre .marked;
-      low = p .before .if1 .left;
+      low = p .if1 .left;
     }
 
 same-length : tie.Need-same-length
@@ -57,7 +53,7 @@ same-length-2 c = search needs
 returns-2 : tie.Need-returns-2
 returns-2 c =
     let q = c .before .before .before .before .before .before in
-    let s = begin (q .before .before .before .before .before .before) in
+    let s = begin (q .before .before .before .before .before) in
     closes (λ req R. queue-closed (nonzero (now (s .args .values))) (s .args .limit) (s .pre) req R (q .close-queue .ensures))
 
 pub takahashi-dependency-closure-spec : {M : Type 1} → statement M
@@ -66,7 +62,6 @@ takahashi-dependency-closure-spec =
     (tie.spec
     add-result
     returns
-    queue-start-requires
     slice-aggregate-close-queue
     slice-aggregate-close-queue-2
     close-queue-requires

@@ -5,7 +5,7 @@ use Rattle.pairs.specs.ColumnOrder.{columnMarking}
 use Rattle.entries.specs.Entries.{columnCount}
 use denote.Ref.{now}
 use borrow.Author.Needs.{needs}
-use Rattle.closure_route.specs.Column.{Ends, storing-at, part-at, diagonal-at, solved-empty, solved-at}
+use Rattle.closure_route.proofs.ColumnLaws.{Ends, storing-at, part-at, diagonal-at, solved-empty, solved-at}
 use Rattle.closure_route.proofs.takahashi_column.Statement.{statement}
 use Rattle.closure_route.proofs.takahashi_column.Tie as tie
 
@@ -36,6 +36,10 @@ ends d = record {
   end-is = d .before .at4 .ensures;
 }
 
+-- the column has entries
+some : (d : tie.After-diagonal) → bounds d .before .at .result ≡ bounds d .at2 .result → ⊥
+some d = d .before .before .before .if1 .left
+
 at-requires : tie.Need-at-requires
 at-requires c κs = search needs
 
@@ -49,7 +53,7 @@ returns : tie.Need-returns
 returns c =
     let f = c .before in
     let s = begin f in
-    solved-empty (s .pre .route) (s .pre .all) (s .pre .inside) (record { first-is = first-is f; last-is = last-is f; start-is = refl; end-is = refl })
+    solved-empty (s .pre .route) (s .pre .inside) (record { first-is = first-is f; last-is = last-is f; start-is = refl; end-is = refl })
     (now (s .args .entry-values)) (c .if1 .taken) (s .pre .later)
 
 at-requires-3 : tie.Need-at-requires-3
@@ -65,14 +69,14 @@ diagonal-requires : tie.Need-diagonal-requires
 diagonal-requires c κs = search needs
 
 store-sums-requires : tie.Need-store-sums-requires
-store-sums-requires c κs = let d = c .before in let p = start d .pre in storing-at (p .route) (p .all) (p .inside) (ends d)
+store-sums-requires c κs = let d = c .before in let p = start d .pre in storing-at (p .route) (p .inside) (ends d)
 
 divide-part-requires : tie.Need-divide-part-requires
 divide-part-requires c κs =
     let v = c .before .before .before in
     let d = v .before .before in
     let p = start d .pre in
-    part-at (p .route) (p .all) (p .inside) (ends d) _ (v .store-sums .ensures .long)
+    part-at (p .route) (p .inside) (ends d) _ (v .store-sums .ensures .long)
 
 store-diagonal-requires : tie.Need-store-diagonal-requires
 store-diagonal-requires c κs =
@@ -80,7 +84,7 @@ store-diagonal-requires c κs =
     let v = w .before .before .before .before in
     let d = v .before .before in
     let p = start d .pre in
-    diagonal-at (p .route) (p .all) (p .inside) (ends d) _ (w .divide-part .ensures .long ∙ v .store-sums .ensures .long)
+    diagonal-at (p .route) (p .inside) (ends d) (some d) _ (w .divide-part .ensures .long ∙ v .store-sums .ensures .long)
 
 same-length : tie.Need-same-length
 same-length c = search needs
@@ -92,7 +96,7 @@ returns-2 c =
     let v = w .before .before .before .before in
     let d = v .before .before in
     let p = start d .pre in
-    solved-at (p .route) (p .all) (p .inside) (ends d) (d .diagonal .ensures) refl (p .later)
+    solved-at (p .route) (p .inside) (ends d) (some d) (d .diagonal .ensures) refl (p .later)
     (v .store-sums .ensures) (w .divide-part .ensures) (x .store-diagonal .ensures)
 
 pub takahashi-column-spec : {M : Type 1} → statement M

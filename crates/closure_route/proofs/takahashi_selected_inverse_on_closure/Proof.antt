@@ -8,19 +8,20 @@ use denote.Ref.{now}
 use borrow.Author.Needs.{needs}
 use Rattle.pairs.specs.ColumnOrder.{columnMarking}
 use Rattle.entries.specs.Entries.{floatTable}
-use Rattle.closure_route.specs.Route.{ClosureRoute, SolvedFrom, Solved, solved-none, solved-next, solved-all}
+use Rattle.closure_route.specs.Route.{ClosureRoute, SolvedFrom, Solved}
+use Rattle.closure_route.proofs.RouteLaws.{solved-none, solved-next, solved-all}
 use Rattle.closure_route.proofs.takahashi_selected_inverse_on_closure.Statement.{statement}
 use Rattle.closure_route.proofs.takahashi_selected_inverse_on_closure.Tie as tie
 
 abbrev Inv-loop : tie.InvT-loop
-Inv-loop n starts rows values entry-starts entry-rows entry-values₀ scratch pairs j₀ entry-values j =
+Inv-loop n starts rows values entry-starts entry-rows entry-values₀ scratch j₀ entry-values j =
     (length entry-values ≡ length entry-values₀) × (j ≤ n) × Solved n (columnMarking n scratch) (floatTable n starts rows values) j entry-values₀ entry-values
 
 abbrev μ-loop : tie.MeasureT-loop
-μ-loop n starts rows values entry-starts entry-rows entry-values₀ scratch pairs j₀ entry-values j = j
+μ-loop n starts rows values entry-starts entry-rows entry-values₀ scratch j₀ entry-values j = j
 
 abbrev start : tie.At-loop Inv-loop μ-loop → tie.Start Inv-loop μ-loop
-start q = q .before .before .before .before .before .before .before .before .before
+start q = q .before .before .before .before .before .before .before .before
 
 -- the set, and the table
 abbrev set-of : tie.Start Inv-loop μ-loop → ℕ → ℕ → Bool
@@ -28,9 +29,6 @@ set-of s = columnMarking (s .args .n) (now (s .args .scratch))
 
 abbrev table-of : tie.Start Inv-loop μ-loop → ℕ → ℕ → Float
 table-of s = floatTable (s .args .n) (now (s .args .starts)) (now (s .args .rows)) (now (s .args .values))
-
-queue-start-requires : tie.Need-queue-start-requires Inv-loop μ-loop
-queue-start-requires c κs = search needs
 
 loop-holds : tie.Need-loop-holds Inv-loop μ-loop
 loop-holds c = (refl, omega arith, solved-none _)
@@ -50,7 +48,6 @@ takahashi-column-requires c κs =
       route =
           subst (ClosureRoute (a .n) (now (a .starts)) (now (a .rows)) (now (a .values)) (now (a .entry-starts)) (now (a .entry-rows)) (now (a .scratch)))
           (sym (l .inv .0)) (s .pre);
-      all = q .before .queue-start .ensures .0;
       inside = omega (arith, l .inv .1, t .loop-test .taken);
       later = subst (λ (m : ℕ). SolvedFrom (a .n) (set-of s) (table-of s) m (l .entry-values)) e (l .inv .2 .entries);
     }
@@ -82,7 +79,6 @@ takahashi-selected-inverse-on-closure-spec =
     (tie.spec
     Inv-loop
     μ-loop
-    queue-start-requires
     loop-holds
     sub-j
     takahashi-column-requires

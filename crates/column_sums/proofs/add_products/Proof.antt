@@ -4,12 +4,13 @@ use mathlib.Core.Path.{_≡_, refl, subst, _∙_}
 use lib.ListN.{length}
 use denote.Ref.{now}
 use borrow.Author.Needs.{needs}
-use Rattle.column_sums.specs.Lower.{RowsBefore, ProductsAdded, lower-entry, lowered-none, passed-more, lowered-more}
+use Rattle.column_sums.specs.Lower.{ProductsAdded}
+use Rattle.column_sums.proofs.LowerLaws.{RowsBefore, lower-entry, lowered-none, passed-more, lowered-more}
 use Rattle.column_sums.proofs.add_products.Statement.{statement}
 use Rattle.column_sums.proofs.add_products.Tie as tie
 
 abbrev Inv-loop : tie.InvT-loop
-Inv-loop n pairs j first last s e rows values entry-rows scratch inverse₀ q₀ p₀ inverse q p =
+Inv-loop n j first last s e rows values entry-rows scratch inverse₀ q₀ p₀ inverse q p =
     (length inverse ≡ length inverse₀)
     × (s ≤ p)
     × (p ≤ e)
@@ -19,7 +20,7 @@ Inv-loop n pairs j first last s e rows values entry-rows scratch inverse₀ q₀
     × ProductsAdded n j first last s p rows values entry-rows scratch inverse₀ inverse
 
 abbrev μ-loop : tie.MeasureT-loop
-μ-loop n pairs j first last s e rows values entry-rows scratch inverse₀ q₀ p₀ inverse q p = e - p
+μ-loop n j first last s e rows values entry-rows scratch inverse₀ q₀ p₀ inverse q p = e - p
 
 abbrev begin : tie.At-loop Inv-loop μ-loop → tie.Start Inv-loop μ-loop
 begin c = c .before .before .before .before .before .before

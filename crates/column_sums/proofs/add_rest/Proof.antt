@@ -8,7 +8,7 @@ use borrow.Author.Needs.{needs}
 use Rattle.columns.specs.Columns.{row}
 use Rattle.columns.specs.Factor.{FirstFrom}
 use Rattle.column_sums.specs.Sums.{inverseAt, Continued}
-use Rattle.column_sums.specs.Upper.{rested-none, rested-set}
+use Rattle.column_sums.proofs.UpperLaws.{rested-none, rested-set}
 use Rattle.column_sums.proofs.add_rest.Statement.{statement}
 use Rattle.column_sums.proofs.add_rest.Tie as tie
 

@@ -4,12 +4,13 @@ use mathlib.Core.Path.{_≡_, refl, subst, _∙_}
 use lib.ListN.{length}
 use denote.Ref.{now}
 use borrow.Author.Needs.{needs}
-use Rattle.column_sums.specs.Upper.{Reached, RestsAdded, rest-entry, rests-none, reached-more, rests-more}
+use Rattle.column_sums.specs.Upper.{RestsAdded}
+use Rattle.column_sums.proofs.UpperLaws.{Reached, rest-entry, rests-none, reached-more, rests-more}
 use Rattle.column_sums.proofs.add_rests.Statement.{statement}
 use Rattle.column_sums.proofs.add_rests.Tie as tie
 
 abbrev Inv-loop : tie.InvT-loop
-Inv-loop n pairs j first last s e zeros rows values entry-rows scratch inverse₀ p₀ q₀ inverse p q =
+Inv-loop n j first last s e zeros rows values entry-rows scratch inverse₀ p₀ q₀ inverse p q =
     (length inverse ≡ length inverse₀)
     × (first ≤ q)
     × (q ≤ last)
@@ -19,7 +20,7 @@ Inv-loop n pairs j first last s e zeros rows values entry-rows scratch inverse�
     × RestsAdded n j first q s e rows values entry-rows scratch inverse₀ inverse
 
 abbrev μ-loop : tie.MeasureT-loop
-μ-loop n pairs j first last s e zeros rows values entry-rows scratch inverse₀ p₀ q₀ inverse p q = last - q
+μ-loop n j first last s e zeros rows values entry-rows scratch inverse₀ p₀ q₀ inverse p q = last - q
 
 abbrev begin : tie.At-loop Inv-loop μ-loop → tie.Start Inv-loop μ-loop
 begin c = c .before .before .before .before .before .before

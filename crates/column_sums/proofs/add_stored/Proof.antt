@@ -10,7 +10,7 @@ use Rattle.lists.specs.Test.{and-both}
 use Rattle.columns.specs.Columns.{row}
 use Rattle.columns.specs.Kept.{nonzero, nonzero-not, keptBelow}
 use Rattle.columns.specs.Factor.{FirstFrom}
-use Rattle.column_sums.specs.Lower.{step-above, step-zero, step-none, step-added, step-room}
+use Rattle.column_sums.proofs.LowerLaws.{step-above, step-zero, step-none, step-added, step-room}
 use Rattle.column_sums.proofs.add_stored.Statement.{statement}
 use Rattle.column_sums.proofs.add_stored.Tie as tie
 

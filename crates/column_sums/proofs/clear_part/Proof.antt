@@ -5,7 +5,8 @@ use lib.ListN.{length, length-set}
 use denote.Ref.{now}
 use borrow.Author.Needs.{needs}
 use Rattle.columns.specs.Kept.{f0}
-use Rattle.column_sums.specs.Part.{PartSet, zeros, part-none, part-more}
+use Rattle.column_sums.specs.Part.{PartSet, zeros}
+use Rattle.column_sums.proofs.PartLaws.{part-none, part-more}
 use Rattle.column_sums.proofs.clear_part.Statement.{statement}
 use Rattle.column_sums.proofs.clear_part.Tie as tie
 

@@ -1,5 +1,5 @@
 use borrow.Author.Needs.{needs}
-use Rattle.column_sums.specs.Stored.{greater-none, greater-last}
+use Rattle.column_sums.proofs.StoredLaws.{greater-none, greater-last}
 use Rattle.column_sums.proofs.has_greater.Statement.{statement}
 use Rattle.column_sums.proofs.has_greater.Tie as tie
 

@@ -6,8 +6,9 @@ use Rattle.columns.specs.Columns.{outsideAt}
 use lib.ListN.{length}
 use denote.Ref.{now}
 use borrow.Author.Needs.{needs}
-use Rattle.column_sums.specs.Stored.{Sums, from-sums, from-stored, none-stored}
-use Rattle.column_sums.specs.Upper.{rests-idle, sums-stored}
+use Rattle.column_sums.specs.Stored.{Sums}
+use Rattle.column_sums.proofs.StoredLaws.{from-sums, from-stored, none-stored}
+use Rattle.column_sums.proofs.UpperLaws.{rests-idle, sums-stored}
 use Rattle.column_sums.proofs.store_sums.Statement.{statement}
 use Rattle.column_sums.proofs.store_sums.Tie as tie
 
@@ -18,7 +19,7 @@ begin f = f .before .before .before .before .before .before
 sums : (t : tie.Then1) →
     let f = t .before in
     let a = begin f .args in
-    Sums (a .n) (a .pairs) (a .j) (f .first-from .result) (a .last) (a .s) (a .e) (now (a .rows)) (now (a .values)) (now (a .entry-rows)) (now (a .scratch))
+    Sums (a .n) (a .j) (f .first-from .result) (a .last) (a .s) (a .e) (now (a .rows)) (now (a .values)) (now (a .entry-rows)) (now (a .scratch))
     (length (now (a .inverse)))
 sums t = let f = t .before in from-sums (f .first-from .ensures) (begin f .pre) (t .if1 .taken)
 

@@ -1,4 +1,4 @@
-use Rattle.factor_route.specs.Route.{route-starts, route-stored, route-first, route-walk, route-step, route-unmark, route-column}
+use Rattle.factor_route.proofs.RouteLaws.{route-starts, route-stored, route-first, route-walk, route-step, route-unmark, route-column}
 use borrow.Author.Needs.{needs}
 use native.Mathlib.Omega.{arith}
 use Prim.Native.Nat.{_≤_, _-_, _+_}

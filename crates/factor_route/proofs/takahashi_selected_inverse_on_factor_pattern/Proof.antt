@@ -1,4 +1,5 @@
-use Rattle.factor_route.specs.Route.{WorkRows, Done, route-none, route-turn, route-next, route-end, route-input}
+use Rattle.factor_route.specs.Route.{WorkRows}
+use Rattle.factor_route.proofs.RouteLaws.{Done, route-none, route-turn, route-next, route-end, route-input}
 use Rattle.scatter.specs.Marks.{empties-is}
 use borrow.Author.Needs.{needs}
 use native.Mathlib.Omega.{arith}

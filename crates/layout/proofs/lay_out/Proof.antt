@@ -6,20 +6,20 @@ use denote.Ref.{now}
 use borrow.Author.Needs.{needs}
 use Rattle.pairs.specs.Pair.{maxPairs, pairTotal-small}
 use Rattle.pairs.specs.ColumnOrder.{colStart, colStart-none, colStart-next, colStart-mono, colStart-total}
-use Rattle.layout.specs.Layout.{ColumnsLaid, columns-none, columns-few, columns-room, columns-reached, columns-more, columns-end}
+use Rattle.layout.proofs.LayoutLaws.{ColumnsLaid, columns-none, columns-few, columns-room, columns-reached, columns-more, columns-end}
 use Rattle.layout.proofs.lay_out.Statement.{statement}
 use Rattle.layout.proofs.lay_out.Tie as tie
 
 abbrev Inv-loop : tie.InvT-loop
-Inv-loop n reached starts₀ rows₀ scratch₀ pairs count₀ place₀ c₀ starts rows scratch count place c =
+Inv-loop n reached starts₀ rows₀ scratch₀ count₀ place₀ c₀ starts rows scratch count place c =
     (length starts ≡ length starts₀) × (length rows ≡ length rows₀) × (length scratch ≡ length scratch₀) × (c ≤ n) × (place ≡ colStart n c)
     × ColumnsLaid n c starts₀ rows₀ scratch₀ starts rows scratch count
 
 abbrev μ-loop : tie.MeasureT-loop
-μ-loop n reached starts₀ rows₀ scratch₀ pairs count₀ place₀ c₀ starts rows scratch count place c = n - c
+μ-loop n reached starts₀ rows₀ scratch₀ count₀ place₀ c₀ starts rows scratch count place c = n - c
 
 abbrev start : tie.At-loop Inv-loop μ-loop → tie.Start Inv-loop μ-loop
-start q = q .before .before .before .before .before .before
+start q = q .before .before .before .before .before
 
 -- the count is a word
 few : (q : tie.At-loop Inv-loop μ-loop) → q .loop .count ≤ maxPairs
@@ -33,9 +33,6 @@ next : (t : tie.In-loop Inv-loop μ-loop) →
 next t =
     let l = t .before .loop in
     omega (arith, l .inv .4, colStart-next (start (t .before) .args .n) (l .c))
-
-queue-start-requires : tie.Need-queue-start-requires Inv-loop μ-loop
-queue-start-requires c κs = search needs
 
 loop-holds : tie.Need-loop-holds Inv-loop μ-loop
 loop-holds c = (refl, refl, refl, omega arith, sym (colStart-none _), columns-none _ _ _ _)
@@ -55,7 +52,7 @@ lay-reached-column-requires c κs =
     let q = t .before in
     let s = start q in
     let l = q .loop in (
-      columns-room (s .pre .0) (l .inv .5) _ _ (q .before .queue-start .ensures .0) (l .inv .4) (t .loop-test .taken) (l .inv .1),
+      columns-room (s .pre .0) (l .inv .5) _ (l .inv .4) (t .loop-test .taken) (l .inv .1),
       omega (arith, s .pre .1, t .loop-test .taken),
       columns-reached (s .pre .0) (l .inv .5) (now (s .args .reached)) (s .pre .2),
     )
@@ -83,8 +80,8 @@ loop-again c =
     let l = t .before .loop in
     let s = start (t .before) in (
       length-set (l .starts) (l .c) _ ∙ l .inv .0,
-      v .lay-reached-column .kept .1 .1 .1 .1 .1 .1 .0 ∙ l .inv .1,
-      v .lay-reached-column .kept .1 .1 .1 .1 .1 .1 .1 .0 ∙ l .inv .2,
+      v .lay-reached-column .kept .1 .1 .1 .1 .1 .0 ∙ l .inv .1,
+      v .lay-reached-column .kept .1 .1 .1 .1 .1 .1 .0 ∙ l .inv .2,
       omega (arith, t .loop-test .taken),
       next t,
       columns-more (s .pre .0) (l .inv .5) (t .loop-test .taken) (v .lay-reached-column .ensures),
@@ -119,7 +116,6 @@ lay-out-spec =
     (tie.spec
     Inv-loop
     μ-loop
-    queue-start-requires
     loop-holds
     cast-starts
     mul-starts

@@ -4,7 +4,8 @@ use mathlib.Core.Path.{_≡_, subst}
 use lib.ListN.{length}
 use denote.Ref.{now}
 use borrow.Author.Needs.{needs}
-use Rattle.layout.specs.Layout.{PositionsLaid, positions-none, positions-more}
+use Rattle.layout.specs.Layout.{PositionsLaid}
+use Rattle.layout.proofs.LayoutLaws.{positions-none, positions-more}
 use Rattle.layout.proofs.lay_positions.Statement.{statement}
 use Rattle.layout.proofs.lay_positions.Tie as tie
 

@@ -1,7 +1,7 @@
 use native.Mathlib.Omega.{arith}
 use denote.Ref.{now}
 use borrow.Author.Needs.{needs}
-use Rattle.layout.specs.Layout.{column-unreached}
+use Rattle.layout.proofs.LayoutLaws.{column-unreached}
 use Rattle.layout.proofs.lay_reached_column.Statement.{statement}
 use Rattle.layout.proofs.lay_reached_column.Tie as tie
 

@@ -1,7 +1,7 @@
 use denote.Ref.{now}
 use Rattle.lists.specs.Overwrite.{cleared}
 use Rattle.bits.specs.Bits.{bitWords}
-use Rattle.marked_pairs.specs.MarkedPairs.{pairs-none}
+use Rattle.marked_pairs.proofs.InsertLaws.{pairs-none}
 use borrow.Author.Needs.{needs}
 use native.Mathlib.Omega.{arith}
 use Prim.Native.Nat.{ℕ, _≤_, _<_, _-_, _+_, _/_}

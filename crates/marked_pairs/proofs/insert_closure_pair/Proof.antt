@@ -1,4 +1,4 @@
-use Rattle.marked_pairs.specs.MarkedPairs.{inserted-turned}
+use Rattle.marked_pairs.proofs.InsertLaws.{inserted-turned}
 use borrow.Author.Needs.{needs}
 use Rattle.marked_pairs.proofs.insert_closure_pair.Statement.{statement}
 use Rattle.marked_pairs.proofs.insert_closure_pair.Tie as tie

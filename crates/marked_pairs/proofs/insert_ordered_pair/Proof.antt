@@ -1,7 +1,8 @@
 use Rattle.pairs.specs.Pair.{pairTotal, pairTotal-small}
 use Rattle.pairs.specs.Scratch.{queueStart-small}
 use Rattle.bits.specs.Bits.{bitAt}
-use Rattle.marked_pairs.specs.MarkedPairs.{packed, Inserted, place-word, insert-old, insert-new, end-room}
+use Rattle.marked_pairs.specs.MarkedPairs.{packed, Inserted}
+use Rattle.marked_pairs.proofs.InsertLaws.{place-word, insert-old, insert-new, end-room}
 use denote.Ref.{now}
 use mathlib.Core.List.{List}
 use borrow.Author.Needs.{needs}

@@ -11,20 +11,21 @@ use Rattle.columns.specs.Columns.{value}
 use Rattle.columns.specs.Operator.{operatorRows}
 use Rattle.exact.specs.Exact.{floats}
 use Rattle.quadratic_form.specs.RowValue.{rowValue, columnAt, operatorValue, operatorValues}
-use Rattle.operator_values.specs.Reading.{placed, RowReading, row-reading}
+use Rattle.operator_values.specs.Reading.{placed, RowReading}
+use Rattle.operator_values.proofs.ReadingLaws.{row-reading}
 use Rattle.operator_values.proofs.operator_values.Statement.{statement}
 use Rattle.operator_values.proofs.operator_values.Tie as tie
 
 abbrev Inv-loop : tie.InvT-loop
-Inv-loop n row-starts columns weights scratch inverse output₀ pairs last i₀ output i =
+Inv-loop n row-starts columns weights scratch inverse output₀ last i₀ output i =
     (i ≤ operatorRows row-starts) × (length output ≡ length output₀)
     × (output ≡ filled (operatorValue row-starts columns weights (placed n scratch inverse)) i output₀)
 
 abbrev μ-loop : tie.MeasureT-loop
-μ-loop n row-starts columns weights scratch inverse output₀ pairs last i₀ output i = operatorRows row-starts - i
+μ-loop n row-starts columns weights scratch inverse output₀ last i₀ output i = operatorRows row-starts - i
 
 abbrev start : tie.At-loop Inv-loop μ-loop → tie.Start Inv-loop μ-loop
-start q = q .before .before .before .before .before .before .before .before .before
+start q = q .before .before .before .before .before .before .before .before
 
 -- the value of row i
 abbrev row-value-at : tie.Start Inv-loop μ-loop → ℕ → Float
@@ -39,9 +40,6 @@ row c = omega (arith, c .loop-test .taken, c .before .before .operator-rows .ens
 -- there is room for its value
 room : (c : tie.In-loop Inv-loop μ-loop) → c .before .loop .i < length (now (start (c .before) .args .output))
 room c = omega (arith, row c, start (c .before) .pre .fits)
-
-queue-start-requires : tie.Need-queue-start-requires Inv-loop μ-loop
-queue-start-requires c κs = search needs
 
 operator-rows-requires : tie.Need-operator-rows-requires Inv-loop μ-loop
 operator-rows-requires c κs = search needs
@@ -61,11 +59,10 @@ at-requires-2 c κs = omega (arith, row (c .before))
 row-value-requires : tie.Need-row-value-requires Inv-loop μ-loop
 row-value-requires c κs =
     let t = c .before .before in
-    let p = t .before .before .before in
     let s = start (t .before) in
     let a = s .args in
-    subst₂ (λ (x y : ℕ). RowReading (a .n) (p .queue-start .result) (now (a .columns)) (length (now (a .weights))) (now (a .scratch)) (length (now (a .inverse))) x y)
-    (sym (c .before .at .ensures)) (sym (c .at2 .ensures)) (row-reading (s .pre) (p .queue-start .result) (p .queue-start .ensures .0) (t .before .loop .i) (row t))
+    subst₂ (λ (x y : ℕ). RowReading (a .n) (now (a .columns)) (length (now (a .weights))) (now (a .scratch)) (length (now (a .inverse))) x y)
+    (sym (c .before .at .ensures)) (sym (c .at2 .ensures)) (row-reading (s .pre) (t .before .loop .i) (row t))
 
 mul-output : tie.Need-mul-output Inv-loop μ-loop
 mul-output c = let h = room (c .before .before .before) in search needs
@@ -115,7 +112,6 @@ operator-values-spec =
     (tie.spec
     Inv-loop
     μ-loop
-    queue-start-requires
     operator-rows-requires
     loop-holds
     at-requires

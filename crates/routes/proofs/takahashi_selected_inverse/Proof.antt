@@ -5,7 +5,7 @@ use borrow.Author.Needs.{needs}
 use Rattle.pairs.specs.ColumnOrder.{columnMarking}
 use Rattle.columns.specs.Kept.{nonzero, keptPair}
 use Rattle.routes.specs.Agree.{samePairs}
-use Rattle.routes.specs.Routes.{choice-input, pattern-input, pattern-values}
+use Rattle.routes.proofs.ChoiceLaws.{choice-input, pattern-input, pattern-values}
 use Rattle.routes.proofs.takahashi_selected_inverse.Statement.{statement}
 use Rattle.routes.proofs.takahashi_selected_inverse.Tie as tie
 

@@ -3,28 +3,28 @@ use Rattle.closure.proofs.QueueLaws.{QueueLoop, QueueColumn, ready-none
 use Rattle.closure.proofs.QueueLaws.{serving-more, head-words, head-pairs, word-starts, word-inside, word-end, word-most}
 use Rattle.closure.proofs.QueueLaws.{column-none, column-skip, column-more, entry-rows, entry-values, entry-insert, finished, finished-past, above-dropped, zero-dropped, entry-kept}
 use Rattle.pairs.specs.Pair.{pairTotal}
-use Rattle.marked_pairs.specs.MarkedPairs.{columnOf}
+use Rattle.marked_pairs.specs.MarkedPairs.{columnOf, queueWord}
 use Rattle.columns.specs.Kept.{nonzero, nonzero-not, keptBelow}
 use Rattle.columns.specs.Columns.{start}
 use Rattle.closure.specs.Nested.{Stops}
 use denote.Ref.{now}
 use borrow.Author.Needs.{needs}
 use native.Mathlib.Omega.{arith}
-use Prim.Native.Nat.{_≤_, _<_, _-_, _+_}
-use mathlib.Core.Path.{_≡_, refl, _∙_}
-use lib.ListN.{length}
+use Prim.Native.Nat.{ℕ, _≤_, _<_, _-_, _+_}
+use mathlib.Core.Path.{_≡_, refl, ap, _∙_}
+use lib.ListN.{length, getD}
 use Rattle.closure.proofs.queue.close_queue.Statement.{statement}
 use Rattle.closure.proofs.queue.close_queue.Tie as tie
 
 abbrev Inv-column : tie.InvT-column
-Inv-column n pairs starts rows values limit first stops spanStarts spanEnds scratch₀ count₀ head w r c next before stop end p₀ scratch count p =
+Inv-column n starts rows values limit first stops spanStarts spanEnds scratch₀ firstWord count₀ head w r c next before stop end p₀ scratch count p =
     (length scratch ≡ length scratch₀) × QueueColumn n starts rows (nonzero values) limit scratch₀ count₀ head w scratch count p
 
 abbrev μ-column : tie.MeasureT-column
-μ-column n pairs starts rows values limit first stops spanStarts spanEnds scratch₀ count₀ head w r c next before stop end p₀ scratch count p = end - p
+μ-column n starts rows values limit first stops spanStarts spanEnds scratch₀ firstWord count₀ head w r c next before stop end p₀ scratch count p = end - p
 
 abbrev Inv-queue : tie.InvT-queue
-Inv-queue n pairs starts rows values limit first stops₀ spanStarts₀ spanEnds₀ scratch₀ count₀ head₀ stops spanStarts spanEnds scratch count head =
+Inv-queue n starts rows values limit first stops₀ spanStarts₀ spanEnds₀ scratch₀ firstWord count₀ head₀ stops spanStarts spanEnds scratch count head =
     (length scratch ≡ length scratch₀)
     × (count ≤ limit)
     × QueueLoop n starts rows (nonzero values) limit scratch₀ first stops spanStarts spanEnds scratch head count
@@ -34,12 +34,12 @@ Inv-queue n pairs starts rows values limit first stops₀ spanStarts₀ spanEnds
     × (length spanEnds ≡ length spanEnds₀)
 
 abbrev μ-queue : tie.MeasureT-queue
-μ-queue n pairs starts rows values limit first stops₀ spanStarts₀ spanEnds₀ scratch₀ count₀ head₀ stops spanStarts spanEnds scratch count head = pairTotal n - head
+μ-queue n starts rows values limit first stops₀ spanStarts₀ spanEnds₀ scratch₀ firstWord count₀ head₀ stops spanStarts spanEnds scratch count head = pairTotal n - head
 
 -- ---- places of the code
 
 abbrev begin : tie.At-queue Inv-column μ-column Inv-queue μ-queue → tie.Start Inv-column μ-column Inv-queue μ-queue
-begin q = q .before .before .before .before .before .before .before .before
+begin q = q .before .before .before .before .before .before .before .before .before
 
 abbrev queue : tie.After-at Inv-column μ-column Inv-queue μ-queue → tie.At-queue Inv-column μ-column Inv-queue μ-queue
 queue a = a .before .before .before
@@ -62,15 +62,26 @@ entry i = i .before .before .before .before .before
 -- ---- what is known there
 
 in-queue : (c : tie.In-queue Inv-column μ-column Inv-queue μ-queue)
-    → begin (c .before) .args .pairs + c .before .queue .head < length (c .before .queue .scratch)
+    → c .before .before .queue-start .result + c .before .queue .head < length (c .before .queue .scratch)
 in-queue c =
     let q = c .before in
-    head-words (nonzero (now (begin q .args .values))) (begin q .pre) (q .queue .inv .2 .serving) (c .queue-test .taken)
+    omega (
+      arith,
+      q .before .queue-start .ensures .0,
+      head-words (nonzero (now (begin q .args .values))) (begin q .pre) (q .queue .inv .2 .serving) (c .queue-test .taken),
+    )
+
+-- the word at head
+is-word : (a : tie.After-at Inv-column μ-column Inv-queue μ-queue)
+    → a .at .result ≡ queueWord (begin (queue a) .args .n) (queue a .queue .scratch) (queue a .queue .head)
+is-word a =
+    let q = queue a in
+    a .at .ensures ∙ ap (λ (k : ℕ). getD (q .queue .scratch) (k + q .queue .head) 0) (q .before .queue-start .ensures .0)
 
 in-starts : (a : tie.After-at Inv-column μ-column Inv-queue μ-queue) → columnOf (a .at .result) + 1 < length (now (begin (queue a) .args .starts))
 in-starts a =
     let q = queue a in
-    word-starts (nonzero (now (begin q .args .values))) (begin q .pre) (q .queue .inv .2 .serving) (a .before .before .queue-test .taken) (a .at .ensures)
+    word-starts (nonzero (now (begin q .args .values))) (begin q .pre) (q .queue .inv .2 .serving) (a .before .before .queue-test .taken) (is-word a)
 
 -- the entry is before the column's end
 in-column : (c : tie.In-column Inv-column μ-column Inv-queue μ-queue)
@@ -109,13 +120,16 @@ is-kept c =
 in-factor : (a : tie.After-at Inv-column μ-column Inv-queue μ-queue) → columnOf (a .at .result) < begin (queue a) .args .n
 in-factor a =
     let q = queue a in
-    word-inside (nonzero (now (begin q .args .values))) (begin q .pre) (q .queue .inv .2 .serving) (a .before .before .queue-test .taken) (a .at .ensures)
+    word-inside (nonzero (now (begin q .args .values))) (begin q .pre) (q .queue .inv .2 .serving) (a .before .before .queue-test .taken) (is-word a)
 
 -- ---- the needs
 
+queue-start-requires : tie.Need-queue-start-requires Inv-column μ-column Inv-queue μ-queue
+queue-start-requires c κs = search needs
+
 queue-holds : tie.Need-queue-holds Inv-column μ-column Inv-queue μ-queue
 queue-holds c =
-    let s = c .before .before .before .before .before .before .before in
+    let s = c .before .before .before .before .before .before .before .before in
     (refl, s .pre .low, ready-none (nonzero (now (s .args .values))) (s .pre), refl, s .pre .stopped, refl, refl)
 
 add-at : tie.Need-add-at Inv-column μ-column Inv-queue μ-queue
@@ -158,7 +172,7 @@ column-end-requires c κs =
     let f = c .before .before in
     let a = asked f in
     let q = queue a in
-    word-end (nonzero (now (begin q .args .values))) (begin q .pre) (q .queue .inv .2 .serving) (a .before .before .queue-test .taken) (a .at .ensures) (f .find-stop .ensures .stop)
+    word-end (nonzero (now (begin q .args .values))) (begin q .pre) (q .queue .inv .2 .serving) (a .before .before .queue-test .taken) (is-word a) (f .find-stop .ensures .stop)
 
 at-requires-2 : tie.Need-at-requires-2 Inv-column μ-column Inv-queue μ-queue
 at-requires-2 c κs = let l = in-starts (asked (c .before .before .before)) in omega arith
@@ -169,7 +183,7 @@ column-holds c =
     let q = queue a in
     let s = begin q in
     let l = a .before .before .queue-test .taken in
-    (refl, column-none (nonzero (now (s .args .values))) (s .pre) (q .queue .inv .2 .serving) l (q .queue .inv .1) (a .at .ensures) (c .at2 .ensures))
+    (refl, column-none (nonzero (now (s .args .values))) (s .pre) (q .queue .inv .2 .serving) l (q .queue .inv .1) (is-word a) (c .at2 .ensures))
 
 at-requires-3 : tie.Need-at-requires-3 Inv-column μ-column Inv-queue μ-queue
 at-requires-3 c κs = in-rows c
@@ -177,7 +191,7 @@ at-requires-3 c κs = in-rows c
 mul-l : tie.Need-mul-l Inv-column μ-column Inv-queue μ-queue
 mul-l c =
     let a = word (c .before .before) in
-    omega (arith, in-column (c .before), queue a .before .before .before .before .before .before .before .shared-slice-known .given (columnOf (a .at .result) + 1))
+    omega (arith, in-column (c .before), queue a .before .before .before .before .before .before .before .before .shared-slice-known .given (columnOf (a .at .result) + 1))
 
 shared-slice-read-l : tie.Need-shared-slice-read-l Inv-column μ-column Inv-queue μ-queue
 shared-slice-read-l c = in-values (c .before .before)
@@ -355,6 +369,7 @@ close-queue-spec =
     μ-column
     Inv-queue
     μ-queue
+    queue-start-requires
     queue-holds
     add-at
     at-requires

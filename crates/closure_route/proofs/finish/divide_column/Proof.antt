@@ -4,7 +4,8 @@ use mathlib.Core.Path.{_≡_, refl, subst, _∙_}
 use lib.ListN.{length}
 use denote.Ref.{now}
 use borrow.Author.Needs.{needs}
-use Rattle.closure_route.specs.Finish.{Divided, divided-none, divided-more}
+use Rattle.closure_route.specs.Finish.{Divided}
+use Rattle.closure_route.proofs.FinishLaws.{divided-none, divided-more}
 use Rattle.closure_route.proofs.finish.divide_column.Statement.{statement}
 use Rattle.closure_route.proofs.finish.divide_column.Tie as tie
 

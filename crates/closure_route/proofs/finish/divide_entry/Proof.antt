@@ -15,14 +15,14 @@ returns c =
     let a = c .before .before .args in
     ap (λ (b : Bool). putIf b (now (a .part)) (a .q) (float-off (a .d) (getD (now (a .part)) (a .q) nan))) (sym (le-ltb (a .j) (a .i) (c .if1 .taken)))
 
-mul-off-diagonal : tie.Need-mul-off-diagonal
-mul-off-diagonal c = search needs
+mul-entry-below : tie.Need-mul-entry-below
+mul-entry-below c = search needs
 
-slice-read-off-diagonal : tie.Need-slice-read-off-diagonal
-slice-read-off-diagonal c = search needs
+slice-read-entry-below : tie.Need-slice-read-entry-below
+slice-read-entry-below c = search needs
 
-off-diagonal-requires : tie.Need-off-diagonal-requires
-off-diagonal-requires c κs = search needs
+entry-below-requires : tie.Need-entry-below-requires
+entry-below-requires c κs = search needs
 
 mul-part : tie.Need-mul-part
 mul-part c = search needs
@@ -37,7 +37,7 @@ returns-2 : tie.Need-returns-2
 returns-2 c =
     let t = c .before .before in
     let a = t .before .before .args in
-    ap (set (now (a .part)) (a .q)) (c .off-diagonal .ensures)
+    ap (set (now (a .part)) (a .q)) (c .entry-below .ensures)
     ∙ ap (λ (b : Bool). putIf b (now (a .part)) (a .q) (float-off (a .d) (getD (now (a .part)) (a .q) nan))) (sym (lt-ltb (a .j) (a .i) (t .if1 .left)))
 
 pub divide-entry-spec : {M : Type 1} → statement M
@@ -45,9 +45,9 @@ divide-entry-spec =
     tie.close
     (tie.spec
     returns
-    mul-off-diagonal
-    slice-read-off-diagonal
-    off-diagonal-requires
+    mul-entry-below
+    slice-read-entry-below
+    entry-below-requires
     mul-part
     slice-write-part
     same-length

@@ -5,7 +5,7 @@ use lib.ListN.{length, take, drop, length-drop}
 use lib.Seq.{length-take-le}
 use denote.Ref.{now}
 use borrow.Author.Needs.{needs}
-use Rattle.closure_route.specs.Finish.{part-divided}
+use Rattle.closure_route.proofs.FinishLaws.{part-divided}
 use Rattle.closure_route.proofs.finish.divide_part.Statement.{statement}
 use Rattle.closure_route.proofs.finish.divide_part.Tie as tie
 

@@ -5,8 +5,10 @@ use mathlib.Core.Path.{_≡_, ap, subst}
 use lib.ListN.{getD}
 use denote.Ref.{now}
 use Rattle.columns.specs.Columns.{row}
-use Rattle.column_sums.specs.Part.{PartSet, part-none}
-use Rattle.column_sums.specs.Products.{rowTerms, product-more}
+use Rattle.column_sums.specs.Part.{PartSet}
+use Rattle.column_sums.proofs.PartLaws.{part-none}
+use Rattle.column_sums.specs.Products.{rowTerms}
+use Rattle.column_sums.proofs.ProductLaws.{product-more}
 use Rattle.column_sums.proofs.products.add_rows.Statement.{statement}
 use Rattle.column_sums.proofs.products.add_rows.Tie as tie
 

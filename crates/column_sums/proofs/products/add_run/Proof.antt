@@ -3,8 +3,10 @@ use native.Mathlib.Omega.{arith}
 use Prim.Native.Nat.{ℕ, _≤_, _-_, _+_}
 use mathlib.Core.Path.{_≡_, subst}
 use denote.Ref.{now}
-use Rattle.column_sums.specs.Part.{PartSet, part-none}
-use Rattle.column_sums.specs.Products.{runTerms, product-more}
+use Rattle.column_sums.specs.Part.{PartSet}
+use Rattle.column_sums.proofs.PartLaws.{part-none}
+use Rattle.column_sums.specs.Products.{runTerms}
+use Rattle.column_sums.proofs.ProductLaws.{product-more}
 use Rattle.column_sums.proofs.products.add_run.Statement.{statement}
 use Rattle.column_sums.proofs.products.add_run.Tie as tie
 

@@ -7,7 +7,8 @@ use denote.Ref.{now}
 use borrow.Author.Needs.{needs}
 use Rattle.columns.specs.Columns.{row, value}
 use Rattle.columns.specs.Kept.{nonzero, keptBelow}
-use Rattle.column_sums.specs.Sums.{inverseAt, adding-read, withProduct-above, withProduct-zero, withProduct-kept, kept-below}
+use Rattle.column_sums.specs.Sums.{inverseAt}
+use Rattle.column_sums.proofs.SumLaws.{adding-read, withProduct-above, withProduct-zero, withProduct-kept, kept-below}
 use Rattle.column_sums.proofs.sums.add_product.Statement.{statement}
 use Rattle.column_sums.proofs.sums.add_product.Tie as tie
 
@@ -45,17 +46,18 @@ kept c =
     let s = start (t .before) in
     kept-below (now (s .args .rows)) (now (s .args .values)) (s .args .j) (s .args .p) (inverse-row s) (s .args .sum) (under t) (c .if2 .taken)
 
-read-entry-requires : tie.Need-read-entry-requires
-read-entry-requires c κs =
+pair-entry-requires : tie.Need-pair-entry-requires
+pair-entry-requires c κs =
     let t = c .before .before in
-    rw (t .before .at .ensures) (adding-read (start (t .before) .pre) (kept c))
+    let s = start (t .before) in
+    (s .pre .0 .0, s .pre .0 .1, rw (t .before .at .ensures) (adding-read (s .pre .1) (kept c)))
 
 returns-2 : tie.Need-returns-2
 returns-2 c =
     let t = c .before .before .before in
     let s = start (t .before) in
     ap (λ (x : Float). add binary64 (s .args .sum) (mul binary64 (value (now (s .args .values)) (s .args .p)) x))
-    (c .read-entry .ensures ∙ ap (inverse-row s) (t .before .at .ensures))
+    (c .pair-entry .ensures ∙ ap (inverse-row s) (t .before .at .ensures))
     ∙ withProduct-kept (now (s .args .rows)) (now (s .args .values)) (s .args .j) (s .args .p) (inverse-row s) (s .args .sum) (kept (c .before))
 
 returns-3 : tie.Need-returns-3
@@ -72,6 +74,6 @@ add-product-spec =
     returns
     mul-l
     shared-slice-read-l
-    read-entry-requires
+    pair-entry-requires
     returns-2
     returns-3)

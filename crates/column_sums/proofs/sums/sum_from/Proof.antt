@@ -4,25 +4,46 @@ use mathlib.Core.Path.{_≡_, sym, ap, subst, _∙_}
 use lib.Ieee.{Float}
 use denote.Ref.{now}
 use borrow.Author.Needs.{needs}
-use Rattle.column_sums.specs.Sums.{inverseAt, Continued, withProduct, sumBetween-next, summing-entry}
+use Rattle.layout.specs.Position.{shift-fits}
+use Rattle.column_sums.specs.Sums.{inverseAt, Continued, withProduct, sumBetween-next}
+use Rattle.column_sums.proofs.SumLaws.{summing-entry}
 use Rattle.column_sums.proofs.sums.sum_from.Statement.{statement}
 use Rattle.column_sums.proofs.sums.sum_from.Tie as tie
 
 abbrev Inv-loop : tie.InvT-loop
-Inv-loop n pairs i j first e start rows values scratch inverse sum₀ p₀ sum p =
+Inv-loop n i j first e start rows values scratch inverse positions base sum₀ p₀ sum p =
     (first ≤ p) × (p ≤ e) × Continued rows values j (inverseAt n scratch inverse i) first p start sum
 
 abbrev μ-loop : tie.MeasureT-loop
-μ-loop n pairs i j first e start rows values scratch inverse sum₀ p₀ sum p = e - p
+μ-loop n i j first e start rows values scratch inverse positions base sum₀ p₀ sum p = e - p
+
+abbrev based : tie.After-column-shift Inv-loop μ-loop → tie.Start Inv-loop μ-loop
+based d = d .before .before .before .before .before .before
 
 abbrev begin : tie.At-loop Inv-loop μ-loop → tie.Start Inv-loop μ-loop
-begin q = q .before .before .before .before .before
+begin q = based (q .before)
+
+queue-start-requires : tie.Need-queue-start-requires Inv-loop μ-loop
+queue-start-requires c κs = search needs
+
+column-shift-requires : tie.Need-column-shift-requires Inv-loop μ-loop
+column-shift-requires c κs = let P = c .before .before .before .before .before .pre in (P .small, P .left)
+
+add-base : tie.Need-add-base Inv-loop μ-loop
+add-base c =
+    let s = based c in
+    omega (arith, c .before .queue-start .ensures .0, shift-fits (s .args .n) (s .args .i) (c .column-shift .result) (s .pre .small) (s .pre .left) (c .column-shift .ensures))
 
 loop-holds : tie.Need-loop-holds Inv-loop μ-loop
-loop-holds c = (omega arith, omega (arith, c .before .before .before .before .pre .column .ordered), λ s h q. q)
+loop-holds c = (omega arith, omega (arith, based c .pre .column .ordered), λ s h q. q)
 
 add-product-requires : tie.Need-add-product-requires Inv-loop μ-loop
-add-product-requires c κs = let l = c .before .loop in summing-entry (begin (c .before) .pre) (l .p) (l .inv .0) (c .loop-test .taken)
+add-product-requires c κs =
+    let q = c .before in
+    let l = q .loop in
+    let d = q .before in
+    let u = d .before .queue-start .ensures .0 in
+    ((u, omega (arith, u, d .column-shift .ensures)), summing-entry (begin q .pre) (l .p) (l .inv .0) (c .loop-test .taken))
 
 add-p : tie.Need-add-p Inv-loop μ-loop
 add-p c = search needs
@@ -57,6 +78,9 @@ sum-from-spec =
     (tie.spec
     Inv-loop
     μ-loop
+    queue-start-requires
+    column-shift-requires
+    add-base
     loop-holds
     add-product-requires
     add-p

@@ -1,5 +1,6 @@
 use Rattle.columns.specs.Columns.{value}
-use Rattle.column_sums.specs.Rest.{Summed, rowPositions}
+use Rattle.column_sums.specs.Run.{rowPositions}
+use Rattle.column_sums.specs.Rest.{Summed}
 use borrow.Author.Needs.{needs}
 use native.Mathlib.Omega.{arith}
 use Prim.Native.Nat.{ℕ, _+_, _≤_, _<_, _-_}
@@ -11,11 +12,11 @@ use Rattle.column_sums.proofs.sums.sum_rows.Statement.{statement}
 use Rattle.column_sums.proofs.sums.sum_rows.Tie as tie
 
 abbrev Inv-loop : tie.InvT-loop
-Inv-loop shift first e start rows values scratch inverse sum₀ p₀ sum p =
-    (first ≤ p) × (p ≤ e) × Summed values inverse first p (rowPositions shift rows scratch) start sum
+Inv-loop base first e start rows values scratch inverse sum₀ p₀ sum p =
+    (first ≤ p) × (p ≤ e) × Summed values inverse first p (rowPositions base rows scratch) start sum
 
 abbrev μ-loop : tie.MeasureT-loop
-μ-loop shift first e start rows values scratch inverse sum₀ p₀ sum p = e - p
+μ-loop base first e start rows values scratch inverse sum₀ p₀ sum p = e - p
 
 abbrev begin : tie.At-loop Inv-loop μ-loop → tie.Start Inv-loop μ-loop
 begin c = c .before .before .before .before .before
@@ -29,7 +30,7 @@ at-requires c κs = search needs
 -- the word is there, and its position
 word : (c : tie.After-at Inv-loop μ-loop) →
     let a = begin (c .before .before) .args in
-    (a .shift + c .at .result < length (now (a .scratch))) × (getD (now (a .scratch)) (a .shift + c .at .result) 0 < length (now (a .inverse)))
+    (a .base + c .at .result < length (now (a .scratch))) × (getD (now (a .scratch)) (a .base + c .at .result) 0 < length (now (a .inverse)))
 word c =
     let t = c .before in
     let l = t .before .loop in
@@ -75,7 +76,7 @@ loop-again c =
       λ f b s.
           ap₂ (λ (x : Float) (k : ℕ). add binary64 x (mul binary64 (value (now (a .values)) (l .p)) (getD (now (a .inverse)) k nan)))
           (l .inv .2 f b (λ p lo hi. s p lo (omega arith)))
-          (d .at2 .ensures ∙ ap (λ (k : ℕ). getD (now (a .scratch)) (a .shift + k) 0) (d .before .at .ensures))
+          (d .at2 .ensures ∙ ap (λ (k : ℕ). getD (now (a .scratch)) (a .base + k) 0) (d .before .at .ensures))
           ∙ s (l .p) (l .inv .0) (omega arith),
     )
 
@@ -84,7 +85,7 @@ returns c =
     let l = c .before .loop in
     let a = begin (c .before) .args in
     let e : l .p ≡ a .e = omega (arith, c .loop-test .left, l .inv .1) in
-    subst (λ (k : ℕ). Summed (now (a .values)) (now (a .inverse)) (a .first) k (rowPositions (a .shift) (now (a .rows)) (now (a .scratch))) (a .start) (l .sum)) e (l .inv .2)
+    subst (λ (k : ℕ). Summed (now (a .values)) (now (a .inverse)) (a .first) k (rowPositions (a .base) (now (a .rows)) (now (a .scratch))) (a .start) (l .sum)) e (l .inv .2)
 
 pub sum-rows-spec : {M : Type 1} → statement M
 sum-rows-spec =

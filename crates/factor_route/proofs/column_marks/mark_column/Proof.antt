@@ -1,4 +1,5 @@
-use Rattle.factor_route.specs.ColumnMarks.{descBetween, ColumnMarked, marked-none, marked-more, marked-few, marked-end}
+use Rattle.factor_route.specs.ColumnMarks.{descBetween, ColumnMarked}
+use Rattle.factor_route.proofs.MarkLaws.{marked-none, marked-more, marked-few, marked-end}
 use Rattle.refusal.specs.Bounds.{maxDimension}
 use mathlib.Core.Path.{subst, sym}
 use borrow.Author.Needs.{needs}

@@ -1,4 +1,4 @@
-use Rattle.factor_route.specs.ColumnMarks.{entry-above, entry-zero, entry-kept}
+use Rattle.factor_route.proofs.MarkLaws.{entry-above, entry-zero, entry-kept}
 use borrow.Author.Needs.{needs}
 use Prim.Native.Nat.{_-_}
 use Rattle.factor_route.proofs.column_marks.mark_entry.Statement.{statement}

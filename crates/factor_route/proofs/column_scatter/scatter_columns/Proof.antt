@@ -1,4 +1,4 @@
-use Rattle.factor_route.specs.Walk.{walk-column, walk-ordered, walk-span}
+use Rattle.factor_route.proofs.WalkLaws.{walk-column, walk-ordered, walk-span}
 use Rattle.scatter.specs.Scatter.{scatterAll, scatterAll-none, scatterAll-next}
 use Rattle.exact.specs.Exact.{floats}
 use lib.Ieee.{nan}

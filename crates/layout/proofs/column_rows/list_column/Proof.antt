@@ -1,6 +1,6 @@
 use native.Mathlib.Omega.{arith}
 use borrow.Author.Needs.{needs}
-use Rattle.layout.specs.ColumnRows.{column-places, column-room, column-words, column-listed}
+use Rattle.layout.proofs.ColumnLaws.{column-places, column-room, column-words, column-listed}
 use Rattle.layout.proofs.column_rows.list_column.Statement.{statement}
 use Rattle.layout.proofs.column_rows.list_column.Tie as tie
 

@@ -3,7 +3,7 @@ use native.Mathlib.Omega.{arith}
 use mathlib.Core.Path.{_≡_, refl, _∙_}
 use lib.ListN.{length}
 use borrow.Author.Needs.{needs}
-use Rattle.layout.specs.ColumnRows.{WordsPart, words-none, words-end, words-skip, wordRow, words-row, words-room, words-more}
+use Rattle.layout.proofs.ColumnLaws.{WordsPart, words-none, words-end, words-skip, wordRow, words-row, words-room, words-more}
 use Rattle.layout.proofs.column_rows.list_words.Statement.{statement}
 use Rattle.layout.proofs.column_rows.list_words.Tie as tie
 

@@ -1,11 +1,18 @@
 use native.Mathlib.Omega.{arith}
-use native.Mathlib.Nat.{mul-le-mul}
-use Prim.Native.Nat.{_*_, _-_, _≤_}
+use native.Mathlib.Nat.{mul-add, mul-le-mul}
+use Prim.Native.Nat.{ℕ, _+_, _*_, _-_, _/_, _≤_, _<_}
+use mathlib.Core.Path.{_≡_, ap}
 use borrow.Author.Needs.{needs}
 use Rattle.refusal.specs.Bounds.{maxDimension}
-use Rattle.layout.specs.Position.{shift-start}
+use Rattle.pairs.specs.ColumnOrder.{colStart, colStart-half}
 use Rattle.layout.proofs.positions.column_shift.Statement.{statement}
 use Rattle.layout.proofs.positions.column_shift.Tie as tie
+
+-- as the code computes the shift of column c
+shift-start : (n c : ℕ) → c < n → c * (2 * n - 1 - c) / 2 + c ≡ colStart n c
+shift-start n c h =
+    let q : 2 * n + 1 - c ≡ 2 * n - 1 - c + 2 = omega arith in
+    omega (arith, colStart-half n c (omega arith), ap (λ (k : ℕ). c * k) q, mul-add c (2 * n - 1 - c) 2)
 
 mul-result : tie.Need-mul-result
 mul-result c = search needs

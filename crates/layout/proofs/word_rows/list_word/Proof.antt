@@ -4,7 +4,7 @@ use mathlib.Core.Path.{_≡_, refl, _∙_}
 use lib.ListN.{length, length-set}
 use denote.Ref.{now}
 use borrow.Author.Needs.{needs}
-use Rattle.layout.specs.WordRows.{WordPart, word-none, word-end, word-stop, word-room, word-more}
+use Rattle.layout.proofs.WordLaws.{WordPart, word-none, word-end, word-stop, word-room, word-more}
 use Rattle.layout.proofs.word_rows.list_word.Statement.{statement}
 use Rattle.layout.proofs.word_rows.list_word.Tie as tie
 

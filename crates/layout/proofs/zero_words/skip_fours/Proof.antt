@@ -1,7 +1,8 @@
 use Prim.Native.Nat.{_-_}
 use mathlib.Core.Path.{sym, _∙_}
 use borrow.Author.Needs.{needs}
-use Rattle.layout.specs.Zeros.{Zeros, zeros-none, zeros-four}
+use Rattle.layout.specs.Zeros.{Zeros}
+use Rattle.layout.proofs.ZeroLaws.{zeros-none, zeros-four}
 use Rattle.layout.proofs.zero_words.skip_fours.Statement.{statement}
 use Rattle.layout.proofs.zero_words.skip_fours.Tie as tie
 

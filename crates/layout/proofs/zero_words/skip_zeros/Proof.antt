@@ -1,7 +1,8 @@
 use Prim.Native.Nat.{_-_}
 use native.Mathlib.Omega.{arith}
 use borrow.Author.Needs.{needs}
-use Rattle.layout.specs.Zeros.{Zeros, zeros-more}
+use Rattle.layout.specs.Zeros.{Zeros}
+use Rattle.layout.proofs.ZeroLaws.{zeros-more}
 use Rattle.layout.proofs.zero_words.skip_zeros.Statement.{statement}
 use Rattle.layout.proofs.zero_words.skip_zeros.Tie as tie
 

@@ -15,19 +15,19 @@ use Rattle.operator_values.proofs.row_value.add_terms.Statement.{statem
 use Rattle.operator_values.proofs.row_value.add_terms.Tie as tie
 
 abbrev Inv-loop : tie.InvT-loop
-Inv-loop n pairs columns weights scratch inverse s e a first x i base sum₀ b₀ sum b =
+Inv-loop n columns weights scratch inverse s e a first x i positions base sum₀ b₀ sum b =
     (s ≤ b) × (b ≤ e) × (sum ≡ withTerms floats (columnAt columns) (value weights) (placed n scratch inverse) s b a first)
 
 abbrev μ-loop : tie.MeasureT-loop
-μ-loop n pairs columns weights scratch inverse s e a first x i base sum₀ b₀ sum b = e - b
+μ-loop n columns weights scratch inverse s e a first x i positions base sum₀ b₀ sum b = e - b
 
 abbrev start : tie.After-column-shift Inv-loop μ-loop → tie.Start Inv-loop μ-loop
-start q = q .before .before .before .before .before .before .before
+start q = q .before .before .before .before .before .before .before .before
 
 -- the pair of the place's column with itself
 own : (t : tie.After-at Inv-loop μ-loop) →
     let a = t .before .before .before .before .before .before .args in
-    Reading (a .n) (a .pairs) (columnAt (now (a .columns)) (a .a)) (columnAt (now (a .columns)) (a .a)) (now (a .scratch)) (length (now (a .inverse)))
+    Reading (a .n) (columnAt (now (a .columns)) (a .a)) (columnAt (now (a .columns)) (a .a)) (now (a .scratch)) (length (now (a .inverse)))
 own t =
     let s = t .before .before .before .before .before .before in
     let h = s .pre .1 in
@@ -46,14 +46,18 @@ shared-slice-read-x c = search needs
 at-requires : tie.Need-at-requires Inv-loop μ-loop
 at-requires c κs = search needs
 
+queue-start-requires : tie.Need-queue-start-requires Inv-loop μ-loop
+queue-start-requires c κs = own c .small
+
 column-shift-requires : tie.Need-column-shift-requires Inv-loop μ-loop
-column-shift-requires c κs = (own c .small, omega (arith, c .at .ensures, own c .left))
+column-shift-requires c κs = let t = c .before in (own t .small, omega (arith, t .at .ensures, own t .left))
 
 add-base : tie.Need-add-base Inv-loop μ-loop
 add-base c =
-    let t = c .before in
+    let u = c .before in
+    let t = u .before in
     let a = start c .args in
-    omega (arith, shift-fits (a .n) (a .pairs) (t .at .result) (c .column-shift .result) (own t .small) (own t .all) (omega (arith, t .at .ensures, own t .left)) (c .column-shift .ensures))
+    omega (arith, u .queue-start .ensures .0, shift-fits (a .n) (t .at .result) (c .column-shift .result) (own t .small) (omega (arith, t .at .ensures, own t .left)) (c .column-shift .ensures))
 
 loop-holds : tie.Need-loop-holds Inv-loop μ-loop
 loop-holds c =
@@ -76,7 +80,8 @@ pair-entry-requires c κs =
     let d = q .before in
     let s = start d in
     let R = s .pre .0 .reads (s .args .a) (q .loop .b) (s .pre .1 .0) (s .pre .1 .1) (q .loop .inv .0) (place t) in
-    (omega (arith, d .column-shift .ensures), rw (d .before .at .ensures, c .at2 .ensures) R)
+    let u = d .before in
+    (u .queue-start .ensures .0, omega (arith, u .queue-start .ensures .0, d .column-shift .ensures), rw (u .before .at .ensures, c .at2 .ensures) R)
 
 add-b : tie.Need-add-b Inv-loop μ-loop
 add-b c = search needs
@@ -93,7 +98,7 @@ loop-again c =
     let a = start (q .before) .args in
     let Z = placed (a .n) (now (a .scratch)) (now (a .inverse)) in
     let w = value (now (a .weights)) in
-    let entry = c .pair-entry .ensures ∙ ap₂ (recurrence.at Z) (q .before .before .at .ensures) (d .at2 .ensures) in (
+    let entry = c .pair-entry .ensures ∙ ap₂ (recurrence.at Z) (q .before .before .before .at .ensures) (d .at2 .ensures) in (
       omega (arith, l .inv .0),
       omega (arith, place t),
       ap₂ (λ (x y : Float). add binary64 x (mul binary64 (mul binary64 (w (a .a)) (w (l .b))) y)) (l .inv .2) entry
@@ -117,6 +122,7 @@ add-terms-spec =
     mul-x
     shared-slice-read-x
     at-requires
+    queue-start-requires
     column-shift-requires
     add-base
     loop-holds

@@ -12,11 +12,11 @@ use Rattle.operator_values.proofs.row_value.row_value.Statement.{statem
 use Rattle.operator_values.proofs.row_value.row_value.Tie as tie
 
 abbrev Inv-loop : tie.InvT-loop
-Inv-loop n pairs columns weights scratch inverse s e sum₀ a₀ sum a =
+Inv-loop n columns weights scratch inverse s e sum₀ a₀ sum a =
     (s ≤ a) × (a ≤ e) × (sum ≡ sumBefore floats (columnAt columns) (value weights) (placed n scratch inverse) s e a)
 
 abbrev μ-loop : tie.MeasureT-loop
-μ-loop n pairs columns weights scratch inverse s e sum₀ a₀ sum a = e - a
+μ-loop n columns weights scratch inverse s e sum₀ a₀ sum a = e - a
 
 abbrev start : tie.At-loop Inv-loop μ-loop → tie.Start Inv-loop μ-loop
 start q = q .before .before .before .before .before

@@ -3,7 +3,8 @@ use native.Mathlib.Omega.{arith}
 use Prim.Native.Nat.{ℕ, _≤_, _-_}
 use mathlib.Core.Path.{_≡_, ap, _∙_}
 use Rattle.marked_pairs.specs.MarkedPairs.{AlsoMarked, also-none, also-both, also-cong, pairs-also, pairs-cong}
-use Rattle.request_marks.specs.DiagonalMarks.{diagonalPairs, diagonals-none, diagonals-next}
+use Rattle.request_marks.specs.DiagonalMarks.{diagonalPairs}
+use Rattle.request_marks.proofs.DiagonalLaws.{diagonals-none, diagonals-next}
 use Rattle.request_marks.proofs.diagonals.mark_diagonals.Statement.{statement}
 use Rattle.request_marks.proofs.diagonals.mark_diagonals.Tie as tie
 

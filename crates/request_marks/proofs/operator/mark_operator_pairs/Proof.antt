@@ -9,7 +9,8 @@ use Rattle.columns.specs.Operator.{operatorRows}
 use Rattle.marked_pairs.specs.MarkedPairs.{AlsoMarked, also-none, also-more, pairs-also, pairs-cong}
 use Rattle.pattern_lists.specs.PatternMarks.{rowSet, rowsSet, rowsSet-operatorPair}
 use Rattle.request_marks.specs.OperatorRequests.{operatorRequested-pair}
-use Rattle.request_marks.specs.OperatorMarks.{RowInput, row-input}
+use Rattle.request_marks.specs.OperatorMarks.{RowInput}
+use Rattle.request_marks.proofs.OperatorLaws.{row-input}
 use Rattle.request_marks.proofs.operator.mark_operator_pairs.Statement.{statement}
 use Rattle.request_marks.proofs.operator.mark_operator_pairs.Tie as tie
 

@@ -5,7 +5,7 @@ use denote.Ref.{now}
 use Rattle.lists.specs.Test.{anyIn-none}
 use Rattle.pattern_lists.specs.PatternMarks.{termsSet, rowSet}
 use Rattle.marked_pairs.specs.MarkedPairs.{AlsoMarked, also-none, also-next}
-use Rattle.request_marks.specs.OperatorMarks.{row-part}
+use Rattle.request_marks.proofs.OperatorLaws.{row-part}
 use Rattle.request_marks.proofs.operator.mark_row.Statement.{statement}
 use Rattle.request_marks.proofs.operator.mark_row.Tie as tie
 

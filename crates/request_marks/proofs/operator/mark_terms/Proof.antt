@@ -6,7 +6,7 @@ use Rattle.lists.specs.Test.{anyIn, anyIn-none}
 use Rattle.pairs.specs.Pair.{ordered}
 use Rattle.marked_pairs.specs.MarkedPairs.{Insert, AlsoMarked, also-none, also-next}
 use Rattle.pattern_lists.specs.PatternMarks.{termSet}
-use Rattle.request_marks.specs.OperatorMarks.{row-part, row-insert}
+use Rattle.request_marks.proofs.OperatorLaws.{row-part, row-insert}
 use Rattle.request_marks.proofs.operator.mark_terms.Statement.{statement}
 use Rattle.request_marks.proofs.operator.mark_terms.Tie as tie
 

@@ -1,4 +1,4 @@
-use Rattle.routes.specs.KeptPattern.{unmarkedColumn, choice-starts, choice-column, choice-missing, choice-sizes, choice-same}
+use Rattle.routes.proofs.KeptLaws.{unmarkedColumn, choice-starts, choice-column, choice-missing, choice-sizes, choice-same}
 use Rattle.lists.specs.Test.{any, any-none, any-more}
 use mathlib.Core.Path.{subst, _≡_, sym, _∙_}
 use mathlib.Core.Bool.{false}

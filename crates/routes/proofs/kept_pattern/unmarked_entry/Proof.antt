@@ -1,4 +1,4 @@
-use Rattle.routes.specs.KeptPattern.{unmarked-above, unmarked-zero, unmarked-kept}
+use Rattle.routes.proofs.KeptLaws.{unmarked-above, unmarked-zero, unmarked-kept}
 use Rattle.pairs.specs.Scratch.{queueStart-mark}
 use Rattle.pairs.specs.ColumnOrder.{columnPlace-below}
 use borrow.Author.Needs.{needs}

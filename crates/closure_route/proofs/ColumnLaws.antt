@@ -8,18 +8,17 @@ use mathlib.Core.Path.{_≡_, refl, sym, ap, ap₂, subst, subst₂, _∙_}
 use mathlib.Core.Bool.{Bool, true, false}
 use mathlib.Core.Logic.{⊎-elim}
 use mathlib.Core.List.{List}
-use lib.Dec.{ltb}
+use lib.Dec.{eqb, ltb}
 use lib.ListN.{length, getD, length-map}
 use lib.Seq.{getD-set-same}
 use lib.Ieee.{Float, nan}
-use borrow.Author.Tests.{ltb-true}
-use Rattle.lists.specs.Test.{and-left}
+use borrow.Author.Tests.{ltb-true, eqb-true, eq-eqb}
+use Rattle.lists.specs.Test.{and-left, same-truth}
 use Rattle.lists.specs.Select.{select-holds}
-use Rattle.pairs.specs.Scratch.{queueStart}
 use Rattle.pairs.specs.ColumnOrder.{columnMarking, setSize}
 use Rattle.closed_set.specs.ClosedSet.{descends, descends-at}
 use Rattle.columns.specs.Columns.{start, row}
-use Rattle.columns.specs.Kept.{nonzero, keptBelow, entry, desc, diag, pattern}
+use Rattle.columns.specs.Kept.{nonzero, keptBelow, desc, diag, pattern}
 use Rattle.columns.specs.Factor.{Column, factor-column}
 use Rattle.columns.specs.Pattern.{pattern-at}
 use Rattle.takahashi.specs.Recurrence.{Lower, Solves, at}
@@ -82,13 +81,12 @@ module _ {n : ℕ} {starts rows : List ℕ} {values : List Float} {firsts listed
   word-is r k a b t = G .positions (max r k) (min r k) (omega arith) (omega arith) t
 
   -- what a sum asks
-  column-summing : (pairs r j : ℕ) → pairs ≡ queueStart n → j ≤ r → r < n → S r j ≡ true
-      → Summing n pairs r j (start starts j) (start starts (j + 1)) rows values scratch size
-  column-summing pairs r j all h l t =
+  column-summing : (r j : ℕ) → j ≤ r → r < n → S r j ≡ true
+      → Summing n r j (start starts j) (start starts (j + 1)) rows values scratch size
+  column-summing r j h l t =
       let jn : j < n = omega arith in
       record {
         small = G .small;
-        all = all;
         left = l;
         column = column j jn;
         inside = λ p lo hi. row-inside j p jn lo hi;
@@ -115,9 +113,9 @@ module _ {n : ℕ} {starts rows : List ℕ} {values : List Float} {firsts listed
       (w .0, w .1, w .2, w .3, w .4, ap (row listed) (sym (w .4)) ∙ G .rows-are (w .0) j (w .1) (w .2) (w .3))
 
   -- what the column's sums ask
-  column-storing : (pairs j : ℕ) → pairs ≡ queueStart n → j < n
-      → Storing n pairs j (columnCount n S j) (columnCount n S (j + 1)) (start starts j) (start starts (j + 1)) rows values listed scratch size
-  column-storing pairs j all jn =
+  column-storing : (j : ℕ) → j < n
+      → Storing n j (columnCount n S j) (columnCount n S (j + 1)) (start starts j) (start starts (j + 1)) rows values listed scratch size
+  column-storing j jn =
       let most = column-most j jn in
       record {
         small = G .small;
@@ -130,7 +128,7 @@ module _ {n : ℕ} {starts rows : List ℕ} {values : List Float} {firsts listed
             let w = place j q jn lo (omega arith) in
             let v = place j q′ jn (omega arith) hi in
             omega (arith, w .5, v .5, placed-rise w v l);
-        sums = λ q lo hi b. let w = place j q jn lo hi in rw (w .5) (column-summing pairs (w .0) j all (w .1) (w .2) (w .3));
+        sums = λ q lo hi b. let w = place j q jn lo hi in rw (w .5) (column-summing (w .0) j (w .1) (w .2) (w .3));
         behind = λ q p lo hi b a e k. let w = place j q jn lo hi in rw (w .5) (later (w .0) p (omega (arith, w .5)) (w .2) (w .3) (a, e, k));
         rises = λ q q′ p lo l hi b a e k up.
             let w = place j q jn lo (omega arith) in
@@ -200,16 +198,32 @@ module _ {n : ℕ} {starts rows : List ℕ} {values : List Float} {firsts listed
             position-rises n S x x′ r (omega arith) more (subst₂ (λ (a c : ℕ). S a c ≡ true) e₁ e₂ m),
           )
 
+  -- a column that has entries has its diagonal's exactly if its first row is the column
+  diagonal-row : (j : ℕ) → j < n → columnCount n S j < columnCount n S (j + 1) → eqb (row listed (columnCount n S j)) j ≡ S j j
+  diagonal-row j jn some =
+      same-truth (eqb (row listed (columnCount n S j)) j) (S j j)
+      (λ t. subst (λ (r : ℕ). S r j ≡ true) (sym (w .5) ∙ eqb-true (row listed (columnCount n S j)) j t) (w .3))
+      (λ t. eq-eqb (row listed (columnCount n S j)) j (w .5 ∙ least t))
+    where
+      w : Place j (columnCount n S j)
+      w = place j (columnCount n S j) jn (omega arith) some
+
+      least : S j j ≡ true → w .0 ≡ j
+      least t = elim (decLe (w .0) j) [
+        | yes h ↦ omega (arith, w .1)
+        | no h ↦ absurd (omega (arith, w .4, position-first n S j, position-rises n S j (w .0) j (omega arith) (omega arith) t))
+      ]
+
   -- what the diagonal's entry asks
-  column-diagonal : (pairs j : ℕ) → pairs ≡ queueStart n → j < n
-      → DiagonalRoom n pairs j (columnCount n S j) (start starts j) (start starts (j + 1)) rows values scratch size
-  column-diagonal pairs j all jn = record {
-    small = G .small;
-    inside = jn;
-    room = G .room;
-    fits = λ t. omega (arith, position-first n S j, position-below n S j j n (omega arith) jn jn t, G .values-fit);
-    sums = λ t. column-summing pairs j j all (omega arith) jn t;
-  }
+  column-diagonal : (j : ℕ) → j < n → columnCount n S j < columnCount n S (j + 1)
+      → DiagonalRoom n j (columnCount n S j) (start starts j) (start starts (j + 1)) rows values listed scratch size
+  column-diagonal j jn some =
+      let most = column-most j jn in
+      record {
+        listed = omega (arith, G .rows-fit);
+        fits = omega (arith, G .values-fit);
+        sums = λ e. column-summing j j (omega arith) jn (sym (diagonal-row j jn some) ∙ eq-eqb (row listed (columnCount n S j)) j e);
+      }
 
   -- ---- the entries
 
@@ -310,9 +324,9 @@ module _ {n : ℕ} {starts rows : List ℕ} {values : List Float} {firsts listed
 
   -- ---- the same, for the numbers that the code reads
 
-  module _ {pairs j first last s e : ℕ} (all : pairs ≡ queueStart n) (jn : j < n) (E : Ends n starts scratch j first last s e) where
-    pub storing-at : Storing n pairs j first last s e rows values listed scratch size
-    storing-at = rw (E .first-is, E .last-is, E .start-is, E .end-is) (column-storing pairs j all jn)
+  module _ {j first last s e : ℕ} (jn : j < n) (E : Ends n starts scratch j first last s e) where
+    pub storing-at : Storing n j first last s e rows values listed scratch size
+    storing-at = rw (E .first-is, E .last-is, E .start-is, E .end-is) (column-storing j jn)
 
     -- the column's part is within the lists
     pub part-at : (k : ℕ) → k ≡ size → (first ≤ last) × (last ≤ k) × (last ≤ length listed)
@@ -321,8 +335,14 @@ module _ {n : ℕ} {starts rows : List ℕ} {values : List Float} {firsts listed
         let up = columnCount-mono n S j (j + 1) (omega arith) in
         omega (arith, E .first-is, E .last-is, G .values-fit, G .rows-fit)
 
-    pub diagonal-at : (k : ℕ) → k ≡ size → DiagonalRoom n pairs j first s e rows values scratch k
-    diagonal-at k q = rw (q, E .first-is, E .start-is, E .end-is) (column-diagonal pairs j all jn)
+    -- a column that is not empty
+    some-at : (first ≡ last → ⊥) → columnCount n S j < columnCount n S (j + 1)
+    some-at d =
+        let up = columnCount-mono n S j (j + 1) (omega arith) in
+        elim (decLe (columnCount n S (j + 1)) (columnCount n S j)) [ yes h ↦ absurd (d (omega (arith, E .first-is, E .last-is))) | no h ↦ omega arith ]
+
+    pub diagonal-at : (first ≡ last → ⊥) → (k : ℕ) → k ≡ size → DiagonalRoom n j first s e rows values listed scratch k
+    diagonal-at d k q = rw (q, E .first-is, E .start-is, E .end-is) (column-diagonal j jn (some-at d))
 
     -- a column without entries
     pub solved-empty : (z : List Float) → first ≡ last → SolvedFrom n S Z (j + 1) z → Solved n S Z j z z
@@ -338,13 +358,13 @@ module _ {n : ℕ} {starts rows : List ℕ} {values : List Float} {firsts listed
           (eq-or-lt-of-le h);
     }
 
-    pub solved-at : {d : Float} {z₀ z₁ z₂ z₃ : List Float} → d ≡ diag starts rows values j → length z₀ ≡ size → SolvedFrom n S Z (j + 1) z₀
+    pub solved-at : {d : Float} {z₀ z₁ z₂ z₃ : List Float} → (first ≡ last → ⊥) → d ≡ diag starts rows values j → length z₀ ≡ size → SolvedFrom n S Z (j + 1) z₀
         → SumsStored n j first last s e rows values listed scratch z₀ z₁
         → PartDivided j d listed first last z₁ z₂
-        → z₃ ≡ putIf (S j j) z₂ first (float-on d (entrySum n j s e rows values scratch z₂ j))
+        → z₃ ≡ putIf (eqb (row listed first) j) z₂ first (float-on d (entrySum n j s e rows values scratch z₂ j))
         → Solved n S Z j z₀ z₃
-    solved-at {d} {z₀} {z₁} {z₂} {z₃} q k D A B C =
+    solved-at {d} {z₀} {z₁} {z₂} {z₃} some q k D A B C =
         column-solved jn k D
         (rw (E .first-is, E .last-is, E .start-is, E .end-is) at A)
         (rw (q, E .first-is, E .last-is) at B)
-        (rw (q, E .first-is, E .start-is, E .end-is) at C)
+        (rw (q, E .first-is, E .start-is, E .end-is, diagonal-row j jn (some-at some)) at C)

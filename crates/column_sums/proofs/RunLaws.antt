@@ -1,12 +1,9 @@
--- A run: numbers that rise with their place, and whose first and last differ by as much as their places, follow one another.
+-- Numbers that rise with their place, and whose first and last differ by as much as their places, follow one another.
 -- Assumes nothing.
 use Prim.Native.Nat.{ℕ, zero, suc, _+_, _-_, _≤_, _<_}
 use native.Mathlib.Omega.{arith}
 use mathlib.Core.Path.{_≡_, ap}
-
--- f rises from one place to any later one
-abbrev pub Rises : (ℕ → ℕ) → ℕ → ℕ → Type 0
-Rises f from last = (q q′ : ℕ) → from ≤ q → q < q′ → q′ < last → f q < f q′
+use Rattle.column_sums.specs.Run.{Rises, Follows}
 
 module _ (f : ℕ → ℕ) (from last : ℕ) (rises : Rises f from last) where
   spread : (q d : ℕ) → from ≤ q → q + d < last → f q + d ≤ f (q + d)
@@ -21,6 +18,6 @@ module _ (f : ℕ → ℕ) (from last : ℕ) (rises : Rises f from last) where
       let e : q + (q′ - q) ≡ q′ = omega arith in
       omega (arith, spread q (q′ - q) lo (omega arith), ap f e)
 
-  pub run-is : f (last - 1) ≡ f from + (last - 1 - from) → (q : ℕ) → from ≤ q → q < last → f q ≡ f from + (q - from)
+  pub run-is : f (last - 1) ≡ f from + (last - 1 - from) → Follows f from last
   run-is ends q lo hi =
       omega (arith, run-apart from q (omega arith) lo hi, run-apart q (last - 1) lo (omega arith) (omega arith))

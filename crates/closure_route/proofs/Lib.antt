@@ -1,0 +1,3 @@
+pub mod FinishLaws
+pub mod RouteLaws
+pub mod ColumnLaws

@@ -1,0 +1,4 @@
+pub mod MarkLaws
+pub mod WalkLaws
+pub mod RouteLaws
+pub mod PatternLaws

@@ -1,0 +1,83 @@
+-- A word's rows, listed a digit at a time.
+-- Assumes nothing.
+use Prim.Native.Nat.{ℕ, _+_, _-_, _/_, _^_, _≤_, _<_}
+use native.Mathlib.Omega.{arith}
+use native.Mathlib.Nat.{div-one}
+use mathlib.Core.Path.{_≡_, sym, ap, _∙_}
+use mathlib.Core.Bool.{Bool, true, false}
+use mathlib.Core.List.{List}
+use lib.Dec.{eqb}
+use lib.ListN.{length, set}
+use lib.Pow.{shr-shr}
+use borrow.Author.Tests.{eq-eqb}
+use Rattle.bits.specs.Bits.{digit, digit-zero, digit-shift, Lowest}
+use Rattle.layout.specs.WordListed.{RowsListed}
+use Rattle.layout.proofs.ListedLaws.{listed-none, listed-gap, listed-room, listed-more}
+use Rattle.layout.specs.WordRows.{wordTest, WordRoom}
+
+-- the word is listed up to the row r, and w is what is left of it
+pub record WordPart (word row e first : ℕ) (rows₀ : List ℕ) (w r : ℕ) (rows : List ℕ) (count : ℕ) : Type 0 where
+  pub from : row ≤ r
+  pub upto : r ≤ e
+  pub left : w ≡ word / 2 ^ (r - row)
+  pub listed : RowsListed (wordTest word row) row r first rows₀ rows count
+
+pub word-none : {word row e first : ℕ} {rows : List ℕ} → WordRoom word row e first rows → WordPart word row e first rows word row rows first
+word-none {word} {row} {e} {first} {rows} O =
+    let z : row - row ≡ 0 = omega arith in
+    record {
+      from = omega arith;
+      upto = O .within;
+      left = sym (ap (λ (k : ℕ). word / 2 ^ k) z ∙ div-one word);
+      listed = listed-none (wordTest word row) row first rows;
+    }
+
+module _ {word row e first : ℕ} {rows₀ : List ℕ} {w r : ℕ} {rows : List ℕ} {count : ℕ} (P : WordPart word row e first rows₀ w r rows count) where
+  abbrev test : ℕ → Bool
+  test = wordTest word row
+
+  -- the digits of what is left
+  left-test : (k : ℕ) → r ≤ k → test k ≡ eqb (digit w (k - r)) 1
+  left-test k h =
+      let q : r - row + (k - r) ≡ k - row = omega (arith, P .from) in
+      ap (λ (x : ℕ). eqb x 1) (sym (ap (λ (x : ℕ). digit x (k - r)) (P .left) ∙ digit-shift word (r - row) (k - r) ∙ ap (digit word) q))
+
+  none-left : w ≡ 0 → (k : ℕ) → r ≤ k → test k ≡ false
+  none-left z k h = left-test k h ∙ ap (λ (x : ℕ). eqb x 1) (ap (λ (x : ℕ). digit x (k - r)) z ∙ digit-zero (k - r))
+
+  -- nothing is left
+  pub word-end : w ≡ 0 → RowsListed test row e first rows₀ rows count
+  word-end z = listed-gap (P .from) (P .listed) e (P .upto) (λ k h l. none-left z k h)
+
+  module _ {t : ℕ} (T : Lowest 32 w t) where
+    gap : (k : ℕ) → r ≤ k → k < r + t → test k ≡ false
+    gap k h l = left-test k h ∙ ap (λ (x : ℕ). eqb x 1) (T .below (k - r) (omega arith))
+
+    -- nothing is left below e
+    pub word-stop : e ≤ r + t → RowsListed test row e first rows₀ rows count
+    word-stop l = listed-gap (P .from) (P .listed) e (P .upto) (λ k h m. gap k h (omega arith))
+
+    upto-next : RowsListed test row (r + t) first rows₀ rows count
+    upto-next = listed-gap (P .from) (P .listed) (r + t) (omega arith) gap
+
+    next : test (r + t) ≡ true
+    next =
+        let q : r + t - r ≡ t = omega arith in
+        left-test (r + t) (omega arith) ∙ eq-eqb _ 1 (ap (digit w) q ∙ T .is-one)
+
+    -- the next row has room
+    pub word-room : WordRoom word row e first rows₀ → r + t < e → count < length rows₀
+    word-room O l = listed-room (omega (arith, P .from)) upto-next l (O .fits) next
+
+    -- and is listed
+    pub word-more : r + t < e → count < length rows₀ → WordPart word row e first rows₀ (w / 2 ^ t / 2) (r + t + 1) (set rows count (r + t)) (count + 1)
+    word-more l room =
+        let q : r - row + t + 1 ≡ r + t + 1 - row = omega (arith, P .from) in
+        record {
+          from = omega (arith, P .from);
+          upto = omega arith;
+          left =
+              ap (λ (x : ℕ). x / 2 ^ t / 2) (P .left) ∙ ap (λ (x : ℕ). x / 2) (shr-shr word (r - row) t) ∙ shr-shr word (r - row + t) 1
+              ∙ ap (λ (k : ℕ). word / 2 ^ k) q;
+          listed = listed-more (omega (arith, P .from)) upto-next next room;
+        }

@@ -1,0 +1,2 @@
+pub mod DiagonalLaws
+pub mod OperatorLaws
