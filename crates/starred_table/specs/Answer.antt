@@ -65,3 +65,8 @@ read-answer x lent row col (Found e) R =
     ∙ rw (passed, complete)
 read-answer x lent row col ClosureTooLarge R = rw (R .replies .0, R .replies .1)
 read-answer x lent row col (Refused why) R = rw (R .replies)
+
+-- the same, with the lengths of the lent lists given
+pub read-answer-in : (x : Call) (lent : Lent) (row col : ℕ) (r : SelectedEntry) (lengths : Room) {starts rows : List ℕ} {values : List Float} {scratch : List ℕ}
+    → ReadEntry x lent row col r starts rows values scratch → roomOf lent ≡ lengths → answerOf r ≡ entryAnswer x lengths row col
+read-answer-in x lent row col r lengths R same = read-answer x lent row col r R ∙ ap (λ (l : Room). entryAnswer x l row col) same
