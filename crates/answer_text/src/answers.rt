@@ -14,7 +14,7 @@ use lookup::ordered::Entry;
 use pattern_lists::listed::PatternPairs;
 use refusal::Checked;
 use refusal::Refusal;
-use replies::refusal_number;
+use verdicts::refusal_number;
 
 pub fn put_ok() {
     put(b"reply ok\n");

@@ -12,7 +12,7 @@ use floor::Stabilized;
 use least::CountAndLeast;
 use lookup::ordered::Entry;
 use pattern_lists::listed::PatternPairs;
-use replies::refusal_number;
+use verdicts::refusal_number;
 
 // The answer of a call that selects entries.
 #[repr(C)]

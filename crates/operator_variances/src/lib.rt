@@ -23,11 +23,11 @@ use operator_check::operator_rows;
 use operator_values::operator_values;
 use refusal::Checked;
 use refusal::Refusal;
-use replies::check_output;
-use replies::first_of;
 use request_marks::operator::mark_operator_pairs;
 use selected_checks::check_fill;
 use selected_checks::default_limit;
+use verdicts::check_output;
+use verdicts::first_of;
 
 // Step 4: the operator's columns are n.
 fn check_column_count(ncols: usize, n: usize) -> Checked

@@ -13,11 +13,11 @@ use fill::fill_entries;
 use permutation::order::check_order;
 use refusal::Checked;
 use refusal::Refusal;
-use replies::check_output;
-use replies::first_of;
 use request_marks::diagonals::mark_diagonals;
 use selected_checks::check_fill;
 use selected_checks::default_limit;
+use verdicts::check_output;
+use verdicts::first_of;
 use words::at;
 
 // Steps 1 to 7; the lists lent for writing are judged by their lengths.

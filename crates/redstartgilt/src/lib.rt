@@ -23,7 +23,7 @@ ghost use Rattle.selected.specs.Selected.{SelectedEntries};
 ghost use Rattle.original_diagonal.specs.Original.{originalCall, OriginalDiagonal};
 ghost use Rattle.operator_variances.specs.Transformed.{transformedCall, TransformedDiagonal};
 ghost use Rattle.pattern_lists.specs.ListedMarks.{listReply};
-ghost use Rattle.replies.specs.Number.{replyNumber};
+ghost use Rattle.verdicts.specs.Number.{replyNumber};
 ghost use Rattle.c_replies.specs.Numbers.{selectedNumbers, entryNumbers, pairNumbers, floorNumbers, leastNumbers, Shows};
 use c_replies::EntryNumbers;
 use c_replies::FloorNumbers;
@@ -36,7 +36,7 @@ use c_replies::least_numbers;
 use c_replies::pair_numbers;
 use c_replies::selected_numbers;
 use floor::variance_floor::VarianceFloor;
-use replies::checked_number;
+use verdicts::checked_number;
 
 // Selected entries with a limit.
 #[no_mangle]

@@ -17,10 +17,10 @@ use kept_entries::diagonal_check::check_diagonals;
 use refusal::Checked;
 use refusal::MAX_ENTRIES;
 use refusal::Refusal;
-use replies::first_of;
 use requests::check_requests;
 use scratch::pair_total;
 use scratch::scratch_words;
+use verdicts::first_of;
 
 // How many times the stored entries the default limit is.
 const LIMIT_FACTOR: usize = 10;

@@ -1,24 +1,33 @@
-// Runs document 01's starred cases: each is a function of a library, which calls and compares.
-use starred_calls::closed_set_of_no_columns;
-use starred_calls::closed_sets_of_f2;
-use starred_calls::limits;
-use starred_f3::closed_sets_of_f3;
-use starred_floor::floored;
-use starred_operator_row::operator_row;
-use starred_permutations::inverse;
-use starred_permutations::repeated;
-use starred_values::values_of_f2;
-use starred_values::values_of_one_column;
+// Runs document 01's starred cases: each module calls and compares.
+mod calls;
+mod closed_sets;
+mod floors;
+mod operator_row;
+mod permutations;
+mod shown;
+mod values;
+
+use closed_sets::closed_set_of_no_columns;
+use closed_sets::closed_sets_of_f3;
+use closed_sets::limits;
+use closed_sets::pairs_of_f2;
+use closed_sets::requests_of_f2;
+use floors::floored;
+use permutations::inverse;
+use permutations::repeated;
+use values::values_of_f2;
+use values::values_of_one_column;
 
 fn main() {
     inverse();
     repeated();
-    closed_sets_of_f2();
+    pairs_of_f2();
+    requests_of_f2();
     closed_sets_of_f3();
     closed_set_of_no_columns();
     limits();
     floored();
-    operator_row();
+    operator_row::operator_row();
     values_of_f2();
     values_of_one_column();
 }

@@ -1,6 +1,7 @@
 -- The calls of the starred cases: what those for F2, F3 and a factor without columns reply, and the operator row.
 -- Assumes nothing.
 use Prim.Native.Nat.{ℕ}
+use mathlib.Core.Path.{_≡_}
 use mathlib.Core.List.{List, [], _∷_}
 use Rattle.refusal.specs.Steps.{Reply, first}
 use Rattle.columns.specs.Examples.{whole, F2-starts, F2-rows, F2-values, F3-starts, F3-rows, F3-values}
@@ -27,3 +28,8 @@ NoColumns limit = callReply (call 0 (0 ∷ []) [] [] 0 [] [] limit) (room 1 1 1 
 -- F2 with the operator row 1 at 0, 1 at 1
 abbrev pub F2-operator : TransformedCall
 F2-operator = transformedCall 2 F2-starts F2-rows F2-values 2 (0 ∷ 2 ∷ []) (0 ∷ 1 ∷ []) (whole 1 ∷ whole 1 ∷ [])
+
+-- ---- lengths that are the same
+
+pub same-room : {a b c d a' b' c' d' : ℕ} → a ≡ a' → b ≡ b' → c ≡ c' → d ≡ d' → room a b c d ≡ room a' b' c' d'
+same-room p q r s = rw (p, q, r, s)

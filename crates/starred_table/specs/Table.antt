@@ -21,7 +21,7 @@ use Rattle.floor.specs.Examples.{half, variances, worked-reply, worked-output}
 use Rattle.pairs.specs.Pair.{pairTotal}
 use Rattle.pairs.specs.Scratch.{scratchWords}
 use Rattle.columns.specs.Kept.{f0, factorPairs}
-use Rattle.columns.specs.Columns.{boundSteps, brokenSteps, startsSteps, rowsSteps, columnSteps}
+use Rattle.columns.specs.Columns.{boundSteps, brokenSteps, startsSteps, rowsSteps, columnSteps, storedSteps}
 use Rattle.columns.specs.Diagonal.{diagonalSteps}
 use Rattle.columns.specs.Operator.{operatorSteps}
 use Rattle.columns.specs.Examples.{whole}
@@ -29,8 +29,7 @@ use Rattle.closed_set.specs.ClosedSet.{reach, member}
 use Rattle.closed_set.specs.Requests.{requested}
 use Rattle.diagnostics.specs.declared.SelectedInverseStatus.the-variants.{Complete, ClosureTooLarge}
 use Rattle.diagnostics.specs.Diagnosis.{ratioOf, diagnosis}
-use Rattle.closure.specs.Closure.{closureOf}
-use Rattle.closure.specs.Diagnosis.{diagnosisOf}
+use Rattle.selection.specs.Diagnosis.{diagnosisOf}
 use Rattle.entries.specs.Entries.{floatTable}
 use Rattle.selection.specs.RequestSteps.{requestSteps}
 use Rattle.columns.specs.OperatorPair.{operatorPair}
@@ -39,7 +38,8 @@ use Rattle.selection.specs.Call.{selectedSteps}
 use Rattle.quadratic_form.specs.RowValue.{addTerms, addPlaces, operatorValues}
 use Rattle.operator_variances.specs.Transformed.{transformedSelection, transformedSteps, transformedValues}
 use Rattle.starred_table.specs.Calls.{F2, F3, NoColumns, F2-operator}
-use Rattle.starred_table.specs.Answer.{refusedWith, looked, entryAnswer, F2-entry, one-entry}
+use Rattle.selected_entry.specs.SelectedEntry.{refusedWith, looked, entryAnswer}
+use Rattle.starred_table.specs.Answer.{F2-entry, one-entry}
 
 -- ---- selected entries: requested pairs, closure pairs, factor pairs, limit, status
 
@@ -65,8 +65,8 @@ pub record ClosedSets : Type 0 where
   pub none-ratio : ratioOf 0 0 ≡ f0
 
 pub closed-sets : ClosedSets
-unfolding any anyIn sumTo picked select cellCount ofInt ofBits ne le div factorPairs reach member requested closureOf diagnosisOf ratioOf
-    first pairTotal scratchWords boundSteps brokenSteps startsSteps rowsSteps columnSteps requestSteps diagonalSteps roomSteps selectedSteps
+unfolding any anyIn sumTo picked select cellCount ofInt ofBits ne le div factorPairs reach member requested diagnosisOf ratioOf
+    first pairTotal scratchWords boundSteps brokenSteps startsSteps rowsSteps columnSteps storedSteps requestSteps diagonalSteps roomSteps selectedSteps
 closed-sets = record {
   f2-first = refl;
   f2-limited = refl;
@@ -107,7 +107,7 @@ pub record Values : Type 0 where
 
 pub values : Values
 unfolding any anyIn sumTo picked select cellCount ofInt ofBits ne le add sub mul div neg
-    first boundSteps brokenSteps startsSteps rowsSteps columnSteps requestSteps diagonalSteps roomSteps selectedSteps
+    first boundSteps brokenSteps startsSteps rowsSteps columnSteps storedSteps requestSteps diagonalSteps roomSteps selectedSteps
     pairTotal scratchWords reach member requested floatTable entryAnswer
 values = record {
   f2-first-00 = refl;
@@ -122,13 +122,13 @@ values = record {
 -- ---- F2 with the operator row 1 at 0, 1 at 1: the three pairs of two columns, all of them needed, and 2
 
 pub operator-answered : first (transformedSteps F2-operator (room 3 3 3 14) 1) (selectedAnswer (transformedSelection F2-operator)) ≡ answered (diagnosis 3 3 3 30 Complete)
-unfolding any anyIn sumTo picked select cellCount ofInt ofBits ne le factorPairs reach member closureOf diagnosisOf first pairTotal scratchWords boundSteps brokenSteps startsSteps
-    rowsSteps columnSteps operatorSteps diagonalSteps roomSteps transformedSteps operatorPair
+unfolding any anyIn sumTo picked select cellCount ofInt ofBits ne le factorPairs reach member diagnosisOf first pairTotal scratchWords boundSteps brokenSteps startsSteps
+    rowsSteps columnSteps storedSteps operatorSteps diagonalSteps roomSteps transformedSteps operatorPair
 operator-answered = refl
 
 pub operator-written : (z : Float) → after (transformedSteps F2-operator (room 3 3 3 14) 1)
     (cond (selectedComplete (transformedSelection F2-operator)) (overwrite (transformedValues F2-operator) (z ∷ [])) (z ∷ [])) (z ∷ []) ≡ whole 2 ∷ []
-unfolding any anyIn sumTo picked select cellCount ofInt ofBits ne le reach member after first pairTotal scratchWords boundSteps brokenSteps startsSteps rowsSteps columnSteps
+unfolding any anyIn sumTo picked select cellCount ofInt ofBits ne le reach member after first pairTotal scratchWords boundSteps brokenSteps startsSteps rowsSteps columnSteps storedSteps
     operatorSteps diagonalSteps roomSteps transformedSteps operatorPair overwrite tabulate operatorValues addTerms addPlaces floatTable add sub mul div neg
 operator-written z = refl
 

@@ -1,4 +1,4 @@
-use Rattle.replies.specs.Number.{replyNumber, checkedNumber-reply}
+use Rattle.verdicts.specs.Number.{replyNumber, checkedNumber-reply}
 use borrow.Author.Needs.{needs}
 use mathlib.Core.Path.{ap, _∙_}
 use Rattle.redstartgilt.proofs.redstartgilt_diag.Statement.{statement}

@@ -1,2 +1,0 @@
--- What a floor's reply shows.
-pub mod Stabilized

@@ -1,3 +1,0 @@
--- What the replies of the starred cases' calls show.
-pub mod Counts
-pub mod Entries

@@ -1,0 +1,62 @@
+// Verdicts: the first of two, one of an output's room, and document 01's numbers.
+ghost use mathlib.Core.Path.{_≡_};
+ghost use mathlib.Core.List.{[], _∷_};
+ghost use lib.Dec.{ltb};
+ghost use Rattle.refusal.specs.Steps.{verdict};
+ghost use Rattle.refusal.specs.FirstOf.{orElse};
+ghost use Rattle.refusal.specs.Refusal.{refusalNumber, replyOf};
+ghost use Rattle.verdicts.specs.Number.{checkedNumber};
+use refusal::Checked;
+use refusal::Refusal;
+
+// The first of two verdicts that refuses.
+pub fn first_of(a: Checked, b: Checked) -> Checked
+    ensures { λ r. ⌜ replyOf r ≡ orElse (replyOf a) (replyOf b) ⌝ }
+{
+    match a {
+        Checked::Refused(why) => Checked::Refused(why),
+        Checked::Accepted => b,
+    }
+}
+
+// Step 7 for an output that needs so many places.
+pub fn check_output(needed: usize, output: usize) -> Checked
+    ensures { λ r. ⌜ replyOf r ≡ verdict ((7, ltb output needed) ∷ []) ⌝ }
+{
+    if output < needed {
+        return Checked::Refused(Refusal::TooShort);
+    }
+    Checked::Accepted
+}
+
+// Document 01's number of a refusal.
+pub fn refusal_number(r: Refusal) -> u32
+    ensures { λ k. ⌜ k ≡ refusalNumber r ⌝ }
+{
+    match r {
+        Refusal::TooLarge => 1,
+        Refusal::BrokenStarts => 2,
+        Refusal::BrokenRows => 3,
+        Refusal::DimensionMismatch => 4,
+        Refusal::RequestOutOfRange => 5,
+        Refusal::NonPositiveDefinite => 6,
+        Refusal::TooShort => 7,
+        Refusal::NotCovered => 8,
+        Refusal::BrokenOperator => 9,
+        Refusal::IndexTooLarge => 10,
+        Refusal::DuplicateEntry => 11,
+        Refusal::NotInverse => 12,
+        Refusal::NotFinite => 13,
+        Refusal::BadScale => 14,
+    }
+}
+
+// 0 where a call is accepted, else the refusal's number.
+pub fn checked_number(r: Checked) -> u32
+    ensures { λ k. ⌜ k ≡ checkedNumber r ⌝ }
+{
+    match r {
+        Checked::Accepted => 0,
+        Checked::Refused(why) => refusal_number(why),
+    }
+}
