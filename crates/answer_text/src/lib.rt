@@ -1,13 +1,18 @@
 // Writing an answer: lines of a label and numbers, words or values.
+pub mod answers;
+
+ghost use Prim.Native.Nat.{_≤_, _<_, _-_};
+ghost use lib.ListN.{length};
+
 pub fn put(text: &[u8]) {
     io::write_all(1, text);
 }
 
-fn put_count(x: usize) {
-    io::print_decimal(1, x as u64);
+fn put_line_end() {
+    put(b"\n");
 }
 
-fn put_word(x: u32) {
+pub fn put_count(x: usize) {
     io::print_decimal(1, x as u64);
 }
 
@@ -15,7 +20,7 @@ fn put_word(x: u32) {
 pub fn put_number(label: &[u8], x: usize) {
     put(label);
     put_count(x);
-    put(b"\n");
+    put_line_end();
 }
 
 // A value by its 16 hexadecimal digits, any NaN as nan.
@@ -31,7 +36,7 @@ pub fn put_value(x: f64) {
 pub fn put_value_line(label: &[u8], x: f64) {
     put(label);
     put_value(x);
-    put(b"\n");
+    put_line_end();
 }
 
 // How often the item before it stood, where more than once.
@@ -42,51 +47,76 @@ fn put_times(k: usize) {
     }
 }
 
+fn put_word(x: u32, k: usize) {
+    put(b" ");
+    io::print_decimal(1, x as u64);
+    put_times(k);
+}
+
+fn put_spaced_value(x: f64, k: usize) {
+    put(b" ");
+    put_value(x);
+    put_times(k);
+}
+
+// How often the word at i stands from there on in a row.
+fn alike_words(list: &[u32], i: usize) -> usize
+    requires { ⌜ i < length (now list) ⌝ }
+    ensures { λ r. ⌜ (0 < r) × (r ≤ length (now (list .entry)) - i) ⌝ }
+{
+    let mut k = 1;
+    while k < list.len() - i {
+        if list[i + k] != list[i] {
+            return k;
+        }
+        k += 1;
+    }
+    k
+}
+
+// The same of a value; zeros, whose signs differ, are taken one by one.
+fn alike_values(list: &[f64], i: usize) -> usize
+    requires { ⌜ i < length (now list) ⌝ }
+    ensures { λ r. ⌜ (0 < r) × (r ≤ length (now (list .entry)) - i) ⌝ }
+{
+    let value = list[i];
+    if value == 0.0 {
+        return 1;
+    }
+    let mut k = 1;
+    while k < list.len() - i {
+        if list[i + k] != value {
+            return k;
+        }
+        k += 1;
+    }
+    k
+}
+
 // A line of a label, a list's length and its words; a word that stands k times in a row is written once, as word*k.
 pub fn put_words(label: &[u8], list: &[u32]) {
     put(label);
     put_count(list.len());
     let mut i = 0;
     while i < list.len() {
-        let word = list[i];
-        let mut k = 1;
-        while k < list.len() - i {
-            if list[i + k] != word {
-                break;
-            }
-            k += 1;
-        }
-        put(b" ");
-        put_word(word);
-        put_times(k);
+        let k = alike_words(list, i);
+        put_word(list[i], k);
         i += k;
     }
-    put(b"\n");
+    put_line_end();
 }
 
-// The same with values; zeros, whose signs differ, are written one by one.
+// The same with values.
 pub fn put_values(label: &[u8], list: &[f64]) {
     put(label);
     put_count(list.len());
     let mut i = 0;
     while i < list.len() {
-        let value = list[i];
-        let mut k = 1;
-        while k < list.len() - i {
-            if list[i + k] != value {
-                break;
-            }
-            if value == 0.0 {
-                break;
-            }
-            k += 1;
-        }
-        put(b" ");
-        put_value(value);
-        put_times(k);
+        let k = alike_values(list, i);
+        put_spaced_value(list[i], k);
         i += k;
     }
-    put(b"\n");
+    put_line_end();
 }
 
 // The bytes of the text from first to below end.

@@ -1,223 +1,127 @@
 // The calls, on F2 of document 01 but for the list of indices.
+use answer_text::answers::put_entry;
+use answer_text::answers::put_output;
+use answer_text::answers::put_pairs;
+use answer_text::answers::put_selected;
 use answer_text::put;
-use answer_text::put_values;
 use lookup::get;
-use operator_variances::selected_inverse_transformed_diag;
-use original_diagonal::selected_inverse_diag_with_diagnostics;
-use pattern_lists::from_cholesky_factor;
-use pattern_lists::from_transformed_operator;
-use replay_entries::put_selected;
-use replay_lookups::put_entry;
-use replay_patterns::put_pairs;
-use selected::selected_inverse_entries;
+use replay_results::calls::call;
+use replay_results::calls::pattern;
 
-// As the rows of a factor.
-pub fn factor_pattern(indices: &[u32]) {
-    let none: [f64; 0] = [];
+// Pattern lists of a factor or of an operator with these indices and no values.
+fn put_pattern(is_factor: bool, indices: &[u32]) {
     let mut scratch = [7777u32; 3];
     let mut pair_rows = [7777u32; 3];
     let mut pair_columns = [7777u32; 3];
-    put(b"factor_pattern\n");
-    let answer = from_cholesky_factor(
+    let answer = pattern(
+        is_factor,
         2,
         &[0, 2, 3],
         indices,
-        &none,
+        &[],
         &mut scratch,
         &mut pair_rows,
         &mut pair_columns,
     );
     put_pairs(answer, &scratch, &pair_rows, &pair_columns);
+}
+
+// As the rows of a factor.
+pub fn factor_pattern(indices: &[u32]) {
+    put(b"factor_pattern\n");
+    put_pattern(true, indices);
 }
 
 // As the columns of an operator.
 pub fn operator_pattern(indices: &[u32]) {
-    let none: [f64; 0] = [];
-    let mut scratch = [7777u32; 3];
-    let mut pair_rows = [7777u32; 3];
-    let mut pair_columns = [7777u32; 3];
     put(b"operator_pattern\n");
-    let answer = from_transformed_operator(
+    put_pattern(false, indices);
+}
+
+// The call of a kind with a factor of two columns.
+fn put_call(
+    kind: usize,
+    rows: &[u32],
+    values: &[f64],
+    first: &[u32],
+    second: &[u32],
+    third: &[f64],
+) {
+    let mut result_starts = [7777u32; 3];
+    let mut result_rows = [7777u32; 3];
+    let mut result_values = [7777.0; 3];
+    let mut scratch = [7777u32; 14];
+    let mut output = [7777.0; 2];
+    let answer = call(
+        kind,
         2,
         &[0, 2, 3],
-        indices,
-        &none,
+        rows,
+        values,
+        2,
+        first,
+        second,
+        third,
+        0,
+        &mut result_starts,
+        &mut result_rows,
+        &mut result_values,
         &mut scratch,
-        &mut pair_rows,
-        &mut pair_columns,
+        &mut output,
     );
-    put_pairs(answer, &scratch, &pair_rows, &pair_columns);
+    put_selected(
+        answer,
+        &result_starts,
+        &result_rows,
+        &result_values,
+        &scratch,
+    );
+    if kind > 1 {
+        put_output(&output);
+    }
 }
 
 // As the rows of a factor.
 pub fn factor_entries(indices: &[u32]) {
-    let none: [f64; 0] = [];
-    let mut result_starts = [7777u32; 3];
-    let mut result_rows = [7777u32; 3];
-    let mut result_values = [7777.0; 3];
-    let mut scratch = [7777u32; 14];
     put(b"factor_entries\n");
-    let answer = selected_inverse_entries(
-        2,
-        &[0, 2, 3],
-        indices,
-        &none,
-        2,
-        &[0],
-        &[0],
-        &mut result_starts,
-        &mut result_rows,
-        &mut result_values,
-        &mut scratch,
-    );
-    put_selected(
-        answer,
-        &result_starts,
-        &result_rows,
-        &result_values,
-        &scratch,
-    );
+    put_call(0, indices, &[], &[0], &[0], &[]);
 }
 
 // As the rows of the requests, with one column.
 pub fn requests(indices: &[u32]) {
-    let mut result_starts = [7777u32; 3];
-    let mut result_rows = [7777u32; 3];
-    let mut result_values = [7777.0; 3];
-    let mut scratch = [7777u32; 14];
     put(b"requests\n");
-    let answer = selected_inverse_entries(
-        2,
-        &[0, 2, 3],
-        &[0, 1, 1],
-        &[1.0, 2.0, 1.0],
-        2,
-        indices,
-        &[0],
-        &mut result_starts,
-        &mut result_rows,
-        &mut result_values,
-        &mut scratch,
-    );
-    put_selected(
-        answer,
-        &result_starts,
-        &result_rows,
-        &result_values,
-        &scratch,
-    );
+    put_call(0, &[0, 1, 1], &[1.0, 2.0, 1.0], indices, &[0], &[]);
 }
 
 // As the rows of a factor.
 pub fn original_diagonal(indices: &[u32]) {
-    let none: [f64; 0] = [];
-    let mut result_starts = [7777u32; 3];
-    let mut result_rows = [7777u32; 3];
-    let mut result_values = [7777.0; 3];
-    let mut scratch = [7777u32; 14];
-    let mut output = [7777.0; 2];
     put(b"original_diagonal\n");
-    let answer = selected_inverse_diag_with_diagnostics(
-        2,
-        &[0, 2, 3],
-        indices,
-        &none,
-        &[0, 1],
-        &mut result_starts,
-        &mut result_rows,
-        &mut result_values,
-        &mut scratch,
-        &mut output,
-    );
-    put_selected(
-        answer,
-        &result_starts,
-        &result_rows,
-        &result_values,
-        &scratch,
-    );
-    put_values(b"out ", &output);
+    put_call(2, indices, &[], &[0, 1], &[], &[]);
 }
 
 // As the rows of a factor.
 pub fn variances_of_factor(indices: &[u32]) {
-    let none: [f64; 0] = [];
-    let mut result_starts = [7777u32; 3];
-    let mut result_rows = [7777u32; 3];
-    let mut result_values = [7777.0; 3];
-    let mut scratch = [7777u32; 14];
-    let mut output = [7777.0; 2];
     put(b"variances_of_factor\n");
-    let answer = selected_inverse_transformed_diag(
-        2,
-        &[0, 2, 3],
-        indices,
-        &none,
-        2,
-        &[0, 2],
-        &[0, 1],
-        &[1.0, 1.0],
-        &mut result_starts,
-        &mut result_rows,
-        &mut result_values,
-        &mut scratch,
-        &mut output,
-    );
-    put_selected(
-        answer,
-        &result_starts,
-        &result_rows,
-        &result_values,
-        &scratch,
-    );
-    put_values(b"out ", &output);
+    put_call(3, indices, &[], &[0, 2], &[0, 1], &[1.0, 1.0]);
 }
 
 // As the columns of an operator.
 pub fn variances_of_terms(indices: &[u32]) {
-    let none: [f64; 0] = [];
-    let mut result_starts = [7777u32; 3];
-    let mut result_rows = [7777u32; 3];
-    let mut result_values = [7777.0; 3];
-    let mut scratch = [7777u32; 14];
-    let mut output = [7777.0; 2];
     put(b"variances_of_terms\n");
-    let answer = selected_inverse_transformed_diag(
-        2,
-        &[0, 2, 3],
-        &[0, 1, 1],
-        &[1.0, 2.0, 1.0],
-        2,
-        &[0, 2],
-        indices,
-        &none,
-        &mut result_starts,
-        &mut result_rows,
-        &mut result_values,
-        &mut scratch,
-        &mut output,
-    );
-    put_selected(
-        answer,
-        &result_starts,
-        &result_rows,
-        &result_values,
-        &scratch,
-    );
-    put_values(b"out ", &output);
+    put_call(3, &[0, 1, 1], &[1.0, 2.0, 1.0], &[0, 2], indices, &[]);
+}
+
+// What a lookup of the pair in F2's inverse finds.
+fn put_get(row: usize, column: usize) {
+    put_entry(get(&[0, 2, 3], &[0, 1, 1], &[5.0, -2.0, 1.0], row, column));
 }
 
 // Lookups of the largest row and column, in F2's inverse and in no result.
 pub fn lookups() {
-    let none: [u32; 0] = [];
-    let no_values: [f64; 0] = [];
-    let starts = [0u32, 2, 3];
-    let rows = [0u32, 1, 1];
-    let values = [5.0, -2.0, 1.0];
     let most = 18446744073709551615;
     put(b"lookups");
-    put_entry(get(&starts, &rows, &values, most, 0));
-    put_entry(get(&starts, &rows, &values, most, most));
-    put_entry(get(&none, &none, &no_values, most, most));
+    put_get(most, 0);
+    put_get(most, most);
+    put_entry(get(&[], &[], &[], most, most));
     put(b"\n");
 }

@@ -1,5 +1,6 @@
 // Reading the text of cases: what stands at a place, and the place after it.
 pub mod fields;
+pub mod groups;
 pub mod items;
 
 ghost use mathlib.Core.Path.{_≡_};

@@ -15,7 +15,7 @@ use lib.Seq.{getD-set-same, getD-set-other}
 use borrow.Author.Tests.{le-ltb, lt-ltb, ltb-true, eqb-true}
 use Rattle.lists.specs.Test.{and-left, and-both, or-cases, or-left, or-right}
 use Rattle.refusal.specs.Bounds.{maxDimension}
-use Rattle.pairs.specs.Pair.{ordered, ordered-is, is-ordered}
+use Rattle.pairs.specs.Pair.{pairTotal, ordered, ordered-is, is-ordered}
 use Rattle.pairs.specs.ColumnOrder.{columnMarking}
 use Rattle.columns.specs.Columns.{start, row}
 use Rattle.columns.specs.Kept.{keptBelow, pattern}
@@ -320,8 +320,8 @@ module _ {n pairs : ℕ} {starts rows : List ℕ} {values limit : ℕ} (nz : ℕ
     pub head-words : head < count → pairs + head < length s
     head-words l = omega (arith, I .all, U₀ .marked .room, count-most (U₀ .marked))
 
-    pub head-pairs : head < count → head < pairs
-    head-pairs l = omega (arith, I .all, count-most (U₀ .marked))
+    pub head-pairs : head < count → head < pairTotal n
+    head-pairs l = omega (arith, count-most (U₀ .marked))
 
     -- that word, as the code reads it
     pub word-queued : {w : ℕ} → head < count → w ≡ getD s (pairs + head) 0 → Queued n s w

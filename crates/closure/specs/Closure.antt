@@ -11,6 +11,7 @@ use borrow.Author.Tests.{leb-true, ltb-true, le-leb, lt-ltb}
 use Rattle.lists.specs.Test.{and-left, and-right}
 use Rattle.refusal.specs.Bounds.{maxDimension}
 use Rattle.pairs.specs.Pair.{pairTotal}
+use Rattle.pairs.specs.Scratch.{queueStart}
 use Rattle.pairs.specs.ColumnOrder.{columnMarking}
 use Rattle.columns.specs.Columns.{start}
 use Rattle.columns.specs.Factor.{Factor}
@@ -54,7 +55,7 @@ pub record Closing (n : ℕ) (desc : ℕ → List ℕ) (req : ℕ → ℕ → Bo
   pub long : length s ≡ length s₀
   pub marks : closureSize n desc req ≤ limit → (r c : ℕ) → c ≤ r → r < n → columnMarking n s r c ≡ member n desc req r c
   pub reached : closureSize n desc req ≤ limit → ColumnsReached n s stops
-  pub later : drop (pairTotal n + pairTotal n) s ≡ drop (pairTotal n + pairTotal n) s₀
+  pub later : drop (queueStart n + pairTotal n) s ≡ drop (queueStart n + pairTotal n) s₀
 
 -- the count and the words of closing the marked pairs of s₀, whatever set they are
 pub record Closes (n : ℕ) (desc : ℕ → List ℕ) (limit : ℕ) (s₀ : List ℕ) (count : ℕ) (stops s : List ℕ) : Type 0 where

@@ -9,6 +9,7 @@ use lib.Dec.{eqb}
 use lib.ListN.{length, getD, set, drop}
 use Rattle.refusal.specs.Bounds.{maxDimension}
 use Rattle.pairs.specs.Pair.{pairTotal}
+use Rattle.pairs.specs.Scratch.{queueStart}
 use Rattle.pairs.specs.ColumnOrder.{columnMarking}
 use Rattle.columns.specs.Columns.{start, row}
 use Rattle.columns.specs.Factor.{Factor}
@@ -27,12 +28,12 @@ pub record Grown (n : ℕ) (s : List ℕ) (count : ℕ) (s′ : List ℕ) (count
   pub more : count ≤ count′
   pub marks : (r c : ℕ) → c ≤ r → r < n → columnMarking n s r c ≡ true → columnMarking n s′ r c ≡ true
   pub words : (j : ℕ) → j < count → queueWord n s′ j ≡ queueWord n s j
-  pub later : drop (pairTotal n + pairTotal n) s′ ≡ drop (pairTotal n + pairTotal n) s
+  pub later : drop (queueStart n + pairTotal n) s′ ≡ drop (queueStart n + pairTotal n) s
 
 -- a factor with entries up to the end of each column, stops of its columns, two lists with 0 for each column, and marked pairs that are within the limit
 pub record QueueInput (n pairs : ℕ) (starts rows : List ℕ) (values : ℕ) (nz : ℕ → Bool) (stops spanStarts spanEnds : List ℕ) (limit : ℕ) (s : List ℕ) (count : ℕ) : Type 0 where
   pub small : n ≤ maxDimension
-  pub all : pairs ≡ pairTotal n
+  pub all : pairs ≡ queueStart n
   pub factor : Factor n starts rows values
   pub entered : (c : ℕ) → c < n → 0 < start starts (c + 1)
   pub stopped : Stops n starts rows nz stops

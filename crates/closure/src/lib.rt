@@ -14,7 +14,7 @@ use diagnostics::selected_inverse_diagnostics;
 use kept_entries::factor_pairs;
 use queue::close_queue;
 use refusal::MAX_DIMENSION;
-use scratch::pair_total;
+use scratch::queue_start;
 
 // Closes the marked pairs under their dependencies; returns how many pairs the closed set has, or limit + 1 where it has more. Leaves the closed set's marks, and its columns' stops, where it is within the limit.
 pub fn takahashi_dependency_closure(
@@ -38,7 +38,7 @@ pub fn takahashi_dependency_closure(
     let mut span_ends = [0; MAX_DIMENSION];
     close_queue(
         n,
-        pair_total(n),
+        queue_start(n),
         starts,
         rows,
         values,

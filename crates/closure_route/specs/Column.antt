@@ -15,7 +15,7 @@ use lib.Ieee.{Float, nan}
 use borrow.Author.Tests.{ltb-true}
 use Rattle.lists.specs.Test.{and-left}
 use Rattle.lists.specs.Select.{select-holds}
-use Rattle.pairs.specs.Pair.{pairTotal}
+use Rattle.pairs.specs.Scratch.{queueStart}
 use Rattle.pairs.specs.ColumnOrder.{columnMarking, setSize}
 use Rattle.closed_set.specs.ClosedSet.{descends, descends-at}
 use Rattle.columns.specs.Columns.{start, row}
@@ -82,7 +82,7 @@ module _ {n : ℕ} {starts rows : List ℕ} {values : List Float} {firsts listed
   word-is r k a b t = G .positions (max r k) (min r k) (omega arith) (omega arith) t
 
   -- what a sum asks
-  column-summing : (pairs r j : ℕ) → pairs ≡ pairTotal n → j ≤ r → r < n → S r j ≡ true
+  column-summing : (pairs r j : ℕ) → pairs ≡ queueStart n → j ≤ r → r < n → S r j ≡ true
       → Summing n pairs r j (start starts j) (start starts (j + 1)) rows values scratch size
   column-summing pairs r j all h l t =
       let jn : j < n = omega arith in
@@ -115,7 +115,7 @@ module _ {n : ℕ} {starts rows : List ℕ} {values : List Float} {firsts listed
       (w .0, w .1, w .2, w .3, w .4, ap (row listed) (sym (w .4)) ∙ G .rows-are (w .0) j (w .1) (w .2) (w .3))
 
   -- what the column's sums ask
-  column-storing : (pairs j : ℕ) → pairs ≡ pairTotal n → j < n
+  column-storing : (pairs j : ℕ) → pairs ≡ queueStart n → j < n
       → Storing n pairs j (columnCount n S j) (columnCount n S (j + 1)) (start starts j) (start starts (j + 1)) rows values listed scratch size
   column-storing pairs j all jn =
       let most = column-most j jn in
@@ -201,7 +201,7 @@ module _ {n : ℕ} {starts rows : List ℕ} {values : List Float} {firsts listed
           )
 
   -- what the diagonal's entry asks
-  column-diagonal : (pairs j : ℕ) → pairs ≡ pairTotal n → j < n
+  column-diagonal : (pairs j : ℕ) → pairs ≡ queueStart n → j < n
       → DiagonalRoom n pairs j (columnCount n S j) (start starts j) (start starts (j + 1)) rows values scratch size
   column-diagonal pairs j all jn = record {
     small = G .small;
@@ -310,7 +310,7 @@ module _ {n : ℕ} {starts rows : List ℕ} {values : List Float} {firsts listed
 
   -- ---- the same, for the numbers that the code reads
 
-  module _ {pairs j first last s e : ℕ} (all : pairs ≡ pairTotal n) (jn : j < n) (E : Ends n starts scratch j first last s e) where
+  module _ {pairs j first last s e : ℕ} (all : pairs ≡ queueStart n) (jn : j < n) (E : Ends n starts scratch j first last s e) where
     pub storing-at : Storing n pairs j first last s e rows values listed scratch size
     storing-at = rw (E .first-is, E .last-is, E .start-is, E .end-is) (column-storing pairs j all jn)
 

@@ -15,6 +15,7 @@ use lib.Ieee.{Float, nan}
 use borrow.Author.Tests.{lt-ltb}
 use Rattle.refusal.specs.Bounds.{maxDimension}
 use Rattle.pairs.specs.Pair.{pairTotal}
+use Rattle.pairs.specs.Scratch.{queueStart}
 use Rattle.pairs.specs.ColumnOrder.{columnMarking}
 use Rattle.columns.specs.Columns.{row}
 use Rattle.exact.specs.Exact.{float-off}
@@ -37,7 +38,7 @@ pub record PartDivided (j : ℕ) (d : Float) (rows : List ℕ) (first last : ℕ
 pub record DiagonalRoom (n pairs j q s e : ℕ) (rows : List ℕ) (values : List Float) (scratch : List ℕ) (size : ℕ) : Type 0 where
   pub small : n ≤ maxDimension
   pub inside : j < n
-  pub room : pairTotal n + pairTotal n ≤ length scratch
+  pub room : queueStart n + pairTotal n ≤ length scratch
   pub fits : columnMarking n scratch j j ≡ true → q < size
   pub sums : columnMarking n scratch j j ≡ true → Summing n pairs j j s e rows values scratch size
 

@@ -9,9 +9,10 @@ use lib.ListN.{length, getD}
 use lib.Ieee.{Float, nan}
 use Rattle.lists.specs.Tabulate.{tabulate-at}
 use Rattle.lists.specs.Overwrite.{overwrite, overwrite-at, overwrite-length}
-use Rattle.bits.specs.Bits.{bit-same, word-below, bitWords-most}
+use Rattle.bits.specs.Bits.{bit-same}
 use Rattle.refusal.specs.Bounds.{maxDimension}
 use Rattle.pairs.specs.Pair.{pairTotal}
+use Rattle.pairs.specs.Scratch.{queueStart, queueStart-mark}
 use Rattle.pairs.specs.ColumnOrder.{columnPlace, columnPlace-below, columnMarking, setSize}
 use Rattle.closed_set.specs.ClosedSet.{Closed, Pattern}
 use Rattle.columns.specs.Kept.{nonzero, pattern}
@@ -27,9 +28,9 @@ pub record ClosureRoute (n : ℕ) (starts rows : List ℕ) (values : List Float)
   pub factor : Factor n starts rows (length values)
   pub diagonals : Diagonals n starts rows values
   pub closed : Closed n (pattern starts rows (nonzero values)) (columnMarking n scratch)
-  pub room : pairTotal n + pairTotal n ≤ length scratch
+  pub room : queueStart n + pairTotal n ≤ length scratch
   pub positions : (r c : ℕ) → c ≤ r → r < n → columnMarking n scratch r c ≡ true
-      → getD scratch (pairTotal n + columnPlace n r c) 0 ≡ position n (columnMarking n scratch) r c
+      → getD scratch (queueStart n + columnPlace n r c) 0 ≡ position n (columnMarking n scratch) r c
   pub starts-fit : n + 1 ≤ length firsts
   pub starts-are : (c : ℕ) → c ≤ n → getD firsts c 0 ≡ columnCount n (columnMarking n scratch) c
   pub rows-fit : setSize n (columnMarking n scratch) ≤ length listed
@@ -49,7 +50,7 @@ pub record Solved (n : ℕ) (S : ℕ → ℕ → Bool) (Z : ℕ → ℕ → Floa
 -- column j, once the later columns are done
 pub record ColumnStep (n pairs j : ℕ) (starts rows : List ℕ) (values : List Float) (firsts listed scratch : List ℕ) (z : List Float) : Type 0 where
   pub route : ClosureRoute n starts rows values firsts listed scratch (length z)
-  pub all : pairs ≡ pairTotal n
+  pub all : pairs ≡ queueStart n
   pub inside : j < n
   pub later : SolvedFrom n (columnMarking n scratch) (floatTable n starts rows values) (j + 1) z
 
@@ -76,7 +77,7 @@ module _ {n : ℕ} {firsts₀ listed₀ scratch₀ firsts listed scratch : List 
   laid-same r c h l =
       let p = columnPlace n r c in
       bit-same scratch scratch₀ p
-      (L .marks (p / 32) (omega (arith, word-below p (pairTotal n) (columnPlace-below n r c h l), bitWords-most (pairTotal n))))
+      (L .marks (p / 32) (queueStart-mark n p (columnPlace-below n r c h l)))
 
   module _ {starts rows : List ℕ} {values : List Float} (F : Factor n starts rows (length values)) (D : Diagonals n starts rows values)
       (P : Pattern n (pattern starts rows (nonzero values))) (K : Closed n (pattern starts rows (nonzero values)) (columnMarking n scratch₀))

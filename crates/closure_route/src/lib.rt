@@ -13,7 +13,7 @@ use column_sums::store_sums;
 use finish::divide_part;
 use finish::store_diagonal;
 use kept_entries::diagonal::diagonal;
-use scratch::pair_total;
+use scratch::queue_start;
 use words::at;
 
 // The entries of column j, once those of the later columns are there: the sums, their division, and last the diagonal's entry. A column without
@@ -87,7 +87,7 @@ pub fn takahashi_selected_inverse_on_closure(
     ensures { λ _. ⌜ now («entry_values» .exit) ≡ overwrite (entryValues n (columnMarking n (now (scratch .entry)))
         (floatTable n (now (starts .entry)) (now (rows .entry)) (now (values .entry)))) (now («entry_values» .entry)) ⌝ }
 {
-    let pairs = pair_total(n);
+    let pairs = queue_start(n);
     let mut j = n;
     while 0 < j {
         j -= 1;

@@ -7,7 +7,8 @@ use mathlib.Core.List.{List}
 use lib.ListN.{length, getD, set}
 use lib.Ieee.{Float, binary64, nan, add, mul}
 use Rattle.refusal.specs.Bounds.{maxDimension}
-use Rattle.pairs.specs.Pair.{pairTotal, maxPairs}
+use Rattle.pairs.specs.Pair.{maxPairs}
+use Rattle.pairs.specs.Scratch.{queueStart}
 use Rattle.pairs.specs.ColumnOrder.{colStart, columnPlace}
 use Rattle.columns.specs.Columns.{row}
 use Rattle.layout.specs.Position.{positionOf, Reading, reading-inside, shift-fits, word-right}
@@ -52,7 +53,7 @@ pub record RowsProductsRoom (base from last : ℕ) (entryRows scratch : List ℕ
 -- the entries from `from` to below last, to which the products of the descendant k can be added, made of entries behind them that rise with the row
 pub record ColumnProductsRoom (n pairs k from last : ℕ) (entryRows scratch : List ℕ) (size : ℕ) : Type 0 where
   pub small : n ≤ maxDimension
-  pub all : pairs ≡ pairTotal n
+  pub all : pairs ≡ queueStart n
   pub right : k < n
   pub some : from < last
   pub fits : last ≤ size
@@ -83,7 +84,7 @@ module _ {n pairs k from last : ℕ} {entryRows scratch : List ℕ} {size : ℕ}
 
   -- the word of a row, from that shift
   module _ (base : ℕ) (shifted : base + k ≡ pairs + colStart n k) (q : ℕ) (lo : from ≤ q) (hi : q < last) where
-    word-is : base + row entryRows q ≡ pairTotal n + columnPlace n (max (row entryRows q) k) (min (row entryRows q) k)
+    word-is : base + row entryRows q ≡ queueStart n + columnPlace n (max (row entryRows q) k) (min (row entryRows q) k)
     word-is = word-right n pairs base (row entryRows q) k (R .all) shifted (R .below q lo hi)
 
     word-holds : getD scratch (base + row entryRows q) 0 ≡ columnPosition n k entryRows scratch q

@@ -10,7 +10,7 @@ use lib.Ieee.{Float, binary64, nan, eq, add, mul}
 use lib.Dec.{ltb}
 use borrow.Author.Tests.{lt-ltb}
 use Rattle.lists.specs.Test.{and-both, anyIn, anyIn-below}
-use Rattle.pairs.specs.Pair.{pairTotal}
+use Rattle.pairs.specs.Scratch.{queueStart}
 use Rattle.pairs.specs.ColumnOrder.{colStart, columnPlace}
 use Rattle.columns.specs.Columns.{row, value}
 use Rattle.columns.specs.Kept.{f0, nonzero, nonzero-not, keptBelow}
@@ -76,7 +76,7 @@ module _ {n pairs i j first e : ℕ} {zeros : Bool} {rows : List ℕ} {values : 
 
   -- its word, from the shift of column i
   module _ (shift : ℕ) (w : shift + i ≡ pairs + colStart n i) (p : ℕ) (lo : first ≤ p) (hi : p < e) where
-    word-is : shift + row rows p ≡ pairTotal n + columnPlace n (max i (row rows p)) (min i (row rows p))
+    word-is : shift + row rows p ≡ queueStart n + columnPlace n (max i (row rows p)) (min i (row rows p))
     word-is = word-left n pairs shift i (row rows p) (R .summing .all) w (omega (arith, R .above p lo hi))
 
     pub rest-word : (shift + row rows p < length scratch) × (getD scratch (shift + row rows p) 0 < size)

@@ -11,6 +11,7 @@ use borrow.Author.Tests.{lt-ltb, le-ltb}
 use Rattle.lists.specs.Select.{one, select, select-none, select-next}
 use Rattle.refusal.specs.Bounds.{maxDimension}
 use Rattle.pairs.specs.Pair.{pairTotal}
+use Rattle.pairs.specs.Scratch.{queueStart}
 use Rattle.columns.specs.Columns.{row, value}
 use Rattle.columns.specs.Kept.{f0, nonzero, keptBelow, entry}
 use Rattle.columns.specs.Factor.{Column}
@@ -42,22 +43,22 @@ entrySum n j s e rows values scratch inverse i = sumBetween rows values j (inver
 -- a stored entry whose product can be taken
 pub record Adding (n pairs i j p : ℕ) (rows : List ℕ) (values : List Float) (scratch : List ℕ) (size : ℕ) : Type 0 where
   pub small : n ≤ maxDimension
-  pub all : pairs ≡ pairTotal n
+  pub all : pairs ≡ queueStart n
   pub left : i < n
   pub stored : p < length rows
   pub weighed : p < length values
   pub inside : row rows p < n
-  pub room : pairTotal n + pairTotal n ≤ length scratch
+  pub room : queueStart n + pairTotal n ≤ length scratch
   pub known : keptBelow rows (nonzero values) j p ≡ true → positionOf n scratch i (row rows p) < size
 
 -- stored entries whose products can be taken
 pub record Summing (n pairs i j s e : ℕ) (rows : List ℕ) (values : List Float) (scratch : List ℕ) (size : ℕ) : Type 0 where
   pub small : n ≤ maxDimension
-  pub all : pairs ≡ pairTotal n
+  pub all : pairs ≡ queueStart n
   pub left : i < n
   pub column : Column rows (length values) s e
   pub inside : (p : ℕ) → s ≤ p → p < e → row rows p < n
-  pub room : pairTotal n + pairTotal n ≤ length scratch
+  pub room : queueStart n + pairTotal n ≤ length scratch
   pub known : (p : ℕ) → s ≤ p → p < e → keptBelow rows (nonzero values) j p ≡ true → positionOf n scratch i (row rows p) < size
 
 -- one of them

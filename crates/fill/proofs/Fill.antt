@@ -10,6 +10,7 @@ use lib.Ieee.{Float}
 use borrow.Author.Tests.{leb-true}
 use Rattle.lists.specs.Overwrite.{overwrite, overwrite-front, cleared}
 use Rattle.pairs.specs.Pair.{pairTotal}
+use Rattle.pairs.specs.Scratch.{queueStart, scratchWords-queue, scratchWords-room}
 use Rattle.pairs.specs.ColumnOrder.{columnMarking, setSize, setSize-cong}
 use Rattle.columns.specs.Kept.{nonzero, pattern}
 use Rattle.closed_set.specs.ClosedSet.{Pattern}
@@ -61,7 +62,7 @@ module _ (x : Selection) (lent : Lent) (A : Accepted x (roomOf lent)) where
       pub fill-layout : LayOut (x .n) (lent .resultStarts) (lent .resultRows) s₁
       fill-layout = record {
         small = A .small;
-        room = omega (arith, K .long, A .scratch-room);
+        room = omega (arith, K .long, scratchWords-room (x .n) (A .scratch-room));
         starts-fit = A .starts-room;
         rows-fit = omega (arith, size, most, A .rows-room);
       }
@@ -116,7 +117,7 @@ module _ (x : Selection) (lent : Lent) (A : Accepted x (roomOf lent)) where
             ∙ ap (λ (l : List Float). overwrite l (lent .resultValues))
             (entryValues-cong (x .n) (columnMarking (x .n) s₂) (selectedSet x) (λ r c h l. laid-same fill-layout L r c h l ∙ same r c h l) (selectedTable x))
             ∙ sym (ap (λ (b : Bool). cond b (overwrite (entryValues (x .n) (selectedSet x) (selectedTable x)) (lent .resultValues)) (lent .resultValues)) complete))
-            (cleared-same (pairTotal (x .n) + pairTotal (x .n)) (scratchWords (x .n)) s₂ (lent .scratch) (omega arith) (L .later ∙ K .later))
+            (cleared-same (queueStart (x .n) + pairTotal (x .n)) (scratchWords (x .n)) s₂ (lent .scratch) (scratchWords-queue (x .n)) (L .later ∙ K .later))
 
     -- ---- beyond the limit
     module _ (told : d .status ≡ ClosureTooLarge) where
@@ -133,4 +134,4 @@ module _ (x : Selection) (lent : Lent) (A : Accepted x (roomOf lent)) where
           (sym (ap (λ (b : Bool). cond b (overwrite (entryStarts (x .n) (selectedSet x)) (lent .resultStarts)) (lent .resultStarts)) large))
           (sym (ap (λ (b : Bool). cond b (overwrite (entryRows (x .n) (selectedSet x)) (lent .resultRows)) (lent .resultRows)) large))
           (sym (ap (λ (b : Bool). cond b (overwrite (entryValues (x .n) (selectedSet x) (selectedTable x)) (lent .resultValues)) (lent .resultValues)) large))
-          (cleared-same (pairTotal (x .n) + pairTotal (x .n)) (scratchWords (x .n)) s₁ (lent .scratch) (omega arith) (K .later))
+          (cleared-same (queueStart (x .n) + pairTotal (x .n)) (scratchWords (x .n)) s₁ (lent .scratch) (scratchWords-queue (x .n)) (K .later))

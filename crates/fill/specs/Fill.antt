@@ -11,6 +11,7 @@ use Rattle.lists.specs.Overwrite.{cleared}
 use Rattle.diagnostics.specs.declared.SelectedInverseDiagnostics.{SelectedInverseDiagnostics}
 use Rattle.refusal.specs.Steps.{Step, Passed}
 use Rattle.pairs.specs.Pair.{pairTotal}
+use Rattle.pairs.specs.Scratch.{queueStart, scratchWords-queue}
 use Rattle.marked_pairs.specs.MarkedPairs.{Marked, MarkedPairs}
 use Rattle.layout.specs.Position.{Positioned}
 use Rattle.closure.specs.Closure.{Requested, markedSet, marked-requested}
@@ -75,7 +76,7 @@ module _ {n : ℕ} {starts rows : List ℕ} {values : List Float} {req : ℕ →
         (passed-rows [] x lent nothing-refused L)
         (passed-values [] x lent nothing-refused L)
         (passed-scratch [] x lent nothing-refused L
-        ∙ cleared-same (pairTotal n + pairTotal n) (scratchWords n) s₁ s₀ (omega arith) (M .later))
+        ∙ cleared-same (queueStart n + pairTotal n) (scratchWords n) s₁ s₀ (scratchWords-queue n) (M .later))
 
 -- ---- the limit by another name
 

@@ -12,7 +12,7 @@ use diagnostics::SelectedInverseStatus;
 use layout::lay_out;
 use refusal::MAX_DIMENSION;
 use routes::takahashi_selected_inverse;
-use scratch::pair_total;
+use scratch::scratch_words;
 use words::clear;
 
 // The diagnosis; where the closed set of the marked pairs is within the limit the result lists are filled, and the scratch ends with the
@@ -73,8 +73,7 @@ pub fn clear_scratch(n: usize, scratch: &mut [u32])
     requires { ⌜ (n ≤ maxDimension) × (scratchWords n ≤ length (now scratch)) ⌝ }
     ensures { λ _. ⌜ now (scratch .exit) ≡ cleared (scratchWords n) (now (scratch .entry)) ⌝ }
 {
-    let used = 2 * pair_total(n) + 4 * n;
-    clear(scratch, used);
+    clear(scratch, scratch_words(n));
 }
 
 // The diagnosis; where the closed set of the marked pairs is within the limit the result lists are filled. The scratch ends cleared.

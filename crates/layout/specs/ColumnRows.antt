@@ -13,6 +13,7 @@ use Rattle.lists.specs.Overwrite.{splice}
 use Rattle.bits.specs.Bits.{digit, bitAt, bit-clear, bit-shifted}
 use Rattle.refusal.specs.Bounds.{maxDimension}
 use Rattle.pairs.specs.Pair.{pairTotal}
+use Rattle.pairs.specs.Scratch.{queueStart}
 use Rattle.pairs.specs.ColumnOrder.{colStart, colStart-next, colStart-mono, colStart-total, byColumn, columnMarking, columnPlace}
 use Rattle.layout.specs.Zeros.{Zeros}
 use Rattle.layout.specs.WordListed.{RowsListed, listed-none, listed-cong, listed-gap, listed-join}
@@ -27,7 +28,7 @@ pub record ColumnRoom (n place c first : ℕ) (rows s : List ℕ) : Type 0 where
   pub small : n ≤ maxDimension
   pub inside : c < n
   pub start : place ≡ colStart n c
-  pub room : pairTotal n + pairTotal n ≤ length s
+  pub room : queueStart n + pairTotal n ≤ length s
   pub fits : first + tally (columnTest n s c) c n ≤ length rows
 
 -- the marked rows of column c below e stand behind `first` rows, up to `count`

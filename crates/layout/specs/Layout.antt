@@ -18,6 +18,7 @@ use Rattle.lists.specs.Cells.{cells, cells-none, cells-next, cells-length}
 use Rattle.bits.specs.Bits.{bit-same}
 use Rattle.refusal.specs.Bounds.{maxDimension}
 use Rattle.pairs.specs.Pair.{pairTotal, maxPairs, pairTotal-small}
+use Rattle.pairs.specs.Scratch.{queueStart, queueStart-mark}
 use Rattle.pairs.specs.ColumnOrder.{colStart, colStart-next, colStart-mono, colStart-total, colStart-least, columnPlace, columnPlace-column, columnPlace-below}
 use Rattle.pairs.specs.ColumnOrder.{columnMarking, byColumn, columnFirst, columnEnd, setSize, setSize-most}
 use Rattle.marked_pairs.specs.MarkedPairs.{ColumnsReached}
@@ -66,7 +67,7 @@ positions-more {base} {first} {e} {rows} {s₀} {q} {r} {s} O h l at P = record 
 
 -- the column's marks start at `place`, and there is room for its rows and their positions
 pub record LayColumn (n pairs place c first : ℕ) (rows s : List ℕ) : Type 0 where
-  pub all : pairs ≡ pairTotal n
+  pub all : pairs ≡ queueStart n
   pub room : ColumnRoom n place c first rows s
   pub few : first + tally (columnTest n s c) c n ≤ maxPairs
 
@@ -75,9 +76,9 @@ pub record ColumnLaid (n c first : ℕ) (rows₀ s₀ rows s : List ℕ) (count 
   pub listed : ColumnListed n c n first rows₀ s₀ rows count
   pub long : length s ≡ length s₀
   pub positions : (r : ℕ) → c ≤ r → r < n → columnMarking n s₀ r c ≡ true
-      → getD s (pairTotal n + columnPlace n r c) 0 ≡ first + tally (columnTest n s₀ c) c r
-  pub before : (q : ℕ) → q < pairTotal n + colStart n c → getD s q 0 ≡ getD s₀ q 0
-  pub after : (q : ℕ) → pairTotal n + columnPlace n n c ≤ q → getD s q 0 ≡ getD s₀ q 0
+      → getD s (queueStart n + columnPlace n r c) 0 ≡ first + tally (columnTest n s₀ c) c r
+  pub before : (q : ℕ) → q < queueStart n + colStart n c → getD s q 0 ≡ getD s₀ q 0
+  pub after : (q : ℕ) → queueStart n + columnPlace n n c ≤ q → getD s q 0 ≡ getD s₀ q 0
 
 module _ {n pairs place c first : ℕ} {rows₀ s₀ : List ℕ} (O : LayColumn n pairs place c first rows₀ s₀)
     {rows : List ℕ} {next : ℕ} (L : ColumnListed n c n first rows₀ s₀ rows next) where
@@ -98,7 +99,7 @@ module _ {n pairs place c first : ℕ} {rows₀ s₀ : List ℕ} (O : LayColumn 
   picked q h l = select-at test c n (q - first) (omega (arith, O .room .inside)) (omega (arith, L .count-is))
 
   -- the word of a row's position
-  word-is : (r : ℕ) → c ≤ r → pairs + (place - c) + r ≡ pairTotal n + columnPlace n r c
+  word-is : (r : ℕ) → c ≤ r → pairs + (place - c) + r ≡ queueStart n + columnPlace n r c
   word-is r h = omega (arith, O .all, O .room .start, colStart-least n c (omega (arith, O .room .inside)))
 
   -- room for the positions
@@ -159,7 +160,7 @@ column-unreached reached {n} {c} {first} {rows} {s} l L e = record {
 -- marks of n columns with a word for each position, and room for the result
 pub record LayOut (n : ℕ) (starts rows s : List ℕ) : Type 0 where
   pub small : n ≤ maxDimension
-  pub room : pairTotal n + pairTotal n ≤ length s
+  pub room : queueStart n + pairTotal n ≤ length s
   pub starts-fit : n + 1 ≤ length starts
   pub rows-fit : setSize n (columnMarking n s) ≤ length rows
 
@@ -169,10 +170,10 @@ pub record LaidOut (n : ℕ) (starts₀ rows₀ s₀ starts rows s : List ℕ) (
   pub starts-are : starts ≡ overwrite (entryStarts n (columnMarking n s₀)) starts₀
   pub rows-are : rows ≡ overwrite (entryRows n (columnMarking n s₀)) rows₀
   pub long : length s ≡ length s₀
-  pub marks : (p : ℕ) → p < pairTotal n → getD s p 0 ≡ getD s₀ p 0
+  pub marks : (p : ℕ) → p < queueStart n → getD s p 0 ≡ getD s₀ p 0
   pub positions : (r c : ℕ) → c ≤ r → r < n → columnMarking n s₀ r c ≡ true
-      → getD s (pairTotal n + columnPlace n r c) 0 ≡ position n (columnMarking n s₀) r c
-  pub later : drop (pairTotal n + pairTotal n) s ≡ drop (pairTotal n + pairTotal n) s₀
+      → getD s (queueStart n + columnPlace n r c) 0 ≡ position n (columnMarking n s₀) r c
+  pub later : drop (queueStart n + pairTotal n) s ≡ drop (queueStart n + pairTotal n) s₀
 
 -- the same for the columns before c
 pub record ColumnsLaid (n c : ℕ) (starts₀ rows₀ s₀ starts rows s : List ℕ) (count : ℕ) : Type 0 where
@@ -181,9 +182,9 @@ pub record ColumnsLaid (n c : ℕ) (starts₀ rows₀ s₀ starts rows s : List 
   pub rows-are : rows ≡ overwrite (cells (byColumn (columnMarking n s₀)) columnFirst (columnEnd n) (λ c r. r) c) rows₀
   pub long : length s ≡ length s₀
   pub positions : (r a : ℕ) → a < c → a ≤ r → r < n → columnMarking n s₀ r a ≡ true
-      → getD s (pairTotal n + columnPlace n r a) 0 ≡ position n (columnMarking n s₀) r a
-  pub before : (q : ℕ) → q < pairTotal n → getD s q 0 ≡ getD s₀ q 0
-  pub after : (q : ℕ) → pairTotal n + colStart n c ≤ q → getD s q 0 ≡ getD s₀ q 0
+      → getD s (queueStart n + columnPlace n r a) 0 ≡ position n (columnMarking n s₀) r a
+  pub before : (q : ℕ) → q < queueStart n → getD s q 0 ≡ getD s₀ q 0
+  pub after : (q : ℕ) → queueStart n + colStart n c ≤ q → getD s q 0 ≡ getD s₀ q 0
 
 pub columns-none : (n : ℕ) (starts rows s : List ℕ) → ColumnsLaid n 0 starts rows s starts rows s 0
 columns-none n starts rows s = record {
@@ -204,7 +205,7 @@ module _ {n : ℕ} {starts₀ rows₀ s₀ : List ℕ} (M : LayOut n starts₀ r
 
   -- the marks are as they were, and so is the set
   same-set : (r a : ℕ) → a ≤ r → r < n → columnMarking n s r a ≡ S r a
-  same-set r a h l = bit-same s s₀ (columnPlace n r a) (K .before (columnPlace n r a / 32) (omega (arith, columnPlace-below n r a h l)))
+  same-set r a h l = bit-same s s₀ (columnPlace n r a) (K .before (columnPlace n r a / 32) (queueStart-mark n (columnPlace n r a) (columnPlace-below n r a h l)))
 
   same-rows : (e : ℕ) → e ≤ n → select (columnTest n s c) c e ≡ select (columnTest n s₀ c) c e
   same-rows e h = select-cong (columnTest n s c) (columnTest n s₀ c) c e (λ r lo hi. same-set r c lo (omega arith))
@@ -216,7 +217,7 @@ module _ {n : ℕ} {starts₀ rows₀ s₀ : List ℕ} (M : LayOut n starts₀ r
   column-fits l = omega (arith, K .count-is, columnCount-next n S c, columnCount-mono n S (c + 1) n (omega arith), ap length (same-rows n (omega arith)))
 
   -- room for a column
-  pub columns-room : (pairs place : ℕ) → pairs ≡ pairTotal n → place ≡ colStart n c → c < n → length rows ≡ length rows₀
+  pub columns-room : (pairs place : ℕ) → pairs ≡ queueStart n → place ≡ colStart n c → c < n → length rows ≡ length rows₀
       → LayColumn n pairs place c count rows s
   columns-room pairs place all start l long = record {
     all = all;
@@ -264,10 +265,10 @@ module _ {n : ℕ} {starts₀ rows₀ s₀ : List ℕ} (M : LayOut n starts₀ r
       place-before : (r a : ℕ) → a < c → a ≤ r → r < n → columnPlace n r a < colStart n c
       place-before r a w p q = omega (arith, columnPlace-column n r a p q, colStart-mono n (a + 1) c (omega arith))
 
-      here-is : (r a : ℕ) → a ≡ c → a ≤ r → r < n → S r a ≡ true → getD s′ (pairTotal n + columnPlace n r a) 0 ≡ position n S r a
+      here-is : (r a : ℕ) → a ≡ c → a ≤ r → r < n → S r a ≡ true → getD s′ (queueStart n + columnPlace n r a) 0 ≡ position n S r a
       here-is r a w p q t =
           let t′ : columnMarking n s r c ≡ true = same-set r c (omega arith) q ∙ subst (λ (x : ℕ). S r x ≡ true) w t in
-          subst (λ (x : ℕ). getD s′ (pairTotal n + columnPlace n r x) 0 ≡ position n S r x) (sym w)
+          subst (λ (x : ℕ). getD s′ (queueStart n + columnPlace n r x) 0 ≡ position n S r x) (sym w)
           (C .positions r (omega arith) q t′ ∙ ap₂ _+_ (K .count-is) (ap length (same-rows r (omega arith))))
 
   -- all columns, and the last start
@@ -288,4 +289,4 @@ module _ {n : ℕ} {starts₀ rows₀ s₀ : List ℕ} (M : LayOut n starts₀ r
   }
     where
       size : ℕ
-      size = pairTotal n + pairTotal n
+      size = queueStart n + pairTotal n

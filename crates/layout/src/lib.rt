@@ -9,7 +9,7 @@ ghost use lib.ListN.{length};
 ghost use Rattle.marked_pairs.specs.MarkedPairs.{ColumnsReached};
 ghost use Rattle.layout.specs.Layout.{PositionsRoom, PositionsLaid, LayColumn, ColumnLaid, ReachedColumn, LayOut, LaidOut};
 use column_rows::list_column;
-use scratch::pair_total;
+use scratch::queue_start;
 use words::at;
 
 // Writes the position of each row listed from `first` to below `end`, `base` words past the row.
@@ -63,7 +63,7 @@ fn lay_reached_column(
     lay_column(n, pairs, place, c, first, rows, scratch)
 }
 
-// Writes the starts and rows of the set that the marks say, and each member's position T words past its place; returns how many members it has.
+// Writes the starts and rows of the set that the marks say, and each member's position, as many words past the queue's start as its place; returns how many members it has.
 // Columns that closing did not reach, 0 in the list, have no marked pair, and are passed over.
 pub fn lay_out(
     n: usize,
@@ -76,7 +76,7 @@ pub fn lay_out(
     ensures { λ m. ⌜ LaidOut n (now (starts .entry)) (now (rows .entry)) (now (scratch .entry))
         (now (starts .exit)) (now (rows .exit)) (now (scratch .exit)) m ⌝ }
 {
-    let pairs = pair_total(n);
+    let pairs = queue_start(n);
     let mut count = 0;
     let mut place = 0;
     let mut c = 0;

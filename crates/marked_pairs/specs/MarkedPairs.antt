@@ -15,9 +15,10 @@ use borrow.Author.Tests.{eqb-true, eq-eqb, ne-eqb}
 use Rattle.lists.specs.Test.{any, anyIn, any-next, anyIn-next, same-truth, and-left, and-right, and-both, or-cases, or-left, or-right}
 use Rattle.lists.specs.Sum.{bit, sumTo, sumTo-zero, sumTo-one}
 use Rattle.lists.specs.Overwrite.{cleared, filled-at, filled-length, filled-later}
-use Rattle.bits.specs.Bits.{bitAt, bitWords, withBit, bit-clear, bit-same, bit-set, word-below, bitWords-most}
+use Rattle.bits.specs.Bits.{bitAt, bitWords, withBit, bit-clear, bit-same, bit-set, word-below}
 use Rattle.refusal.specs.Bounds.{maxDimension}
 use Rattle.pairs.specs.Pair.{pairTotal, ordered}
+use Rattle.pairs.specs.Scratch.{queueStart, queueStart-words, queueStart-mark}
 use Rattle.pairs.specs.ColumnOrder.{columnPlace, columnMarking, columnPlace-below, columnPlace-same, setSize, setSize-sum, setSize-cong, setSize-most}
 
 -- a pair as one word of the queue, and the row and column of a word
@@ -33,9 +34,9 @@ rowOf w = w / packing
 abbrev pub columnOf : ℕ → ℕ
 columnOf w = w % packing
 
--- word j of the queue, which stands T words past the marks' start
+-- word j of the queue
 abbrev pub queueWord : ℕ → List ℕ → ℕ → ℕ
-queueWord n s j = getD s (pairTotal n + j) 0
+queueWord n s j = getD s (queueStart n + j) 0
 
 -- the word is that of a marked pair
 pub record Queued (n : ℕ) (s : List ℕ) (w : ℕ) : Type 0 where
@@ -45,7 +46,7 @@ pub record Queued (n : ℕ) (s : List ℕ) (w : ℕ) : Type 0 where
 
 -- `count` pairs are marked, and the queue has a word for each
 pub record Marked (n : ℕ) (s : List ℕ) (count : ℕ) : Type 0 where
-  pub room : pairTotal n + pairTotal n ≤ length s
+  pub room : queueStart n + pairTotal n ≤ length s
   pub size : count ≡ setSize n (columnMarking n s)
   pub queued : (j : ℕ) → j < count → Queued n s (queueWord n s j)
   pub found : (r c : ℕ) → c ≤ r → r < n → columnMarking n s r c ≡ true → (j : ℕ) × (j < count) × (queueWord n s j ≡ packed r c)
@@ -54,18 +55,18 @@ pub record Marked (n : ℕ) (s : List ℕ) (count : ℕ) : Type 0 where
 abbrev pub ColumnsReached : ℕ → List ℕ → List ℕ → Type 0
 ColumnsReached n s reached = (r c : ℕ) → c ≤ r → r < n → columnMarking n s r c ≡ true → 0 < getD reached c 0
 
--- the words s′ mark what s marks and the pairs of a set; the words behind 2T are as they were
+-- the words s′ mark what s marks and the pairs of a set; the words behind the queue are as they were
 pub record Gained (n : ℕ) (S : ℕ → ℕ → Bool) (s s′ : List ℕ) : Type 0 where
   pub long : length s′ ≡ length s
   pub marks : (r c : ℕ) → c ≤ r → r < n → columnMarking n s′ r c ≡ (columnMarking n s r c || S r c)
-  pub later : drop (pairTotal n + pairTotal n) s′ ≡ drop (pairTotal n + pairTotal n) s
+  pub later : drop (queueStart n + pairTotal n) s′ ≡ drop (queueStart n + pairTotal n) s
 
 -- the words s, made of the words s₀, mark exactly the pairs of a set
 pub record MarkedPairs (n : ℕ) (S : ℕ → ℕ → Bool) (s₀ s : List ℕ) (count : ℕ) : Type 0 where
   pub long : length s ≡ length s₀
   pub marked : Marked n s count
   pub marks : (r c : ℕ) → c ≤ r → r < n → columnMarking n s r c ≡ S r c
-  pub later : drop (pairTotal n + pairTotal n) s ≡ drop (pairTotal n + pairTotal n) s₀
+  pub later : drop (queueStart n + pairTotal n) s ≡ drop (queueStart n + pairTotal n) s₀
 
 -- the words w′ mark what w marks and the pairs of a set, `count` in all
 pub record AlsoMarked (n : ℕ) (S : ℕ → ℕ → Bool) (w w′ : List ℕ) (count : ℕ) : Type 0 where
@@ -137,9 +138,9 @@ module _ (n a b : ℕ) (h : b ≤ a) (l : a < n) where
       eq-eqb _ _
       (ap₂ (columnPlace n) (eqb-true a r (and-left (eqb a r) _ e)) (eqb-true b c (and-right (eqb a r) _ e))))
 
-  module _ (s : List ℕ) (room : pairTotal n + pairTotal n ≤ length s) {p : ℕ} (e : p ≡ columnPlace n a b) where
+  module _ (s : List ℕ) (room : queueStart n + pairTotal n ≤ length s) {p : ℕ} (e : p ≡ columnPlace n a b) where
     pub place-word : p / 32 < length s
-    place-word = omega (arith, columnPlace-below n a b h l, word-below p (pairTotal n) (omega (arith, columnPlace-below n a b h l)), bitWords-most (pairTotal n))
+    place-word = omega (arith, queueStart-mark n p (omega (arith, columnPlace-below n a b h l)))
 
     -- the pair is marked
     pub gained-pair : Gained n (λ r c. eqb a r && eqb b c) s (withBit s p)
@@ -149,8 +150,8 @@ module _ (n a b : ℕ) (h : b ≤ a) (l : a < n) where
           bit-set s p place-word (columnPlace n r c)
           ∙ ap (λ (x : Bool). columnMarking n s r c || x) (ap (λ (q : ℕ). eqb q (columnPlace n r c)) e ∙ place-test r c k m);
       later =
-          drop-set-lt (pairTotal n + pairTotal n) s (p / 32) _
-          (omega (arith, columnPlace-below n a b h l, word-below p (pairTotal n) (omega (arith, columnPlace-below n a b h l)), bitWords-most (pairTotal n)));
+          drop-set-lt (queueStart n + pairTotal n) s (p / 32) _
+          (omega (arith, queueStart-mark n p (omega (arith, columnPlace-below n a b h l))));
     }
 
     -- and is one more, if it was not
@@ -209,7 +210,7 @@ module _ (n a b : ℕ) {r c : ℕ} (high : max a b ≡ r) (low : min a b ≡ c) 
   -- one that is not marked is inserted: its bit and its word are written
   module _ {s : List ℕ} {count p : ℕ} (small : n ≤ maxDimension) (h : c ≤ r) (l : r < n) (M : Marked n s count) (e : p ≡ columnPlace n r c) (new : bitAt s p ≡ false) where
     abbrev end : ℕ
-    end = pairTotal n + count
+    end = queueStart n + count
 
     abbrev s′ : List ℕ
     s′ = set (withBit s p) end (packed r c)
@@ -227,23 +228,23 @@ module _ (n a b : ℕ) {r c : ℕ} (high : max a b ≡ r) (low : min a b ≡ c) 
     place-below : p < pairTotal n
     place-below = omega (arith, columnPlace-below n r c h l)
 
-    word-first : p / 32 < pairTotal n
-    word-first = omega (arith, word-below p (pairTotal n) place-below, bitWords-most (pairTotal n))
+    word-first : p / 32 < queueStart n
+    word-first = queueStart-mark n p place-below
 
     -- the queue is behind the marks
     same-mark : (x y : ℕ) → y ≤ x → x < n → columnMarking n s′ x y ≡ columnMarking n (withBit s p) x y
     same-mark x y k m =
-        let w = word-below (columnPlace n x y) (pairTotal n) (columnPlace-below n x y k m) in
+        let w = queueStart-mark n (columnPlace n x y) (columnPlace-below n x y k m) in
         bit-same s′ (withBit s p) (columnPlace n x y)
-        (getD-set-other (withBit s p) end (columnPlace n x y / 32) (packed r c) 0 (omega (arith, bitWords-most (pairTotal n))))
+        (getD-set-other (withBit s p) end (columnPlace n x y / 32) (packed r c) 0 (omega arith))
 
     marks′ : (x y : ℕ) → y ≤ x → x < n → columnMarking n s′ x y ≡ (columnMarking n s x y || (eqb r x && eqb c y))
     marks′ x y k m = same-mark x y k m ∙ G .marks x y k m
 
     words′ : (j : ℕ) → j < count → queueWord n s′ j ≡ queueWord n s j
     words′ j m =
-        getD-set-other (withBit s p) end (pairTotal n + j) (packed r c) 0 (omega arith)
-        ∙ getD-set-other s (p / 32) (pairTotal n + j) _ 0 (omega (arith, word-first))
+        getD-set-other (withBit s p) end (queueStart n + j) (packed r c) 0 (omega arith)
+        ∙ getD-set-other s (p / 32) (queueStart n + j) _ 0 (omega (arith, word-first))
 
     last-word : queueWord n s′ count ≡ packed r c
     last-word = getD-set-same (withBit s p) end (packed r c) 0 (simp length-set (omega (arith, end-room, M .room)))
@@ -285,7 +286,7 @@ module _ (n a b : ℕ) {r c : ℕ} (high : max a b ≡ r) (low : min a b ≡ c) 
         gained = record {
           long = long′;
           marks = λ x y k m. marks′ x y k m ∙ ap (λ (t : Bool). columnMarking n s x y || t) (sym (ordered-pair x y));
-          later = drop-set-lt (pairTotal n + pairTotal n) (withBit s p) end (packed r c) (omega (arith, end-room)) ∙ G .later;
+          later = drop-set-lt (queueStart n + pairTotal n) (withBit s p) end (packed r c) (omega (arith, end-room)) ∙ G .later;
         };
         marked = record {
           room = omega (arith, M .room, long′);
@@ -303,7 +304,7 @@ module _ (n a b : ℕ) {r c : ℕ} (high : max a b ≡ r) (low : min a b ≡ c) 
 -- ---- the pairs of a set
 
 -- cleared words mark none
-pub pairs-none : {n : ℕ} {s₀ s : List ℕ} → pairTotal n + pairTotal n ≤ length s₀ → s ≡ cleared (bitWords (pairTotal n)) s₀
+pub pairs-none : {n : ℕ} {s₀ s : List ℕ} → queueStart n + pairTotal n ≤ length s₀ → s ≡ cleared (bitWords (pairTotal n)) s₀
     → MarkedPairs n (λ r c. false) s₀ s 0
 pairs-none {n} {s₀} {s} room z = record {
   long = long;
@@ -314,14 +315,14 @@ pairs-none {n} {s₀} {s} room z = record {
     found = λ r c h l t. absurd (false≢true (sym (clear (columnPlace n r c) (columnPlace-below n r c h l)) ∙ t));
   };
   marks = λ r c h l. clear (columnPlace n r c) (columnPlace-below n r c h l);
-  later = ap (drop (pairTotal n + pairTotal n)) z ∙ filled-later (λ _. 0) words (pairTotal n + pairTotal n) s₀ (omega (arith, bitWords-most (pairTotal n)));
+  later = ap (drop (queueStart n + pairTotal n)) z ∙ filled-later (λ _. 0) words (queueStart n + pairTotal n) s₀ (omega (arith, queueStart-words n));
 }
   where
     words : ℕ
     words = bitWords (pairTotal n)
 
     long : length s ≡ length s₀
-    long = ap length z ∙ filled-length (λ _. 0) words s₀ (omega (arith, bitWords-most (pairTotal n)))
+    long = ap length z ∙ filled-length (λ _. 0) words s₀ (omega (arith, queueStart-words n))
 
     clear : (q : ℕ) → q < pairTotal n → bitAt s q ≡ false
     clear q l = bit-clear s q (ap (λ (x : List ℕ). getD x (q / 32) 0) z ∙ filled-at (λ _. 0) words s₀ (q / 32) 0 (word-below q (pairTotal n) l))

@@ -1,14 +1,15 @@
-// The words that closing uses: marks of pairs, one bit for each, column by column, and T words past their start a queue of the marked pairs,
-// after `insert_closure_pair` of uncertainty.rs.
+// The words that closing uses: marks of pairs, one bit for each, column by column, and behind them a queue of the marked pairs, after `insert_closure_pair` of uncertainty.rs.
 ghost use mathlib.Core.Path.{_≡_};
 ghost use mathlib.Core.Bool.{false};
 ghost use Prim.Native.Nat.{_+_, _<_, _≤_};
 ghost use lib.ListN.{length};
 ghost use Rattle.refusal.specs.Bounds.{maxDimension};
 ghost use Rattle.pairs.specs.Pair.{pairTotal};
+ghost use Rattle.pairs.specs.Scratch.{queueStart};
 ghost use Rattle.pairs.specs.ColumnOrder.{columnPlace};
 ghost use Rattle.marked_pairs.specs.MarkedPairs.{Insert, Inserted, MarkedPairs};
 use scratch::pair_total;
+use scratch::queue_start;
 use words::bit_words::bit;
 use words::bit_words::set_bit;
 use words::clear;
@@ -26,7 +27,7 @@ pub fn column_place(n: usize, r: usize, c: usize) -> usize
 
 // Marks no pair: clears the words of all pairs' bits.
 pub fn clear_pairs(n: usize, scratch: &mut [u32])
-    requires { ⌜ (n ≤ maxDimension) × (pairTotal n + pairTotal n ≤ length (now scratch)) ⌝ }
+    requires { ⌜ (n ≤ maxDimension) × (queueStart n + pairTotal n ≤ length (now scratch)) ⌝ }
     ensures { λ _. ⌜ MarkedPairs n (λ _ _. false) (now (scratch .entry)) (now (scratch .exit)) 0 ⌝ }
 {
     clear(scratch, (pair_total(n) + 31) / 32);
@@ -42,7 +43,7 @@ fn insert_ordered_pair(n: usize, r: usize, c: usize, count: usize, scratch: &mut
         return count;
     }
     set_bit(scratch, p);
-    let end = pair_total(n) + count;
+    let end = queue_start(n) + count;
     let w = r * PACKING + c;
     scratch[end] = w as u32;
     count + 1

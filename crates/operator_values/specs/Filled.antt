@@ -11,6 +11,7 @@ use Rattle.lists.specs.Overwrite.{overwrite, overwrite-at, overwrite-length}
 use Rattle.lists.specs.Tabulate.{tabulate-cong}
 use Rattle.refusal.specs.Bounds.{maxDimension}
 use Rattle.pairs.specs.Pair.{pairTotal}
+use Rattle.pairs.specs.Scratch.{queueStart}
 use Rattle.pairs.specs.ColumnOrder.{setSize}
 use Rattle.columns.specs.Columns.{start, value}
 use Rattle.columns.specs.Factor.{starts-end}
@@ -56,7 +57,7 @@ module _ (n : ℕ) (S : ℕ → ℕ → Bool) (Z : ℕ → ℕ → Float) (scrat
       record { inside = omega arith; member = H _ _ (places-requested rowStarts columns i a b l la ha lb hb) }
 
   -- they can be read
-  pub filled-reading : (room : ℕ) → n ≤ maxDimension → pairTotal n + pairTotal n ≤ length scratch → operatorRows rowStarts ≤ room
+  pub filled-reading : (room : ℕ) → n ≤ maxDimension → queueStart n + pairTotal n ≤ length scratch → operatorRows rowStarts ≤ room
       → OperatorReading n rowStarts columns (length weights) scratch (length values′) room
   filled-reading room small words h = record {
     small = small;

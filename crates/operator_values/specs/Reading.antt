@@ -8,6 +8,7 @@ use lib.ListN.{length, getD}
 use lib.Ieee.{Float, nan}
 use Rattle.refusal.specs.Bounds.{maxDimension}
 use Rattle.pairs.specs.Pair.{pairTotal}
+use Rattle.pairs.specs.Scratch.{queueStart}
 use Rattle.pairs.specs.ColumnOrder.{columnPlace}
 use Rattle.columns.specs.Columns.{start}
 use Rattle.columns.specs.Factor.{starts-end}
@@ -17,7 +18,7 @@ use Rattle.quadratic_form.specs.RowValue.{columnAt}
 
 -- the entry at the position of row r and column c, r at least c
 abbrev pub placed : ℕ → List ℕ → List Float → ℕ → ℕ → Float
-placed n scratch inverse r c = getD inverse (getD scratch (pairTotal n + columnPlace n r c) 0) nan
+placed n scratch inverse r c = getD inverse (getD scratch (queueStart n + columnPlace n r c) 0) nan
 
 -- the operator's places from s to below e, the pairs of whose columns can be read among `size` entries
 pub record RowReading (n pairs : ℕ) (columns : List ℕ) (weights : ℕ) (scratch : List ℕ) (size s e : ℕ) : Type 0 where
@@ -30,14 +31,14 @@ pub record RowReading (n pairs : ℕ) (columns : List ℕ) (weights : ℕ) (scra
 pub record OperatorReading (n : ℕ) (rowStarts columns : List ℕ) (weights : ℕ) (scratch : List ℕ) (size room : ℕ) : Type 0 where
   pub small : n ≤ maxDimension
   pub operator : OperatorRows n rowStarts columns weights
-  pub words : pairTotal n + pairTotal n ≤ length scratch
+  pub words : queueStart n + pairTotal n ≤ length scratch
   pub known : (i a b : ℕ) → i < operatorRows rowStarts → start rowStarts i ≤ a → a < start rowStarts (i + 1) → start rowStarts i ≤ b → b < start rowStarts (i + 1)
       → positionOf n scratch (columnAt columns a) (columnAt columns b) < size
   pub fits : operatorRows rowStarts ≤ room
 
 -- one of its rows
 pub row-reading : {n : ℕ} {rowStarts columns : List ℕ} {weights : ℕ} {scratch : List ℕ} {size room : ℕ}
-    → OperatorReading n rowStarts columns weights scratch size room → (pairs : ℕ) → pairs ≡ pairTotal n → (i : ℕ) → i < operatorRows rowStarts
+    → OperatorReading n rowStarts columns weights scratch size room → (pairs : ℕ) → pairs ≡ queueStart n → (i : ℕ) → i < operatorRows rowStarts
     → RowReading n pairs columns weights scratch size (start rowStarts i) (start rowStarts (i + 1))
 row-reading R pairs all i h =
     let O = R .operator in

@@ -9,7 +9,7 @@ ghost use Rattle.quadratic_form.specs.RowValue.{operatorValues};
 ghost use Rattle.operator_values.specs.Reading.{placed, OperatorReading};
 use operator_check::operator_rows;
 use row_value::row_value;
-use scratch::pair_total;
+use scratch::queue_start;
 use words::at;
 
 // Writes the value of each row to the front of the output.
@@ -26,7 +26,7 @@ pub fn operator_values(
     ensures { λ _. ⌜ now (output .exit) ≡ overwrite (operatorValues (now («row_starts» .entry)) (now (columns .entry)) (now (weights .entry))
         (placed n (now (scratch .entry)) (now (inverse .entry)))) (now (output .entry)) ⌝ }
 {
-    let pairs = pair_total(n);
+    let pairs = queue_start(n);
     let last = operator_rows(row_starts);
     let mut i = 0;
     while i < last {

@@ -12,6 +12,7 @@ use Rattle.lists.specs.Overwrite.{overwrite, cleared}
 use Rattle.refusal.specs.Steps.{Step, answered, refused, verdict, first, Passed, first-refused, first-passed, after-refused, after-passed}
 use Rattle.refusal.specs.Refusal.{refusalNumber}
 use Rattle.refusal.specs.declared.Refusal.{Refusal}
+use Rattle.pairs.specs.Scratch.{scratchWords-room}
 use Rattle.columns.specs.Kept.{nonzero, pattern}
 use Rattle.closed_set.specs.ClosedSet.{Holds, member-holds}
 use Rattle.closed_set.specs.Size.{closureSize-most}
@@ -90,7 +91,7 @@ module _ (x : TransformedCall) (lent : Lent) (output : List Float) where
     transformed-reading long =
         rw values-are
         (filled-reading (x .n) (selectedSet sel) (selectedTable sel) mid (lent .resultValues) values-fit P (x .rowStarts) (x .columns) (x .weights)
-        (A .operator) holds (length output) (A .accepted .small) (omega (arith, A .accepted .scratch-room)) (A .room))
+        (A .operator) holds (length output) (A .accepted .small) (omega (arith, scratchWords-room (x .n) (A .accepted .scratch-room))) (A .room))
 
     written : operatorValues (x .rowStarts) (x .columns) (x .weights) (placed (x .n) mid rv) ≡ transformedValues x
     written =

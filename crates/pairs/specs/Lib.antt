@@ -2,3 +2,4 @@
 pub mod Pair
 pub mod Marks
 pub mod ColumnOrder
+pub mod Scratch

@@ -1,4 +1,12 @@
 // The cases of a text, one after another.
+use super::floors::least_value;
+use super::floors::stabilization;
+use super::lookups::diagonals;
+use super::lookups::lookups;
+use super::patterns::patterns;
+use super::permutations::application;
+use super::permutations::inversion;
+use super::permutations::validation;
 use answer_text::put;
 use answer_text::put_part;
 use case_text::begins;
@@ -6,15 +14,7 @@ use case_text::past_label;
 use case_text::skip_blanks;
 use case_text::skip_to;
 use case_text::skip_word;
-use replay_factors::factors;
-use replay_floor::least_value;
-use replay_floor::stabilization;
-use replay_lookups::diagonals;
-use replay_lookups::lookups;
-use replay_patterns::patterns;
-use replay_permutations::application;
-use replay_permutations::inversion;
-use replay_permutations::validation;
+use replay_results::results;
 
 // The call of the kind, with the fields from p on.
 fn call(text: &[u8], kind: usize, p: usize) {
@@ -35,7 +35,7 @@ fn call(text: &[u8], kind: usize, p: usize) {
     } else if begins(text, kind, b"pat") {
         patterns(text, kind, p);
     } else {
-        factors(text, kind, p);
+        results(text, kind, p);
     }
 }
 

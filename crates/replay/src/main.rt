@@ -1,5 +1,9 @@
 // Reads cases from standard input, makes their calls and writes the answers, both in the text form that replay/README.md gives.
 mod cases;
+mod floors;
+mod lookups;
+mod patterns;
+mod permutations;
 
 fn read(text: &mut [u8]) {
     let k = io::read_full(0, text);

@@ -13,6 +13,7 @@ use borrow.Author.Tests.{eqb-true, eq-eqb, ltb-true, lt-ltb, le-ltb}
 use Rattle.lists.specs.Test.{and-left, and-right, or-cases, or-left, or-right, same-truth}
 use Rattle.refusal.specs.Bounds.{maxDimension}
 use Rattle.pairs.specs.Pair.{pairTotal, ordered, ordered-is, is-ordered}
+use Rattle.pairs.specs.Scratch.{queueStart}
 use Rattle.closed_set.specs.ClosedSet.{Ranged}
 
 -- (r, c) is one of the first n diagonals
@@ -31,7 +32,7 @@ diagonals-ranged n = record {
 -- a dimension within its bound, and words for the pairs' marks
 pub record DiagonalsInput (n : ℕ) (s : List ℕ) : Type 0 where
   pub small : n ≤ maxDimension
-  pub room : pairTotal n + pairTotal n ≤ length s
+  pub room : queueStart n + pairTotal n ≤ length s
 
 -- no diagonal, and one more
 pub diagonals-none : (r c : ℕ) → diagonalPairs 0 r c ≡ false

@@ -6,6 +6,7 @@ use mathlib.Core.List.{List}
 use lib.ListN.{length, getD}
 use Rattle.refusal.specs.Bounds.{maxDimension}
 use Rattle.pairs.specs.Pair.{pairTotal}
+use Rattle.pairs.specs.Scratch.{queueStart}
 use Rattle.columns.specs.Columns.{start}
 use Rattle.columns.specs.Factor.{starts-end}
 use Rattle.columns.specs.Operator.{operatorRows, OperatorRows}
@@ -15,7 +16,7 @@ use Rattle.marked_pairs.specs.MarkedPairs.{Marked, Insert}
 pub record OperatorInput (n : ℕ) (rowStarts columns s : List ℕ) : Type 0 where
   pub small : n ≤ maxDimension
   pub rows : OperatorRows n rowStarts columns (length columns)
-  pub room : pairTotal n + pairTotal n ≤ length s
+  pub room : queueStart n + pairTotal n ≤ length s
 
 -- the columns from s to below e of an operator, and the words that their pairs are marked in
 pub record RowInput (n : ℕ) (columns : List ℕ) (s e : ℕ) (words : List ℕ) (count : ℕ) : Type 0 where

@@ -11,7 +11,7 @@ use lib.Ieee.{Float, ne, eq}
 use borrow.Author.Tests.{leb-true, eqb-true, eq-eqb, le-leb, lt-leb}
 use Rattle.refusal.specs.Bounds.{maxDimension}
 use Rattle.lists.specs.Test.{any, anyIn, any-below, anyIn-below, anyIn-found, anyIn-hit, and-left, and-right, and-both, not-so}
-use Rattle.pairs.specs.Pair.{pairTotal}
+use Rattle.pairs.specs.Scratch.{queueStart}
 use Rattle.pairs.specs.ColumnOrder.{columnMarking, setSize, setSize-cong}
 use Rattle.columns.specs.Columns.{start, row, value}
 use Rattle.columns.specs.Kept.{f0, nonzero, kept, keptRow, keptPair, factorPairs}
@@ -23,7 +23,7 @@ use Rattle.routes.specs.Agree.{samePairs, samePairs-agree, samePairs-all
 pub record ChoiceInput (n : ℕ) (starts rows : List ℕ) (values : List Float) (kept closed : ℕ) (scratch : List ℕ) : Type 0 where
   pub small : n ≤ maxDimension
   pub factor : Factor n starts rows (length values)
-  pub room : pairTotal n ≤ length scratch
+  pub room : queueStart n ≤ length scratch
   pub kept-is : kept ≡ factorPairs starts rows (nonzero values) n
   pub closed-is : closed ≡ setSize n (columnMarking n scratch)
 
@@ -46,7 +46,7 @@ pub record ChoiceColumn (n : ℕ) (rows : List ℕ) (values s e words : ℕ) : T
   pub stored : e ≤ length rows
   pub weighed : e ≤ values
   pub inside : (p : ℕ) → s ≤ p → p < e → row rows p < n
-  pub room : pairTotal n ≤ words
+  pub room : queueStart n ≤ words
 
 -- ---- one entry, by the code's tests
 module _ (n : ℕ) (scratch : List ℕ) (c r : ℕ) (l : Float) where

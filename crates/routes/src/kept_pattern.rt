@@ -4,7 +4,7 @@ ghost use Prim.Native.Nat.{_≤_, _<_};
 ghost use lib.ListN.{length};
 ghost use Rattle.refusal.specs.Bounds.{maxDimension};
 ghost use Rattle.lists.specs.Test.{anyIn};
-ghost use Rattle.pairs.specs.Pair.{pairTotal};
+ghost use Rattle.pairs.specs.Scratch.{queueStart};
 ghost use Rattle.pairs.specs.ColumnOrder.{columnMarking};
 ghost use Rattle.columns.specs.Kept.{nonzero, keptPair};
 ghost use Rattle.routes.specs.Agree.{samePairs};
@@ -15,7 +15,7 @@ use words::bit_words::bit;
 
 // Whether an entry of column c, with row r and value l, is kept and its pair not marked.
 fn unmarked_entry(n: usize, c: usize, r: usize, l: f64, scratch: &[u32]) -> bool
-    requires { ⌜ (n ≤ maxDimension) × (r < n) × (pairTotal n ≤ length (now scratch)) ⌝ }
+    requires { ⌜ (n ≤ maxDimension) × (r < n) × (queueStart n ≤ length (now scratch)) ⌝ }
     ensures { λ b. ⌜ b ≡ unmarkedEntry n (now (scratch .entry)) c r l ⌝ }
 {
     if r < c {

@@ -3,6 +3,7 @@ ghost use mathlib.Core.Path.{_≡_};
 ghost use Prim.Native.Nat.{_≤_};
 ghost use Rattle.refusal.specs.Bounds.{maxDimension};
 ghost use Rattle.pairs.specs.Pair.{pairTotal, maxPairs};
+ghost use Rattle.pairs.specs.Scratch.{queueStart, scratchWords};
 
 // T, the number of pairs.
 pub fn pair_total(n: usize) -> usize
@@ -10,4 +11,20 @@ pub fn pair_total(n: usize) -> usize
     ensures { λ r. ⌜ (r ≡ pairTotal n) × (r ≤ maxPairs) ⌝ }
 {
     n * (n + 1) / 2
+}
+
+// The word where the queue, and later the positions, start.
+pub fn queue_start(n: usize) -> usize
+    requires { ⌜ n ≤ maxDimension ⌝ }
+    ensures { λ r. ⌜ (r ≡ queueStart n) × (r ≤ maxPairs) ⌝ }
+{
+    pair_total(n)
+}
+
+// How many words a call uses.
+pub fn scratch_words(n: usize) -> usize
+    requires { ⌜ n ≤ maxDimension ⌝ }
+    ensures { λ r. ⌜ r ≡ scratchWords n ⌝ }
+{
+    2 * pair_total(n) + 4 * n
 }

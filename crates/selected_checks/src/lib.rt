@@ -20,6 +20,7 @@ use refusal::Refusal;
 use replies::first_of;
 use requests::check_requests;
 use scratch::pair_total;
+use scratch::scratch_words;
 
 // How many times the stored entries the default limit is.
 const LIMIT_FACTOR: usize = 10;
@@ -56,7 +57,7 @@ fn check_room(
     if result_values < most {
         return Checked::Refused(Refusal::TooShort);
     }
-    if scratch < 2 * total + 4 * n {
+    if scratch < scratch_words(n) {
         return Checked::Refused(Refusal::TooShort);
     }
     Checked::Accepted

@@ -15,6 +15,7 @@ use Rattle.lists.specs.Overwrite.{overwrite, filled, cleared}
 use Rattle.refusal.specs.Bounds.{maxDimension}
 use Rattle.refusal.specs.Steps.{Step, refused, first, verdict, after, after-refused, after-passed, Passed}
 use Rattle.pairs.specs.Pair.{pairTotal}
+pub use Rattle.pairs.specs.Scratch.{scratchWords}
 use Rattle.columns.specs.Kept.{nonzero, pattern}
 use Rattle.columns.specs.Factor.{Factor}
 use Rattle.columns.specs.Diagonal.{diagonalSteps, Diagonals}
@@ -65,10 +66,6 @@ roomOf lent = record {
   resultValues = length (lent .resultValues);
   scratch = length (lent .scratch);
 }
-
--- the words of scratch that a call needs
-abbrev pub scratchWords : ℕ → ℕ
-scratchWords n = 2 * pairTotal n + 4 * n
 
 -- how many times the stored entries the default limit is
 abbrev pub limitFactor : ℕ

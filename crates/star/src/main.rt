@@ -1,9 +1,9 @@
 // Runs F3 of document 01 with the request (0,0) and limit 6; prints status, counts and limit, then each pair with its value's bits.
 use answer_text::put;
 use answer_text::put_value;
+use diagnostics::Selected;
 use diagnostics::SelectedInverseDiagnostics;
 use diagnostics::SelectedInverseStatus;
-use selected::Selected;
 use selected::selected_inverse_entries_with_limit;
 use words::at;
 

@@ -1,11 +1,11 @@
 // The starred cases' calls for selected entries of F2 and of factors of one column and of none; and their closed sets and limits,
 // compared: that each comparison holds is proved from the contracts and the table.
 ghost use mathlib.Core.Path.{_≡_};
-ghost use Rattle.selected.specs.Selected.{selectedReplyOf};
+ghost use Rattle.diagnostics.specs.Selected.{selectedReplyOf};
 ghost use Rattle.starred_table.specs.Calls.{F2, NoColumns};
 ghost use Rattle.starred_table.specs.Answer.{answerOf, F2-entry, one-entry};
 use check::expect;
-use selected::Selected;
+use diagnostics::Selected;
 use selected::selected_inverse_entries_with_limit;
 use selected_entry::SelectedEntry;
 use selected_entry::selected_inverse_entry_with_limit;

@@ -1,10 +1,10 @@
 // The starred cases' call for selected entries of F3, and its closed sets, compared; that each comparison holds is proved from the
 // contracts and the table.
 ghost use mathlib.Core.Path.{_≡_};
-ghost use Rattle.selected.specs.Selected.{selectedReplyOf};
+ghost use Rattle.diagnostics.specs.Selected.{selectedReplyOf};
 ghost use Rattle.starred_table.specs.Calls.{F3};
 use check::expect;
-use selected::Selected;
+use diagnostics::Selected;
 use selected::selected_inverse_entries_with_limit;
 use starred_replies::counted;
 

@@ -1,13 +1,13 @@
 // Tests of the replies to the starred cases' calls for selected entries.
 ghost use mathlib.Core.Path.{_≡_};
-ghost use Rattle.selected.specs.Selected.{selectedReplyOf};
+ghost use Rattle.diagnostics.specs.Selected.{selectedReplyOf};
 ghost use Rattle.starred_table.specs.Answer.{answerOf};
 ghost use Rattle.starred_replies.specs.Counts.{showsOf, countedOf, hasRatio};
 ghost use Rattle.starred_replies.specs.Entries.{isValue, isNan, isAbsent, isRefused};
+use diagnostics::Selected;
 use diagnostics::SelectedInverseDiagnostics;
 use lookup::ordered::Entry;
 use replies::refusal_number;
-use selected::Selected;
 use selected_entry::SelectedEntry;
 
 // Whether a diagnosis has these counts and is complete or not.

@@ -19,6 +19,7 @@ use Rattle.floor.specs.VarianceFloor.{floorSteps, floorOf}
 use Rattle.floor.specs.Floor.{stabilizedOf}
 use Rattle.floor.specs.Examples.{half, variances, worked-reply, worked-output}
 use Rattle.pairs.specs.Pair.{pairTotal}
+use Rattle.pairs.specs.Scratch.{scratchWords}
 use Rattle.columns.specs.Kept.{f0, factorPairs}
 use Rattle.columns.specs.Columns.{boundSteps, brokenSteps, startsSteps, rowsSteps, columnSteps}
 use Rattle.columns.specs.Diagonal.{diagonalSteps}
@@ -65,7 +66,7 @@ pub record ClosedSets : Type 0 where
 
 pub closed-sets : ClosedSets
 unfolding any anyIn sumTo picked select cellCount ofInt ofBits ne le div factorPairs reach member requested closureOf diagnosisOf ratioOf
-    first pairTotal boundSteps brokenSteps startsSteps rowsSteps columnSteps requestSteps diagonalSteps roomSteps selectedSteps
+    first pairTotal scratchWords boundSteps brokenSteps startsSteps rowsSteps columnSteps requestSteps diagonalSteps roomSteps selectedSteps
 closed-sets = record {
   f2-first = refl;
   f2-limited = refl;
@@ -107,7 +108,7 @@ pub record Values : Type 0 where
 pub values : Values
 unfolding any anyIn sumTo picked select cellCount ofInt ofBits ne le add sub mul div neg
     first boundSteps brokenSteps startsSteps rowsSteps columnSteps requestSteps diagonalSteps roomSteps selectedSteps
-    pairTotal reach member requested floatTable entryAnswer
+    pairTotal scratchWords reach member requested floatTable entryAnswer
 values = record {
   f2-first-00 = refl;
   f2-first-10 = refl;
@@ -121,13 +122,13 @@ values = record {
 -- ---- F2 with the operator row 1 at 0, 1 at 1: the three pairs of two columns, all of them needed, and 2
 
 pub operator-answered : first (transformedSteps F2-operator (room 3 3 3 14) 1) (selectedAnswer (transformedSelection F2-operator)) ≡ answered (diagnosis 3 3 3 30 Complete)
-unfolding any anyIn sumTo picked select cellCount ofInt ofBits ne le factorPairs reach member closureOf diagnosisOf first pairTotal boundSteps brokenSteps startsSteps
+unfolding any anyIn sumTo picked select cellCount ofInt ofBits ne le factorPairs reach member closureOf diagnosisOf first pairTotal scratchWords boundSteps brokenSteps startsSteps
     rowsSteps columnSteps operatorSteps diagonalSteps roomSteps transformedSteps operatorPair
 operator-answered = refl
 
 pub operator-written : (z : Float) → after (transformedSteps F2-operator (room 3 3 3 14) 1)
     (cond (selectedComplete (transformedSelection F2-operator)) (overwrite (transformedValues F2-operator) (z ∷ [])) (z ∷ [])) (z ∷ []) ≡ whole 2 ∷ []
-unfolding any anyIn sumTo picked select cellCount ofInt ofBits ne le reach member after first pairTotal boundSteps brokenSteps startsSteps rowsSteps columnSteps
+unfolding any anyIn sumTo picked select cellCount ofInt ofBits ne le reach member after first pairTotal scratchWords boundSteps brokenSteps startsSteps rowsSteps columnSteps
     operatorSteps diagonalSteps roomSteps transformedSteps operatorPair overwrite tabulate operatorValues addTerms addPlaces floatTable add sub mul div neg
 operator-written z = refl
 

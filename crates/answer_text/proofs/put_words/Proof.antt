@@ -1,118 +1,78 @@
 use borrow.Author.Needs.{needs}
-use Prim.Native.Nat.{_≤_, _<_, _-_}
+use Prim.Native.Nat.{_≤_, _<_, _-_, _+_}
 use lib.ListN.{length}
 use Rattle.answer_text.proofs.put_words.Statement.{statement}
 use Rattle.answer_text.proofs.put_words.Tie as tie
 
-abbrev Inv-loop2 : tie.InvT-loop2
-Inv-loop2 label list i word k₀ t6 t7 k = (0 < k) × (i < length list) × (k ≤ length list - i)
-
-abbrev μ-loop2 : tie.MeasureT-loop2
-μ-loop2 label list i word k₀ t6 t7 k = length list - k
-
 abbrev Inv-loop : tie.InvT-loop
-Inv-loop label list i₀ t6 t7 i = i ≤ length list
+Inv-loop label list i₀ i = i ≤ length list
 
 abbrev μ-loop : tie.MeasureT-loop
-μ-loop label list i₀ t6 t7 i = length list - i
+μ-loop label list i₀ i = length list - i
 
-put-requires : tie.Need-put-requires Inv-loop2 μ-loop2 Inv-loop μ-loop
+-- src/lib.rt:98:5
+put-requires : tie.Need-put-requires Inv-loop μ-loop
 put-requires c κs = search needs
 
-put-count-requires : tie.Need-put-count-requires Inv-loop2 μ-loop2 Inv-loop μ-loop
+-- src/lib.rt:99:5
+put-count-requires : tie.Need-put-count-requires Inv-loop μ-loop
 put-count-requires c κs = search needs
 
-loop-holds : tie.Need-loop-holds Inv-loop2 μ-loop2 Inv-loop μ-loop
+-- src/lib.rt:101:5
+loop-holds : tie.Need-loop-holds Inv-loop μ-loop
 loop-holds c = search needs
 
-mul-word : tie.Need-mul-word Inv-loop2 μ-loop2 Inv-loop μ-loop
-mul-word c = search needs
+-- src/lib.rt:102:13
+alike-words-requires : tie.Need-alike-words-requires Inv-loop μ-loop
+alike-words-requires c κs = search needs
 
-shared-slice-read-word : tie.Need-shared-slice-read-word Inv-loop2 μ-loop2 Inv-loop μ-loop
-shared-slice-read-word c = search needs
+-- src/lib.rt:103:18
+mul-put-word : tie.Need-mul-put-word Inv-loop μ-loop
+mul-put-word c = search needs
 
-loop2-holds : tie.Need-loop2-holds Inv-loop2 μ-loop2 Inv-loop μ-loop
-loop2-holds c = search needs
+-- src/lib.rt:103:18
+shared-slice-read-put-word : tie.Need-shared-slice-read-put-word Inv-loop μ-loop
+shared-slice-read-put-word c = search needs
 
-sub-loop2 : tie.Need-sub-loop2 Inv-loop2 μ-loop2 Inv-loop μ-loop
-sub-loop2 c = search needs
-
-add-if1 : tie.Need-add-if1 Inv-loop2 μ-loop2 Inv-loop μ-loop
-add-if1 c = search needs
-
-mul-if1 : tie.Need-mul-if1 Inv-loop2 μ-loop2 Inv-loop μ-loop
-mul-if1 c = search needs
-
-shared-slice-read-if1 : tie.Need-shared-slice-read-if1 Inv-loop2 μ-loop2 Inv-loop μ-loop
-shared-slice-read-if1 c = search needs
-
-add-k : tie.Need-add-k Inv-loop2 μ-loop2 Inv-loop μ-loop
-add-k c = search needs
-
-loop2-less : tie.Need-loop2-less Inv-loop2 μ-loop2 Inv-loop μ-loop
-loop2-less c = search needs
-
-loop2-again : tie.Need-loop2-again Inv-loop2 μ-loop2 Inv-loop μ-loop
-loop2-again c = search needs
-
-slice-aggregate-put : tie.Need-slice-aggregate-put Inv-loop2 μ-loop2 Inv-loop μ-loop
-slice-aggregate-put c = search needs
-
-put-requires-2 : tie.Need-put-requires-2 Inv-loop2 μ-loop2 Inv-loop μ-loop
-put-requires-2 c κs = search needs
-
-put-word-requires : tie.Need-put-word-requires Inv-loop2 μ-loop2 Inv-loop μ-loop
+-- src/lib.rt:103:9
+put-word-requires : tie.Need-put-word-requires Inv-loop μ-loop
 put-word-requires c κs = search needs
 
-put-times-requires : tie.Need-put-times-requires Inv-loop2 μ-loop2 Inv-loop μ-loop
-put-times-requires c κs = search needs
-
-add-i : tie.Need-add-i Inv-loop2 μ-loop2 Inv-loop μ-loop
+-- src/lib.rt:104:9
+add-i : tie.Need-add-i Inv-loop μ-loop
 add-i c = search needs
 
-loop-less : tie.Need-loop-less Inv-loop2 μ-loop2 Inv-loop μ-loop
+-- src/lib.rt:101:5
+loop-less : tie.Need-loop-less Inv-loop μ-loop
 loop-less c = search needs
 
-loop-again : tie.Need-loop-again Inv-loop2 μ-loop2 Inv-loop μ-loop
+-- src/lib.rt:101:5
+loop-again : tie.Need-loop-again Inv-loop μ-loop
 loop-again c = search needs
 
-slice-aggregate-put-2 : tie.Need-slice-aggregate-put-2 Inv-loop2 μ-loop2 Inv-loop μ-loop
-slice-aggregate-put-2 c = search needs
+-- src/lib.rt:106:5
+put-line-end-requires : tie.Need-put-line-end-requires Inv-loop μ-loop
+put-line-end-requires c κs = search needs
 
-put-requires-3 : tie.Need-put-requires-3 Inv-loop2 μ-loop2 Inv-loop μ-loop
-put-requires-3 c κs = search needs
-
-returns : tie.Need-returns Inv-loop2 μ-loop2 Inv-loop μ-loop
+-- src/lib.rt:97:1
+returns : tie.Need-returns Inv-loop μ-loop
 returns c = search needs
 
 pub put-words-spec : {M : Type 1} → statement M
 put-words-spec =
     tie.close
     (tie.spec
-    Inv-loop2
-    μ-loop2
     Inv-loop
     μ-loop
     put-requires
     put-count-requires
     loop-holds
-    mul-word
-    shared-slice-read-word
-    loop2-holds
-    sub-loop2
-    add-if1
-    mul-if1
-    shared-slice-read-if1
-    add-k
-    loop2-less
-    loop2-again
-    slice-aggregate-put
-    put-requires-2
+    alike-words-requires
+    mul-put-word
+    shared-slice-read-put-word
     put-word-requires
-    put-times-requires
     add-i
     loop-less
     loop-again
-    slice-aggregate-put-2
-    put-requires-3
+    put-line-end-requires
     returns)

@@ -21,8 +21,8 @@ returns c =
     let s = c .before .before .before .before .before .before in
     closes (λ req R. requests-past (nonzero (now (s .args .values))) (s .args .limit) (s .pre) req R (c .if1 .taken))
 
-pair-total-requires : tie.Need-pair-total-requires
-pair-total-requires c κs = search needs
+queue-start-requires : tie.Need-queue-start-requires
+queue-start-requires c κs = search needs
 
 slice-aggregate-close-queue : tie.Need-slice-aggregate-close-queue
 slice-aggregate-close-queue c = search needs
@@ -37,7 +37,7 @@ close-queue-requires c κs =
     let long = length-replicate {A = ℕ} maxDimension 0 in
     record {
       small = s .pre .small;
-      all = p .pair-total .ensures .0;
+      all = p .queue-start .ensures .0;
       factor = s .pre .factor;
       entered = s .pre .entered;
       stopped = s .pre .stopped;
@@ -66,7 +66,7 @@ takahashi-dependency-closure-spec =
     (tie.spec
     add-result
     returns
-    pair-total-requires
+    queue-start-requires
     slice-aggregate-close-queue
     slice-aggregate-close-queue-2
     close-queue-requires

@@ -29,8 +29,8 @@ set-of s = columnMarking (s .args .n) (now (s .args .scratch))
 abbrev table-of : tie.Start Inv-loop μ-loop → ℕ → ℕ → Float
 table-of s = floatTable (s .args .n) (now (s .args .starts)) (now (s .args .rows)) (now (s .args .values))
 
-pair-total-requires : tie.Need-pair-total-requires Inv-loop μ-loop
-pair-total-requires c κs = search needs
+queue-start-requires : tie.Need-queue-start-requires Inv-loop μ-loop
+queue-start-requires c κs = search needs
 
 loop-holds : tie.Need-loop-holds Inv-loop μ-loop
 loop-holds c = (refl, omega arith, solved-none _)
@@ -50,7 +50,7 @@ takahashi-column-requires c κs =
       route =
           subst (ClosureRoute (a .n) (now (a .starts)) (now (a .rows)) (now (a .values)) (now (a .entry-starts)) (now (a .entry-rows)) (now (a .scratch)))
           (sym (l .inv .0)) (s .pre);
-      all = q .before .pair-total .ensures .0;
+      all = q .before .queue-start .ensures .0;
       inside = omega (arith, l .inv .1, t .loop-test .taken);
       later = subst (λ (m : ℕ). SolvedFrom (a .n) (set-of s) (table-of s) m (l .entry-values)) e (l .inv .2 .entries);
     }
@@ -82,7 +82,7 @@ takahashi-selected-inverse-on-closure-spec =
     (tie.spec
     Inv-loop
     μ-loop
-    pair-total-requires
+    queue-start-requires
     loop-holds
     sub-j
     takahashi-column-requires

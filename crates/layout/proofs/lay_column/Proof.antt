@@ -1,6 +1,7 @@
 use native.Mathlib.Omega.{arith}
 use borrow.Author.Needs.{needs}
 use Rattle.pairs.specs.Pair.{pairTotal-small}
+use Rattle.pairs.specs.Scratch.{queueStart-small}
 use Rattle.pairs.specs.ColumnOrder.{colStart-least, colStart-mono, colStart-total}
 use Rattle.layout.specs.Layout.{column-positions, column-laid}
 use Rattle.layout.proofs.lay_column.Statement.{statement}
@@ -28,6 +29,7 @@ add-lay-positions c =
       colStart-mono n (s .args .c) n (omega (arith, s .pre .room .inside)),
       colStart-total n,
       pairTotal-small n (s .pre .room .small),
+      queueStart-small n (s .pre .room .small),
     )
 
 lay-positions-requires : tie.Need-lay-positions-requires

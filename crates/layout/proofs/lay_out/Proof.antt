@@ -34,8 +34,8 @@ next t =
     let l = t .before .loop in
     omega (arith, l .inv .4, colStart-next (start (t .before) .args .n) (l .c))
 
-pair-total-requires : tie.Need-pair-total-requires Inv-loop μ-loop
-pair-total-requires c κs = search needs
+queue-start-requires : tie.Need-queue-start-requires Inv-loop μ-loop
+queue-start-requires c κs = search needs
 
 loop-holds : tie.Need-loop-holds Inv-loop μ-loop
 loop-holds c = (refl, refl, refl, omega arith, sym (colStart-none _), columns-none _ _ _ _)
@@ -55,7 +55,7 @@ lay-reached-column-requires c κs =
     let q = t .before in
     let s = start q in
     let l = q .loop in (
-      columns-room (s .pre .0) (l .inv .5) _ _ (q .before .pair-total .ensures .0) (l .inv .4) (t .loop-test .taken) (l .inv .1),
+      columns-room (s .pre .0) (l .inv .5) _ _ (q .before .queue-start .ensures .0) (l .inv .4) (t .loop-test .taken) (l .inv .1),
       omega (arith, s .pre .1, t .loop-test .taken),
       columns-reached (s .pre .0) (l .inv .5) (now (s .args .reached)) (s .pre .2),
     )
@@ -119,7 +119,7 @@ lay-out-spec =
     (tie.spec
     Inv-loop
     μ-loop
-    pair-total-requires
+    queue-start-requires
     loop-holds
     cast-starts
     mul-starts

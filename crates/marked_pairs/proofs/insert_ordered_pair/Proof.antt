@@ -1,4 +1,5 @@
 use Rattle.pairs.specs.Pair.{pairTotal, pairTotal-small}
+use Rattle.pairs.specs.Scratch.{queueStart-small}
 use Rattle.bits.specs.Bits.{bitAt}
 use Rattle.marked_pairs.specs.MarkedPairs.{packed, Inserted, place-word, insert-old, insert-new, end-room}
 use denote.Ref.{now}
@@ -14,7 +15,7 @@ use Rattle.marked_pairs.proofs.insert_ordered_pair.Reads as reads
 use Rattle.marked_pairs.proofs.insert_ordered_pair.Lts as lts
 use Rattle.words.proofs.bit_words.bit.Reads as bit-reads
 use Rattle.words.proofs.bit_words.set_bit.Reads as set-bit-reads
-use Rattle.scratch.proofs.pair_total.Reads as pair-total-reads
+use Rattle.scratch.proofs.queue_start.Reads as queue-start-reads
 use Rattle.marked_pairs.proofs.column_place.Reads as column-place-reads
 
 -- the place's word is within the scratch
@@ -24,14 +25,14 @@ in-words c =
     place-word (s .args .n) (s .args .r) (s .args .c) (s .pre .0) (s .pre .1 .first) (now (s .args .scratch)) (s .pre .1 .marked .room) (c .column-place .ensures)
 
 -- where the pair is not marked, and where the call begins
-abbrev branch : tie.After-pair-total → tie.Else1
+abbrev branch : tie.After-queue-start → tie.Else1
 branch c = c .before .before .before .before .before
 
 abbrev begin : tie.Else1 → tie.Start
 begin b = b .before .before .before .before .before
 
 -- a word is left for it
-left : (c : tie.After-pair-total) → begin (branch c) .args .count < pairTotal (begin (branch c) .args .n)
+left : (c : tie.After-queue-start) → begin (branch c) .args .count < pairTotal (begin (branch c) .args .n)
 left c =
     let b = branch c in
     let q = b .before .before .before in
@@ -64,12 +65,12 @@ set-bit-requires : tie.Need-set-bit-requires
 set-bit-requires c κs = in-words (c .before .before .before .before)
 
 -- src/lib.rt:45:15
-pair-total-requires : tie.Need-pair-total-requires
-pair-total-requires c κs = search needs
+queue-start-requires : tie.Need-queue-start-requires
+queue-start-requires c κs = search needs
 
 -- src/lib.rt:45:15
 add-end : tie.Need-add-end
-add-end c = let s = begin (branch c) in omega (arith, left c, c .pair-total .ensures .0, pairTotal-small (s .args .n) (s .pre .1 .small))
+add-end c = let s = begin (branch c) in omega (arith, left c, c .queue-start .ensures .0, queueStart-small (s .args .n) (s .pre .1 .small), pairTotal-small (s .args .n) (s .pre .1 .small))
 
 -- src/lib.rt:46:13
 mul-w : tie.Need-mul-w
@@ -85,13 +86,13 @@ cast-scratch c = search needs
 
 -- src/lib.rt:47:5
 mul-scratch : tie.Need-mul-scratch
-mul-scratch c = let s = begin (branch c) in omega (arith, left c, c .pair-total .ensures .0, pairTotal-small (s .args .n) (s .pre .1 .small))
+mul-scratch c = let s = begin (branch c) in omega (arith, left c, c .queue-start .ensures .0, queueStart-small (s .args .n) (s .pre .1 .small), pairTotal-small (s .args .n) (s .pre .1 .small))
 
 -- src/lib.rt:47:5
 slice-write-scratch : tie.Need-slice-write-scratch
 slice-write-scratch c =
     let s = begin (branch c) in
-    rw (c .before .before .before .set-bit .ensures, length-set) (omega (arith, left c, c .pair-total .ensures .0, s .pre .1 .marked .room))
+    rw (c .before .before .before .set-bit .ensures, length-set) (omega (arith, left c, c .queue-start .ensures .0, s .pre .1 .marked .room))
 
 -- src/lib.rt:48:5
 add-result : tie.Need-add-result
@@ -109,7 +110,7 @@ returns-2 c =
     let s = begin b in
     let a = s .args in
     subst₂ (λ (w : List ℕ) (t : ℕ). Inserted (a .n) (a .r) (a .c) (now (a .scratch)) (a .count) (set w (t + a .count) (packed (a .r) (a .c))) (a .count + 1))
-    (sym (c .before .before .before .set-bit .ensures)) (sym (c .pair-total .ensures .0))
+    (sym (c .before .before .before .set-bit .ensures)) (sym (c .queue-start .ensures .0))
     (insert-new (a .n) (a .r) (a .c) (omega arith) (omega arith) (s .pre .1 .small) (s .pre .0) (s .pre .1 .first) (s .pre .1 .marked) (q .column-place .ensures)
     (sym (b .before .bit .ensures) ∙ b .if1 .left))
 
@@ -122,7 +123,7 @@ insert-ordered-pair-spec =
     same-length
     returns
     set-bit-requires
-    pair-total-requires
+    queue-start-requires
     add-end
     mul-w
     add-w

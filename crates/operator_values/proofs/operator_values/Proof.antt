@@ -40,8 +40,8 @@ row c = omega (arith, c .loop-test .taken, c .before .before .operator-rows .ens
 room : (c : tie.In-loop Inv-loop μ-loop) → c .before .loop .i < length (now (start (c .before) .args .output))
 room c = omega (arith, row c, start (c .before) .pre .fits)
 
-pair-total-requires : tie.Need-pair-total-requires Inv-loop μ-loop
-pair-total-requires c κs = search needs
+queue-start-requires : tie.Need-queue-start-requires Inv-loop μ-loop
+queue-start-requires c κs = search needs
 
 operator-rows-requires : tie.Need-operator-rows-requires Inv-loop μ-loop
 operator-rows-requires c κs = search needs
@@ -64,8 +64,8 @@ row-value-requires c κs =
     let p = t .before .before .before in
     let s = start (t .before) in
     let a = s .args in
-    subst₂ (λ (x y : ℕ). RowReading (a .n) (p .pair-total .result) (now (a .columns)) (length (now (a .weights))) (now (a .scratch)) (length (now (a .inverse))) x y)
-    (sym (c .before .at .ensures)) (sym (c .at2 .ensures)) (row-reading (s .pre) (p .pair-total .result) (p .pair-total .ensures .0) (t .before .loop .i) (row t))
+    subst₂ (λ (x y : ℕ). RowReading (a .n) (p .queue-start .result) (now (a .columns)) (length (now (a .weights))) (now (a .scratch)) (length (now (a .inverse))) x y)
+    (sym (c .before .at .ensures)) (sym (c .at2 .ensures)) (row-reading (s .pre) (p .queue-start .result) (p .queue-start .ensures .0) (t .before .loop .i) (row t))
 
 mul-output : tie.Need-mul-output Inv-loop μ-loop
 mul-output c = let h = room (c .before .before .before) in search needs
@@ -115,7 +115,7 @@ operator-values-spec =
     (tie.spec
     Inv-loop
     μ-loop
-    pair-total-requires
+    queue-start-requires
     operator-rows-requires
     loop-holds
     at-requires

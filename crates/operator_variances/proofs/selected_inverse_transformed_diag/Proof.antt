@@ -8,6 +8,7 @@ use denote.Ref.{now}
 use borrow.Author.Needs.{needs}
 use Rattle.refusal.specs.Steps.{Passed}
 use Rattle.refusal.specs.Refusal.{replyOf}
+use Rattle.pairs.specs.Scratch.{scratchWords-room}
 use Rattle.columns.specs.Operator.{OperatorRows}
 use Rattle.diagnostics.specs.declared.SelectedInverseDiagnostics.{SelectedInverseDiagnostics}
 use Rattle.diagnostics.specs.declared.SelectedInverseStatus.the-variants.{Complete, ClosureTooLarge}
@@ -81,7 +82,7 @@ enum-told c = search needs
 mark-operator-pairs-requires : tie.Need-mark-operator-pairs-requires
 mark-operator-pairs-requires c κs =
     let A = ready (c .before) in
-    record { small = A .accepted .small; rows = subst (OperatorRows _ _ _) (A .operator .weighed) (A .operator); room = omega (arith, A .accepted .scratch-room) }
+    record { small = A .accepted .small; rows = subst (OperatorRows _ _ _) (A .operator .weighed) (A .operator); room = scratchWords-room _ (A .accepted .scratch-room) }
 
 default-limit-requires : tie.Need-default-limit-requires
 default-limit-requires c κs = ready (c .before .before .before .before) .few

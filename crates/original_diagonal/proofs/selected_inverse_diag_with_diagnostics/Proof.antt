@@ -7,6 +7,7 @@ use denote.Ref.{now}
 use borrow.Author.Needs.{needs}
 use Rattle.refusal.specs.Steps.{Passed}
 use Rattle.refusal.specs.Refusal.{replyOf}
+use Rattle.pairs.specs.Scratch.{scratchWords-room}
 use Rattle.diagnostics.specs.declared.SelectedInverseDiagnostics.{SelectedInverseDiagnostics}
 use Rattle.diagnostics.specs.declared.SelectedInverseStatus.the-variants.{Complete, ClosureTooLarge}
 use Rattle.selection.specs.Selection.{Lent, lists, roomOf}
@@ -64,7 +65,7 @@ enum-told c = search needs
 mark-diagonals-requires : tie.Need-mark-diagonals-requires
 mark-diagonals-requires c κs =
     let A = ready (c .before) .accepted in
-    record { small = A .small; room = omega (arith, A .scratch-room) }
+    record { small = A .small; room = scratchWords-room _ (A .scratch-room) }
 
 default-limit-requires : tie.Need-default-limit-requires
 default-limit-requires c κs = ready (c .before .before .before .before) .few

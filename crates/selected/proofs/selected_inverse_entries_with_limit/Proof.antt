@@ -4,6 +4,7 @@ use native.Mathlib.Omega.{arith}
 use denote.Ref.{now}
 use Rattle.refusal.specs.Steps.{Passed}
 use Rattle.refusal.specs.Refusal.{replyOf}
+use Rattle.pairs.specs.Scratch.{scratchWords-room}
 use Rattle.selection.specs.Selection.{Lent, lists, roomOf}
 use Rattle.selection.specs.Call.{Call, call, selectedSteps, accepted, accepted-requests}
 use Rattle.fill.specs.Fill.{marked-input, marked-answer, marked-lists}
@@ -44,7 +45,7 @@ mark-requests-requires c κs =
     let x = handed (begin (t .before .before)) in
     let r = roomOf (lent (begin (t .before .before))) in
     let A = accepted x r (passed t) in
-    record { small = A .small; requests = accepted-requests x r (passed t); room = omega (arith, A .scratch-room) }
+    record { small = A .small; requests = accepted-requests x r (passed t); room = scratchWords-room (x .n) (A .scratch-room) }
 
 fill-entries-requires : tie.Need-fill-entries-requires
 fill-entries-requires c κs =

@@ -53,36 +53,32 @@ returns-3 c =
     (first-skip 7 _ tt (enough _ _ _ (most d) (c .before .if2 .left))
     (first-hit 7 _ tt (short _ _ _ (most d) (c .if3 .taken)))))
 
-mul-if4 : tie.Need-mul-if4
-mul-if4 c = omega (arith, c .before .before .before .before .pair-total .ensures .1)
-
-mul-if4-2 : tie.Need-mul-if4-2
-mul-if4-2 c = omega (arith, c .before .before .before .before .before .pre)
-
-add-if4 : tie.Need-add-if4
-add-if4 c = omega (arith, c .before .before .before .before .pair-total .ensures .1, c .before .before .before .before .before .pre)
+scratch-words-requires : tie.Need-scratch-words-requires
+scratch-words-requires c κs = search needs
 
 returns-4 : tie.Need-returns-4
 unfolding roomSteps
 returns-4 c =
-    let e = c .before in
+    let w = c .before in
+    let e = w .before in
     let d = e .before .before .before in
     sym
     (first-skip 7 _ tt (le-ltb _ _ (e .before .before .if1 .left))
     (first-skip 7 _ tt (enough _ _ _ (most d) (e .before .if2 .left))
     (first-skip 7 _ tt (enough _ _ _ (most d) (e .if3 .left))
-    (first-hit 7 _ tt (short _ _ _ (ap (λ (k : ℕ). 2 * k + 4 * d .before .before .args .n) (total d)) (c .if4 .taken))))))
+    (first-hit 7 _ tt (short _ _ _ (w .scratch-words .ensures) (c .if4 .taken))))))
 
 returns-5 : tie.Need-returns-5
 unfolding roomSteps
 returns-5 c =
-    let e = c .before in
+    let w = c .before in
+    let e = w .before in
     let d = e .before .before .before in
     sym
     (first-skip 7 _ tt (le-ltb _ _ (e .before .before .if1 .left))
     (first-skip 7 _ tt (enough _ _ _ (most d) (e .before .if2 .left))
     (first-skip 7 _ tt (enough _ _ _ (most d) (e .if3 .left))
-    (first-skip 7 _ tt (enough _ _ _ (ap (λ (k : ℕ). 2 * k + 4 * d .before .before .args .n) (total d)) (c .if4 .left)) (first-end tt)))))
+    (first-skip 7 _ tt (enough _ _ _ (w .scratch-words .ensures) (c .if4 .left)) (first-end tt)))))
 
 pub check-room-spec : {M : Type 1} → statement M
 check-room-spec =
@@ -94,8 +90,6 @@ check-room-spec =
     returns
     returns-2
     returns-3
-    mul-if4
-    mul-if4-2
-    add-if4
+    scratch-words-requires
     returns-4
     returns-5)

@@ -2,6 +2,7 @@ use mathlib.Core.Bool.{true}
 use Rattle.closure.proofs.QueueLaws.{QueueLoop, QueueColumn, ready-none, ready-skip, ready-next, column-done, column-serving}
 use Rattle.closure.proofs.QueueLaws.{serving-more, head-words, head-pairs, word-starts, word-inside, word-end, word-most}
 use Rattle.closure.proofs.QueueLaws.{column-none, column-skip, column-more, entry-rows, entry-values, entry-insert, finished, finished-past, above-dropped, zero-dropped, entry-kept}
+use Rattle.pairs.specs.Pair.{pairTotal}
 use Rattle.marked_pairs.specs.MarkedPairs.{columnOf}
 use Rattle.columns.specs.Kept.{nonzero, nonzero-not, keptBelow}
 use Rattle.columns.specs.Columns.{start}
@@ -33,7 +34,7 @@ Inv-queue n pairs starts rows values limit first stops₀ spanStarts₀ spanEnds
     × (length spanEnds ≡ length spanEnds₀)
 
 abbrev μ-queue : tie.MeasureT-queue
-μ-queue n pairs starts rows values limit first stops₀ spanStarts₀ spanEnds₀ scratch₀ count₀ head₀ stops spanStarts spanEnds scratch count head = pairs - head
+μ-queue n pairs starts rows values limit first stops₀ spanStarts₀ spanEnds₀ scratch₀ count₀ head₀ stops spanStarts spanEnds scratch count head = pairTotal n - head
 
 -- ---- places of the code
 

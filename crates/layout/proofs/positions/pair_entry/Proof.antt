@@ -5,7 +5,8 @@ use lib.ListN.{getD}
 use lib.Ieee.{nan}
 use denote.Ref.{now}
 use borrow.Author.Needs.{needs}
-use Rattle.pairs.specs.Pair.{pairTotal, maxPairs}
+use Rattle.pairs.specs.Pair.{maxPairs}
+use Rattle.pairs.specs.Scratch.{queueStart}
 use Rattle.pairs.specs.ColumnOrder.{columnPlace}
 use Rattle.layout.specs.Position.{word-right, word-left, shift-fits, word-position, word-reads, reading-inside}
 use Rattle.layout.proofs.positions.pair_entry.Statement.{statement}
@@ -18,7 +19,7 @@ abbrev lower : tie.After-column-shift → tie.Start
 lower d = d .before .before .before .before
 
 -- the word, from the shift of column i
-upper-word : (t : tie.Then1) → let a = upper t .args in a .base + a .k ≡ pairTotal (a .n) + columnPlace (a .n) (max (a .i) (a .k)) (min (a .i) (a .k))
+upper-word : (t : tie.Then1) → let a = upper t .args in a .base + a .k ≡ queueStart (a .n) + columnPlace (a .n) (max (a .i) (a .k)) (min (a .i) (a .k))
 upper-word t =
     let s = upper t in
     let a = s .args in
@@ -27,7 +28,7 @@ upper-word t =
 -- and from that of column k
 lower-word : (d : tie.After-column-shift) →
     let a = lower d .args in
-    a .pairs + d .column-shift .result + a .i ≡ pairTotal (a .n) + columnPlace (a .n) (max (a .i) (a .k)) (min (a .i) (a .k))
+    a .pairs + d .column-shift .result + a .i ≡ queueStart (a .n) + columnPlace (a .n) (max (a .i) (a .k)) (min (a .i) (a .k))
 lower-word d =
     let s = lower d in
     let a = s .args in

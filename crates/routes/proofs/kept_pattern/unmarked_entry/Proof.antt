@@ -1,6 +1,5 @@
 use Rattle.routes.specs.KeptPattern.{unmarked-above, unmarked-zero, unmarked-kept}
-use Rattle.bits.specs.Bits.{word-below, bitWords-most}
-use Rattle.pairs.specs.Pair.{pairTotal}
+use Rattle.pairs.specs.Scratch.{queueStart-mark}
 use Rattle.pairs.specs.ColumnOrder.{columnPlace-below}
 use borrow.Author.Needs.{needs}
 use native.Mathlib.Omega.{arith}
@@ -27,7 +26,7 @@ bit-requires c κs =
     let n = z .args .n in
     let p = c .column-place .result in
     let l = columnPlace-below n (z .args .r) (z .args .c) (c .before .before .if1 .left) (z .pre .1) in
-    omega (arith, word-below p (pairTotal n) (omega (arith, c .column-place .ensures, l)), bitWords-most (pairTotal n))
+    omega (arith, queueStart-mark n p (omega (arith, c .column-place .ensures, l)))
 
 returns-3 : tie.Need-returns-3
 returns-3 c =

@@ -1,0 +1,155 @@
+// What each call replies, and the lists that it was lent.
+use super::put;
+use super::put_count;
+use super::put_number;
+use super::put_value;
+use super::put_value_line;
+use super::put_values;
+use super::put_words;
+use diagnostics::Selected;
+use diagnostics::SelectedInverseDiagnostics;
+use diagnostics::SelectedInverseStatus;
+use floor::Stabilized;
+use lookup::ordered::Entry;
+use pattern_lists::listed::PatternPairs;
+use refusal::Checked;
+use refusal::Refusal;
+use replies::refusal_number;
+
+pub fn put_ok() {
+    put(b"reply ok\n");
+}
+
+// Document 01's number of a refusal.
+fn put_refused(why: Refusal) {
+    put_number(b"reply ", refusal_number(why) as usize);
+}
+
+pub fn put_checked(answer: Checked) {
+    match answer {
+        Checked::Accepted => put_ok(),
+        Checked::Refused(why) => put_refused(why),
+    }
+}
+
+// A refusal of a lookup by its number, an absent pair by none.
+fn put_no_value(number: usize) {
+    if number == 8 {
+        put(b" none");
+    } else {
+        put(b" refused-");
+        put_count(number);
+    }
+}
+
+// What a lookup finds.
+pub fn put_entry(entry: Entry) {
+    match entry {
+        Entry::Value(z) => {
+            put(b" ");
+            put_value(z);
+        }
+        Entry::Refused(why) => put_no_value(refusal_number(why) as usize),
+    }
+}
+
+fn put_pair_count(count: usize) {
+    put_ok();
+    put_number(b"pairs ", count);
+}
+
+fn put_listed(answer: PatternPairs) {
+    match answer {
+        PatternPairs::Listed(count) => put_pair_count(count),
+        PatternPairs::Refused(why) => put_refused(why),
+    }
+}
+
+// The reply of a call for pattern lists, and the lists after it.
+pub fn put_pairs(answer: PatternPairs, scratch: &[u32], pair_rows: &[u32], pair_columns: &[u32]) {
+    put_listed(answer);
+    put_scratch(scratch);
+    put_words(b"prows ", pair_rows);
+    put_words(b"pcols ", pair_columns);
+}
+
+pub fn put_scratch(scratch: &[u32]) {
+    put_words(b"scratch ", scratch);
+}
+
+pub fn put_output(output: &[f64]) {
+    put_values(b"out ", output);
+}
+
+fn put_status(status: SelectedInverseStatus) {
+    match status {
+        SelectedInverseStatus::Complete => put(b"status Complete\n"),
+        SelectedInverseStatus::ClosureTooLarge => put(b"status ClosureTooLarge\n"),
+    }
+}
+
+fn put_counts(requested: usize, closure: usize, factor: usize, limit: usize) {
+    put_number(b"requested ", requested);
+    put_number(b"closure ", closure);
+    put_number(b"factor ", factor);
+    put_number(b"limit ", limit);
+}
+
+fn put_diagnosis(d: SelectedInverseDiagnostics) {
+    let status = d.status;
+    put_ok();
+    put_status(status);
+    put_counts(
+        d.requested_pairs,
+        d.closure_pairs,
+        d.factor_pairs,
+        d.closure_limit,
+    );
+    put_value_line(b"ratio ", d.closure_over_factor);
+}
+
+fn put_answer(answer: Selected) {
+    match answer {
+        Selected::Answered(d) => put_diagnosis(d),
+        Selected::Refused(why) => put_refused(why),
+    }
+}
+
+fn put_result(starts: &[u32], rows: &[u32], values: &[f64]) {
+    put_words(b"starts ", starts);
+    put_words(b"rows ", rows);
+    put_values(b"values ", values);
+}
+
+// The reply of a call for selected entries, and the lists after it.
+pub fn put_selected(
+    answer: Selected,
+    starts: &[u32],
+    rows: &[u32],
+    values: &[f64],
+    scratch: &[u32],
+) {
+    put_answer(answer);
+    put_result(starts, rows, values);
+    put_scratch(scratch);
+}
+
+fn put_variance(floor: f64, hits: usize) {
+    put_ok();
+    put_value_line(b"floor ", floor);
+    put_number(b"hits ", hits);
+}
+
+pub fn put_stabilized(answer: Stabilized) {
+    match answer {
+        Stabilized::Answered(s) => put_variance(s.floor, s.floor_hits),
+        Stabilized::Refused(why) => put_refused(why),
+    }
+}
+
+// The count and the least of the negative values.
+pub fn put_least(negative: usize, least: f64) {
+    put_ok();
+    put_number(b"negative ", negative);
+    put_value_line(b"least ", least);
+}

@@ -1,0 +1,52 @@
+-- The words of scratch that a call uses: the marks of pairs, one bit for each, and behind them a word for each pair, where the queue stands and later the
+-- positions. Assumes nothing.
+use Prim.Native.Nat.{ℕ, _+_, _*_, _/_, _≤_, _<_}
+use native.Mathlib.Omega.{arith}
+use mathlib.Core.Path.{_≡_, refl}
+use Rattle.bits.specs.Bits.{bitWords, word-below, bitWords-most}
+use Rattle.refusal.specs.Bounds.{maxDimension}
+use Rattle.pairs.specs.Pair.{pairTotal, maxPairs, pairTotal-small}
+
+-- the word where the queue, and later the positions, start
+unfoldable pub queueStart : ℕ → ℕ
+queueStart n = pairTotal n
+
+-- how many words a call uses
+unfoldable pub scratchWords : ℕ → ℕ
+scratchWords n = 2 * pairTotal n + 4 * n
+
+-- as the code computes them
+pub queueStart-total : (n : ℕ) → pairTotal n ≡ queueStart n
+unfolding queueStart
+queueStart-total n = refl
+
+pub scratchWords-total : (n : ℕ) → 2 * pairTotal n + 4 * n ≡ scratchWords n
+unfolding scratchWords
+scratchWords-total n = refl
+
+-- the marks' words end before the queue
+pub queueStart-words : (n : ℕ) → bitWords (pairTotal n) ≤ queueStart n
+unfolding queueStart
+queueStart-words n = bitWords-most (pairTotal n)
+
+-- so the word of a pair's mark is before it
+pub queueStart-mark : (n p : ℕ) → p < pairTotal n → p / 32 < queueStart n
+queueStart-mark n p l = omega (arith, word-below p (pairTotal n) l, queueStart-words n)
+
+-- the queue ends within the scratch
+pub scratchWords-queue : (n : ℕ) → queueStart n + pairTotal n ≤ scratchWords n
+unfolding queueStart scratchWords
+scratchWords-queue n = omega arith
+
+-- and so within any words that are enough
+pub scratchWords-room : (n : ℕ) {words : ℕ} → scratchWords n ≤ words → queueStart n + pairTotal n ≤ words
+scratchWords-room n h = omega (arith, scratchWords-queue n)
+
+-- both are small
+pub queueStart-small : (n : ℕ) → n ≤ maxDimension → queueStart n ≤ maxPairs
+unfolding queueStart
+queueStart-small n h = pairTotal-small n h
+
+pub scratchWords-small : (n : ℕ) → n ≤ maxDimension → scratchWords n ≤ 2 * maxPairs + 4 * maxDimension
+unfolding scratchWords
+scratchWords-small n h = omega (arith, pairTotal-small n h)
