@@ -38,6 +38,3 @@ module _ (n : ℕ) (desc : ℕ → List ℕ) (req : ℕ → ℕ → Bool) where
 pub closureSize-cong : (n : ℕ) (desc desc′ : ℕ → List ℕ) (req req′ : ℕ → ℕ → Bool) → ((c : ℕ) → c < n → desc c ≡ desc′ c)
     → ((r c : ℕ) → c ≤ r → r < n → req r c ≡ req′ r c) → closureSize n desc req ≡ closureSize n desc′ req′
 closureSize-cong n desc desc′ req req′ p q = setSize-cong n _ _ (member-cong n desc desc′ req req′ p q)
-
-pub requestedPairs-cong : (n : ℕ) (req req′ : ℕ → ℕ → Bool) → ((r c : ℕ) → c ≤ r → r < n → req r c ≡ req′ r c) → requestedPairs n req ≡ requestedPairs n req′
-requestedPairs-cong n req req′ q = setSize-cong n req req′ q

@@ -50,7 +50,7 @@ marked-requested n s = record {
 }
 
 -- the words that closing leaves: where the set is within the limit its marks, with the stops of their columns listed, and in any case the words
--- behind 2T as they were
+-- behind the queue as they were
 pub record Closing (n : ℕ) (desc : ℕ → List ℕ) (req : ℕ → ℕ → Bool) (limit : ℕ) (s₀ stops s : List ℕ) : Type 0 where
   pub long : length s ≡ length s₀
   pub marks : closureSize n desc req ≤ limit → (r c : ℕ) → c ≤ r → r < n → columnMarking n s r c ≡ member n desc req r c

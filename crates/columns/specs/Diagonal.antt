@@ -90,10 +90,6 @@ module _ {starts rows : List ℕ} {c : ℕ} where
       let u = select-at (keptDiagonal rows (nonzero values) c) (start starts c) (start starts (c + 1)) 0 (omega arith) (omega (arith, g .1)) in
       ap (value values) (D .only _ (u .from) (u .below) (u .passes))
 
-  -- and not 0.0
-  pub diagonal-nonzero : (values : List Float) → Diagonal starts rows (nonzero values) c → ne (diag starts rows values c) f0 ≡ true
-  diagonal-nonzero values D = rw (diagonal-value values D) (keptDiagonal-nonzero rows (nonzero values) c (D .place) (D .kept))
-
 -- ---- the steps pass exactly if the record holds
 module _ (n : ℕ) (starts rows : List ℕ) (values : List Float) where
   pub diagonalSteps-sound : Sorted n starts rows → Passed (diagonalSteps n starts rows values) → Diagonals n starts rows values

@@ -67,16 +67,6 @@ module _ {n : ℕ} {starts rows : List ℕ} (nz : ℕ → Bool) (S : Starts n st
       let l : g .0 < length (pattern starts rows nz c) = rw length-map (g .1) in
       (g .0, l, pattern-at (g .0) l ∙ ap (row rows) (g .2) ∙ q)
 
--- kept entries are not above the diagonal
-pub keptPair-lower : (starts rows : List ℕ) (nz : ℕ → Bool) (r c : ℕ) → keptPair starts rows nz r c ≡ true → c ≤ r
-unfolding keptPair
-keptPair-lower starts rows nz r c t =
-    let f = anyIn-found (keptRow rows nz r c) (start starts c) (start starts (c + 1)) t in
-    let p = f .0 in
-    let q : row rows p ≡ r = eqb-true _ _ (and-left (eqb (row rows p) r) (kept rows nz c p) (f .3)) in
-    let k : c ≤ row rows p = leb-true _ _ (and-left (leb c (row rows p)) (nz p) (and-right (eqb (row rows p) r) (kept rows nz c p) (f .3))) in
-    omega arith
-
 -- a kept diagonal is a kept entry
 pub keptPair-diagonal : {starts rows : List ℕ} {c : ℕ} (nz : ℕ → Bool) → Diagonal starts rows nz c → keptPair starts rows nz c c ≡ true
 unfolding keptPair

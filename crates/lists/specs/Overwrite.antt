@@ -107,17 +107,6 @@ module _ {A : Type 0} where
       (length-append (take a old) xs ∙ ap (λ (k : ℕ). k + length xs) (length-take-le a old h))
       ∙ ap (λ (l : List A). overwrite l old) (append-assoc (take a old) xs ys) ∙ splice-front a (xs ++ ys) old h
 
-  -- writing as many places again leaves nothing of the first writing
-  pub overwrite-again : (new mid old : List A) → length mid ≤ length new → overwrite new (overwrite mid old) ≡ overwrite new old
-  unfolding overwrite
-  overwrite-again new mid old h =
-      let q : length new ≡ length mid + (length new - length mid) = omega arith in
-      ap (λ (l : List A). new ++ l)
-      (ap (λ (k : ℕ). drop k (mid ++ drop (length mid) old)) q
-      ∙ sym (drop-drop (length new - length mid) (length mid) (mid ++ drop (length mid) old))
-      ∙ ap (drop (length new - length mid)) (drop-append-seam mid (drop (length mid) old))
-      ∙ drop-drop (length new - length mid) (length mid) old ∙ ap (λ (k : ℕ). drop k old) (sym q))
-
 -- the places of a list written anew from the place a on
 module _ {A : Type 0} (a : ℕ) (new old : List A) (room : a + length new ≤ length old) (none : A) where
   front : length (take a old) ≡ a
@@ -171,10 +160,6 @@ module _ {A : Type 0} (f : ℕ → A) where
   pub filled-at : (m : ℕ) (old : List A) (i : ℕ) (d : A) → i < m → getD (filled f m old) i d ≡ f i
   unfolding filled
   filled-at m old i d h = overwrite-at (tabulate f m) old i d (rw tabulate-length h) ∙ tabulate-at f m i d h
-
-  pub filled-past : (m : ℕ) (old : List A) (i : ℕ) (d : A) → m ≤ i → getD (filled f m old) i d ≡ getD old i d
-  unfolding filled
-  filled-past m old i d h = overwrite-past (tabulate f m) old i d (rw tabulate-length h)
 
   -- a list filled to its end is the table
   pub filled-all : (old : List A) → filled f (length old) old ≡ tabulate f (length old)

@@ -168,7 +168,3 @@ module _ (test : ℕ → Bool) where
       let f = any-found (λ j. test (s + j)) (e - s) h in
       let l : f .0 < e - s = f .1 in
       (s + f .0, omega arith, omega arith, f .2)
-
-pub anyIn-cong : (f g : ℕ → Bool) (s e : ℕ) → ((k : ℕ) → s ≤ k → k < e → f k ≡ g k) → anyIn f s e ≡ anyIn g s e
-unfolding anyIn
-anyIn-cong f g s e h = any-cong (λ k. f (s + k)) (λ k. g (s + k)) (e - s) (λ k l. h (s + k) (omega arith) (omega arith))

@@ -83,9 +83,6 @@ module _ (starts rows : List ℕ) (values : ℕ) where
 pub column-rows : {rows : List ℕ} {values s e : ℕ} → Column rows values s e → Column rows (length rows) s e
 column-rows C = record { ordered = C .ordered; stored = C .stored; weighed = C .stored; ascends = C .ascends }
 
-pub wellFormed-rows : {starts rows : List ℕ} {values : ℕ} → WellFormed starts rows values → WellFormed starts rows (length rows)
-wellFormed-rows W = record { some = W .some; column = λ c l. column-rows (W .column c l) }
-
 -- ---- the place of an entry
 module _ (starts rows : List ℕ) (row col : ℕ) where
   at-place : {r c : ℕ} → max row col ≡ r → min row col ≡ c → entryPlace starts rows row col ≡ placeIn rows r (start starts c) (start starts (c + 1))
@@ -156,13 +153,6 @@ module _ {A : Type 0} (blank : A) (starts rows : List ℕ) (values : List A) whe
           (first-value blank values (absentStep starts rows r c ∷ []) (placeOf rows r (start starts c) (start starts (c + 1))))))
 
   module _ (W : WellFormed starts rows (length values)) where
-    -- a well-formed result: the place decides
-    pub lookup-place : (row col : ℕ) → row < dimension starts → col < dimension starts
-        → lookupOf blank starts rows values row col ≡ valueAt blank values (entryPlace starts rows row col)
-    lookup-place row col h l =
-        let c : min row col < dimension starts = omega (arith, min-le-left row col) in
-        entryOf-place (max row col) (min row col) (W .some) c (columnFaults-passed starts rows (length values) _ (W .column _ c)) (rw (← suc-max-suc row col) (max-le h l))
-
     module _ (r c : ℕ) (order : c ≤ r) (inside : r < dimension starts) where
       place : lookupOf blank starts rows values r c ≡ valueAt blank values (placeIn rows r (start starts c) (start starts (c + 1)))
       place =
@@ -179,21 +169,6 @@ module _ {A : Type 0} (blank : A) (starts rows : List ℕ) (values : List A) whe
           place
           ∙ ap (valueAt blank values)
           (placeIn-absent rows r _ _ (not-so _ (λ h. let f = holds-stands rows r (start starts c) (start starts (c + 1)) h in none (f .0) (f .1))))
-
-      -- what is answered is a stored entry's value
-      pub lookup-stands : (v : A) → lookupOf blank starts rows values r c ≡ answered v
-          → (p : ℕ) × Stands rows r (start starts c) (start starts (c + 1)) p × (v ≡ getD values p blank)
-      lookup-stands v e = go (placeIn rows r (start starts c) (start starts (c + 1))) refl
-        where
-          go : (x : Reply ℕ) → placeIn rows r (start starts c) (start starts (c + 1)) ≡ x
-              → (p : ℕ) × Stands rows r (start starts c) (start starts (c + 1)) p × (v ≡ getD values p blank)
-          go (refused k) h =
-              let w : answered v ≡ refused k = sym e ∙ place ∙ ap (valueAt blank values) h in
-              let z : _≡_ {A = ℕ} 0 1 = cc in
-              absurd (omega arith)
-          go (answered p) h =
-              let w : answered v ≡ answered (getD values p blank) = sym e ∙ place ∙ ap (valueAt blank values) h in
-              (p, placeIn-stands rows r _ _ (W .column c (omega arith) .ascends) p h, cc)
 
     -- a row or a column outside: 8
     pub lookup-outside : (row col : ℕ) → dimension starts ≤ max row col → lookupOf blank starts rows values row col ≡ refused 8
