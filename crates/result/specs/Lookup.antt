@@ -44,10 +44,6 @@ entrySteps starts rows values r c =
     ∷ absentStep starts rows r c
     ∷ []
 
--- the same with row and column exchanged if row < column
-abbrev pub lookupSteps : List ℕ → List ℕ → ℕ → ℕ → ℕ → List Step
-lookupSteps starts rows values row col = entrySteps starts rows values (max row col) (min row col)
-
 module _ {A : Type 0} (blank : A) where
   -- the value at a place; `blank` stands for what lies past the end of a list
   abbrev pub valueAt : List A → Reply ℕ → Reply A
