@@ -14,13 +14,14 @@ use lookup::ordered::Entry;
 use pattern_lists::listed::PatternPairs;
 use refusal::Checked;
 use refusal::Refusal;
+use requests_reader::ReadRequests;
 use verdicts::refusal_number;
 
 pub fn put_ok() {
     put(b"reply ok\n");
 }
 
-// Document 01's number of a refusal.
+// The number of a refusal.
 fn put_refused(why: Refusal) {
     put_number(b"reply ", refusal_number(why) as usize);
 }
@@ -71,6 +72,26 @@ pub fn put_pairs(answer: PatternPairs, scratch: &[u32], pair_rows: &[u32], pair_
     put_scratch(scratch);
     put_words(b"prows ", pair_rows);
     put_words(b"pcols ", pair_columns);
+}
+
+fn put_requests(dimension: usize, count: usize) {
+    put_ok();
+    put_number(b"rdim ", dimension);
+    put_number(b"requests ", count);
+}
+
+fn put_read(answer: ReadRequests) {
+    match answer {
+        ReadRequests::Read(dimension, count) => put_requests(dimension, count),
+        ReadRequests::Refused(why) => put_refused(why),
+    }
+}
+
+// The reply of reading a file of requests, and the lists after it.
+pub fn put_file(answer: ReadRequests, rows: &[u32], columns: &[u32]) {
+    put_read(answer);
+    put_words(b"rrows ", rows);
+    put_words(b"rcols ", columns);
 }
 
 pub fn put_scratch(scratch: &[u32]) {

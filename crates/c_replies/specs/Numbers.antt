@@ -13,6 +13,7 @@ use Rattle.least.specs.declared.CountAndLeast.{CountAndLeast}
 use Rattle.c_replies.specs.declared.SelectedNumbers.{SelectedNumbers}
 use Rattle.c_replies.specs.declared.EntryNumbers.{EntryNumbers}
 use Rattle.c_replies.specs.declared.PairNumbers.{PairNumbers}
+use Rattle.c_replies.specs.declared.RequestsNumbers.{RequestsNumbers}
 use Rattle.c_replies.specs.declared.FloorNumbers.{FloorNumbers}
 use Rattle.c_replies.specs.declared.LeastNumbers.{LeastNumbers}
 
@@ -51,6 +52,11 @@ entryNumbers (refused k) = record { refusal = k; value = f0 }
 abbrev pub pairNumbers : Reply ℕ → PairNumbers
 pairNumbers (answered count) = record { refusal = 0; pairs = count }
 pairNumbers (refused k) = record { refusal = k; pairs = 0 }
+
+-- a file of requests: its dimension, and how many requests were written
+abbrev pub requestsNumbers : Reply (ℕ × ℕ) → RequestsNumbers
+requestsNumbers (answered a) = record { refusal = 0; dimension = a .0; requests = a .1 }
+requestsNumbers (refused k) = record { refusal = k; dimension = 0; requests = 0 }
 
 -- the floor, and how many values were raised to it
 abbrev pub floorNumbers : Reply StabilizedVariance → FloorNumbers

@@ -1,10 +1,11 @@
-// Answers as structs of numbers, laid out as in C: document 01's number of a refusal, 0 for none, beside what the call tells, 0 where it is refused.
+// Answers as structs of numbers, laid out as in C: the number of a refusal, 0 for none, beside what the call tells, 0 where it is refused.
 ghost use mathlib.Core.Path.{_≡_};
 ghost use Rattle.diagnostics.specs.Selected.{selectedReplyOf};
 ghost use Rattle.lookup.specs.Reply.{entryReply};
 ghost use Rattle.pattern_lists.specs.ListedMarks.{listReply};
 ghost use Rattle.floor.specs.Floor.{stabilizedReply};
-ghost use Rattle.c_replies.specs.Numbers.{statusNumber, selectedNumbers, entryNumbers, pairNumbers, floorNumbers, leastNumbers};
+ghost use Rattle.requests_reader.specs.Reader.{readReply};
+ghost use Rattle.c_replies.specs.Numbers.{statusNumber, selectedNumbers, entryNumbers, pairNumbers, requestsNumbers, floorNumbers, leastNumbers};
 use diagnostics::Selected;
 use diagnostics::SelectedInverseDiagnostics;
 use diagnostics::SelectedInverseStatus;
@@ -12,6 +13,7 @@ use floor::Stabilized;
 use least::CountAndLeast;
 use lookup::ordered::Entry;
 use pattern_lists::listed::PatternPairs;
+use requests_reader::ReadRequests;
 use verdicts::refusal_number;
 
 // The answer of a call that selects entries.
@@ -38,6 +40,14 @@ pub struct EntryNumbers {
 pub struct PairNumbers {
     pub refusal: u32,
     pub pairs: usize,
+}
+
+// The answer of reading a file of requests.
+#[repr(C)]
+pub struct RequestsNumbers {
+    pub refusal: u32,
+    pub dimension: usize,
+    pub requests: usize,
 }
 
 // The answer of the floor.
@@ -119,6 +129,23 @@ pub fn pair_numbers(answer: PatternPairs) -> PairNumbers
         PatternPairs::Refused(why) => PairNumbers {
             refusal: refusal_number(why),
             pairs: 0,
+        },
+    }
+}
+
+pub fn requests_numbers(answer: ReadRequests) -> RequestsNumbers
+    ensures { λ r. ⌜ r ≡ requestsNumbers (readReply answer) ⌝ }
+{
+    match answer {
+        ReadRequests::Read(dimension, count) => RequestsNumbers {
+            refusal: 0,
+            dimension: dimension,
+            requests: count,
+        },
+        ReadRequests::Refused(why) => RequestsNumbers {
+            refusal: refusal_number(why),
+            dimension: 0,
+            requests: 0,
         },
     }
 }

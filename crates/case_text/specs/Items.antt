@@ -5,6 +5,7 @@ use native.Mathlib.Omega.{arith}
 use native.Mathlib.Numerals.{add-one}
 use native.Mathlib.Nat.{min-eq-left}
 use mathlib.Core.Path.{_≡_, refl, sym, ap, _∙_}
+use mathlib.Core.Bool.{Bool, cond}
 use mathlib.Core.List.{List}
 use lib.ListN.{length, set, take, length-take}
 use lib.Ieee.{Float, binary64, ofBits}
@@ -27,9 +28,12 @@ countAt text p = numberAt 10 text (pastBlanks text p)
 abbrev pub pastCount : List ℕ → ℕ → ℕ
 pastCount text p = pastWord text (pastBlanks text p)
 
--- the item as a word, and as a value
+-- the item as a word, as a byte in one of two bases, and as a value
 abbrev pub wordAt : List ℕ → ℕ → ℕ → ℕ
 wordAt text p k = min (itemAt 10 text p k) 4294967295
+
+abbrev pub byteAt : Bool → List ℕ → ℕ → ℕ → ℕ
+byteAt hex text p k = min (itemAt (cond hex 16 10) text p k) 255
 
 abbrev pub valueAt : List ℕ → ℕ → ℕ → Float
 valueAt text p k = ofBits binary64 (itemAt 16 text p k)

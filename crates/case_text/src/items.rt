@@ -3,9 +3,10 @@ ghost use mathlib.Core.Path.{_≡_};
 ghost use Prim.Native.Nat.{_≤_, min};
 ghost use lib.ListN.{length};
 ghost use Rattle.lists.specs.Overwrite.{filled};
-ghost use Rattle.case_text.specs.Items.{pastItems, wordAt, valueAt, pastCount, Listing};
+ghost use Rattle.case_text.specs.Items.{pastItems, wordAt, byteAt, valueAt, pastCount, Listing};
 use super::decimal;
 use super::float_value;
+use super::number_of;
 use super::skip_blanks;
 use super::skip_word;
 
@@ -22,6 +23,15 @@ fn narrow(x: u64) -> u32
         return x as u32;
     }
     4294967295
+}
+
+fn narrow_byte(x: u64) -> u8
+    ensures { λ r. ⌜ r ≡ min x 255 ⌝ }
+{
+    if x < 255 {
+        return x as u8;
+    }
+    255
 }
 
 fn least(a: usize, b: usize) -> usize
@@ -60,6 +70,23 @@ fn put_words(text: &[u8], p: usize, count: usize, list: &mut [u32]) -> usize
     q
 }
 
+// The same with bytes, as hexadecimal or decimal numbers.
+fn put_bytes(text: &[u8], p: usize, count: usize, hex: bool, list: &mut [u8]) -> usize
+    requires { ⌜ count ≤ length (now list) ⌝ }
+    ensures { λ r. ⌜ r ≡ pastItems (now (text .entry)) p count ⌝ }
+    ensures { λ _. ⌜ now (list .exit) ≡ filled (byteAt hex (now (text .entry)) p) count (now (list .entry)) ⌝ }
+{
+    let mut q = p;
+    let mut i = 0;
+    while i < count {
+        q = skip_blanks(text, q);
+        list[i] = narrow_byte(number_of(text, q, hex));
+        q = skip_word(text, q);
+        i += 1;
+    }
+    q
+}
+
 // The same with values.
 fn put_values(text: &[u8], p: usize, count: usize, list: &mut [f64]) -> usize
     requires { ⌜ count ≤ length (now list) ⌝ }
@@ -86,6 +113,21 @@ pub fn read_words(text: &[u8], p: usize, list: &mut [u32]) -> Listed
     let first = skip_word(text, at);
     let count = least(items, list.len());
     let next = put_words(text, first, count, list);
+    Listed {
+        count: count,
+        next: skip_items(text, next, items - count),
+    }
+}
+
+// Reads a counted list of bytes.
+pub fn read_bytes(text: &[u8], p: usize, hex: bool, list: &mut [u8]) -> Listed
+    ensures { λ r. ⌜ Listing (byteAt hex (now (text .entry)) (pastCount (now (text .entry)) p)) (now (text .entry)) p (now (list .entry)) (r .count) (r .next) (now (list .exit)) ⌝ }
+{
+    let at = skip_blanks(text, p);
+    let items = decimal(text, at) as usize;
+    let first = skip_word(text, at);
+    let count = least(items, list.len());
+    let next = put_bytes(text, first, count, hex, list);
     Listed {
         count: count,
         next: skip_items(text, next, items - count),

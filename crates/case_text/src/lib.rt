@@ -4,6 +4,7 @@ pub mod groups;
 pub mod items;
 
 ghost use mathlib.Core.Path.{_≡_};
+ghost use mathlib.Core.Bool.{cond};
 ghost use Prim.Native.Nat.{_+_, _*_, _≤_, _<_};
 ghost use lib.Ieee.{binary64, ofBits};
 ghost use Rattle.case_text.specs.Text.{pastBlanks, pastWord, digitOf, digitMore, numberAt, pastLabel, pastFirst, begins as Text·begins};
@@ -111,11 +112,28 @@ fn of_bits(bits: u64) -> f64
     f64::from_bits(bits)
 }
 
+// The hexadecimal number at p.
+fn hexadecimal(text: &[u8], p: usize) -> u64
+    ensures { λ r. ⌜ r ≡ numberAt 16 (now (text .entry)) p ⌝ }
+{
+    number_in_base(text, p, 16, 1152921504606846975)
+}
+
+// The number at p in one of the two bases.
+pub fn number_of(text: &[u8], p: usize, hex: bool) -> u64
+    ensures { λ r. ⌜ r ≡ numberAt (cond hex 16 10) (now (text .entry)) p ⌝ }
+{
+    if hex {
+        return hexadecimal(text, p);
+    }
+    decimal(text, p)
+}
+
 // The value whose bits are the hexadecimal number at p.
 pub fn float_value(text: &[u8], p: usize) -> f64
     ensures { λ r. ⌜ r ≡ ofBits binary64 (numberAt 16 (now (text .entry)) p) ⌝ }
 {
-    of_bits(number_in_base(text, p, 16, 1152921504606846975))
+    of_bits(hexadecimal(text, p))
 }
 
 // Whether the bytes of the label stand from p on.

@@ -1,5 +1,6 @@
 -- Lists, tests over ranges of numbers, and sums.
 pub mod Test
+pub mod Every
 pub mod Select
 pub mod Sum
 pub mod Place

@@ -1,4 +1,4 @@
-// The library for C and Rust: every operation of document 01 as a function with C's calling convention. A list is a pointer and a length.
+// The library for C and Rust: every operation as a function with C's calling convention. A list is a pointer and a length.
 // Each is the library's call, with its answer as numbers; include/redstartgilt.h has a paragraph on each.
 ghost use mathlib.Core.Path.{_≡_};
 ghost use lib.ListN.{length};
@@ -11,6 +11,7 @@ ghost use Rattle.factor_order.specs.Permutation.{validateSteps, invertSteps, pe
 ghost use Rattle.columns.specs.OperatorPair.{operatorPair};
 ghost use Rattle.pattern_lists.specs.PatternLists.{PatternLists};
 ghost use Rattle.pattern_lists.specs.PatternCalls.{operatorChecks};
+ghost use Rattle.matrix_market.specs.File.{fileSteps, fileAnswer, fileRows, fileColumns};
 ghost use Rattle.floor.specs.Floored.{floored};
 ghost use Rattle.floor.specs.VarianceFloor.{floorSteps, floorOf};
 ghost use Rattle.floor.specs.declared.variance_floor.VarianceFloor.the-variants.{Zero, PositiveMean};
@@ -24,16 +25,18 @@ ghost use Rattle.original_diagonal.specs.Original.{originalCall, OriginalDiagon
 ghost use Rattle.operator_variances.specs.Transformed.{transformedCall, TransformedDiagonal};
 ghost use Rattle.pattern_lists.specs.ListedMarks.{listReply};
 ghost use Rattle.verdicts.specs.Number.{replyNumber};
-ghost use Rattle.c_replies.specs.Numbers.{selectedNumbers, entryNumbers, pairNumbers, floorNumbers, leastNumbers, Shows};
+ghost use Rattle.c_replies.specs.Numbers.{selectedNumbers, entryNumbers, pairNumbers, requestsNumbers, floorNumbers, leastNumbers, Shows};
 use c_replies::EntryNumbers;
 use c_replies::FloorNumbers;
 use c_replies::LeastNumbers;
 use c_replies::PairNumbers;
+use c_replies::RequestsNumbers;
 use c_replies::SelectedNumbers;
 use c_replies::entry_numbers;
 use c_replies::floor_numbers;
 use c_replies::least_numbers;
 use c_replies::pair_numbers;
+use c_replies::requests_numbers;
 use c_replies::selected_numbers;
 use floor::variance_floor::VarianceFloor;
 use verdicts::checked_number;
@@ -261,6 +264,22 @@ pub extern "C" fn redstartgilt_from_transformed_operator(
         pair_rows,
         pair_columns,
     ))
+}
+
+// Requests from a Matrix Market file.
+#[no_mangle]
+pub extern "C" fn redstartgilt_read_requests(
+    text: &[u8],
+    rows: &mut [u32],
+    columns: &mut [u32],
+) -> RequestsNumbers
+    ensures { λ r. ⌜ r ≡ requestsNumbers (first (fileSteps (now (text .entry)) (length (now (rows .entry))) (length (now (columns .entry)))) (fileAnswer (now (text .entry)))) ⌝ }
+    ensures { λ _. ⌜ now (rows .exit) ≡ after (fileSteps (now (text .entry)) (length (now (rows .entry))) (length (now (columns .entry))))
+        (overwrite (fileRows (now (text .entry))) (now (rows .entry))) (now (rows .entry)) ⌝ }
+    ensures { λ _. ⌜ now (columns .exit) ≡ after (fileSteps (now (text .entry)) (length (now (rows .entry))) (length (now (columns .entry))))
+        (overwrite (fileColumns (now (text .entry))) (now (columns .entry))) (now (columns .entry)) ⌝ }
+{
+    requests_numbers(requests_reader::read_requests(text, rows, columns))
 }
 
 // Whether two lists are a permutation and its inverse.

@@ -16,6 +16,9 @@ pub enum Refusal {
     NotInverse,
     NotFinite,
     BadScale,
+    OtherHeader,
+    MalformedFile,
+    FileIndexOutside,
 }
 
 // Accepted, or why not.

@@ -1,4 +1,5 @@
 // The cases of a text, one after another.
+use super::files::reading;
 use super::floors::least_value;
 use super::floors::stabilization;
 use super::lookups::diagonals;
@@ -32,6 +33,8 @@ fn call(text: &[u8], kind: usize, p: usize) {
         lookups(text, p);
     } else if begins(text, kind, b"diag\n") {
         diagonals(text, p);
+    } else if begins(text, kind, b"mmread\n") {
+        reading(text, p);
     } else if begins(text, kind, b"pat") {
         patterns(text, kind, p);
     } else {

@@ -1,4 +1,4 @@
-// Verdicts: the first of two, one of an output's room, and document 01's numbers.
+// Verdicts: the first of two, one of an output's room, and the numbers of refusals.
 ghost use mathlib.Core.Path.{_≡_};
 ghost use mathlib.Core.List.{[], _∷_};
 ghost use lib.Dec.{ltb};
@@ -29,7 +29,7 @@ pub fn check_output(needed: usize, output: usize) -> Checked
     Checked::Accepted
 }
 
-// Document 01's number of a refusal.
+// The number of a refusal.
 pub fn refusal_number(r: Refusal) -> u32
     ensures { λ k. ⌜ k ≡ refusalNumber r ⌝ }
 {
@@ -48,6 +48,9 @@ pub fn refusal_number(r: Refusal) -> u32
         Refusal::NotInverse => 12,
         Refusal::NotFinite => 13,
         Refusal::BadScale => 14,
+        Refusal::OtherHeader => 15,
+        Refusal::MalformedFile => 16,
+        Refusal::FileIndexOutside => 17,
     }
 }
 

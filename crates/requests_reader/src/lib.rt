@@ -1,0 +1,108 @@
+// Reading requests from a Matrix Market file.
+ghost use Prim.Native.Nat.{_≤_};
+ghost use lib.ListN.{length};
+ghost use Rattle.requests_reader.specs.Reader.{SizeRead, RequestsRead};
+use entries::scan_entries;
+use entries::store_entries;
+use file_lines::read_triple;
+use front::first_line_is;
+use front::skip_comments;
+use refusal::MAX_DIMENSION;
+use refusal::MAX_ENTRIES;
+use refusal::Refusal;
+
+pub mod entries;
+pub mod front;
+
+// The dimension and the number of requests, or why the file is refused.
+pub enum ReadRequests {
+    Read(usize, usize),
+    Refused(Refusal),
+}
+
+// Whether a size line is accepted; then the dimension, the entry count and the place behind it.
+struct Size {
+    accepted: bool,
+    n: usize,
+    count: usize,
+    next: usize,
+}
+
+// The size line at p.
+fn read_size(text: &[u8], p: usize) -> Size
+    requires { ⌜ p ≤ length (now text) ⌝ }
+    ensures { λ r. ⌜ SizeRead (now (text .entry)) p (r .accepted) (r .n) (r .count) (r .next) ⌝ }
+{
+    let line = read_triple(text, p);
+    if !line.formed {
+        return Size {
+            accepted: false,
+            n: 0,
+            count: 0,
+            next: 0,
+        };
+    }
+    if line.first > MAX_DIMENSION {
+        return Size {
+            accepted: false,
+            n: 0,
+            count: 0,
+            next: 0,
+        };
+    }
+    if line.first != line.second {
+        return Size {
+            accepted: false,
+            n: 0,
+            count: 0,
+            next: 0,
+        };
+    }
+    if line.third > MAX_ENTRIES {
+        return Size {
+            accepted: false,
+            n: 0,
+            count: 0,
+            next: 0,
+        };
+    }
+    Size {
+        accepted: true,
+        n: line.first,
+        count: line.third,
+        next: line.next,
+    }
+}
+
+// Reads the file's requests to the front of the two lists, in file order, repeats kept.
+pub fn read_requests(text: &[u8], rows: &mut [u32], columns: &mut [u32]) -> ReadRequests
+    ensures { λ r. ⌜ RequestsRead (now (text .entry)) (now (rows .entry)) (now (columns .entry)) r (now (rows .exit)) (now (columns .exit)) ⌝ }
+{
+    let head = first_line_is(text, b"%%MatrixMarket matrix coordinate pattern symmetric");
+    if !head.ended {
+        return ReadRequests::Refused(Refusal::OtherHeader);
+    }
+    let at = skip_comments(text, head.next);
+    let size = read_size(text, at);
+    if !size.accepted {
+        return ReadRequests::Refused(Refusal::MalformedFile);
+    }
+    let scan = scan_entries(text, size.next, size.n);
+    if !scan.formed {
+        return ReadRequests::Refused(Refusal::MalformedFile);
+    }
+    if scan.count != size.count {
+        return ReadRequests::Refused(Refusal::MalformedFile);
+    }
+    if scan.outside {
+        return ReadRequests::Refused(Refusal::FileIndexOutside);
+    }
+    if rows.len() < scan.count {
+        return ReadRequests::Refused(Refusal::TooShort);
+    }
+    if columns.len() < scan.count {
+        return ReadRequests::Refused(Refusal::TooShort);
+    }
+    store_entries(text, size.next, scan.count, rows, columns);
+    ReadRequests::Read(size.n, scan.count)
+}
