@@ -36,7 +36,10 @@ enum {
     REDSTARTGILT_DUPLICATE_ENTRY = 11,
     REDSTARTGILT_NOT_INVERSE = 12,
     REDSTARTGILT_NOT_FINITE = 13,
-    REDSTARTGILT_BAD_SCALE = 14
+    REDSTARTGILT_BAD_SCALE = 14,
+    REDSTARTGILT_OTHER_HEADER = 15,
+    REDSTARTGILT_MALFORMED_FILE = 16,
+    REDSTARTGILT_FILE_INDEX_OUTSIDE = 17
 };
 
 /* Statuses of a call that is not refused. */
@@ -61,6 +64,10 @@ typedef struct { uint32_t refusal; size_t pairs; } redstartgilt_pairs;
 
 /* The reply of the floor: a refusal, or the floor and how many values were raised to it. */
 typedef struct { uint32_t refusal; double floor; size_t floor_hits; } redstartgilt_floored;
+
+/* The reply of reading a request file: a refusal, or the dimension and the number of requests written. On a refusal both
+ * are 0. */
+typedef struct { uint32_t refusal; size_t dimension; size_t requests; } redstartgilt_requests;
 
 /* How many values are negative, and the least of all. */
 typedef struct { size_t num_negative; double min_value; } redstartgilt_least;
@@ -150,6 +157,32 @@ redstartgilt_selected redstartgilt_selected_inverse_transformed_diag(
     size_t ncols, const uint32_t *row_starts, size_t row_starts_len, const uint32_t *columns, size_t columns_len, const double *weights, size_t weights_len,
     uint32_t *result_starts, size_t result_starts_len, uint32_t *result_rows, size_t result_rows_len, double *result_values, size_t result_values_len,
     uint32_t *scratch, size_t scratch_len, double *output, size_t output_len);
+
+/* Requests from a Matrix Market file. The text is the whole file, of any length:
+ *   the header, which is the first line, exactly %%MatrixMarket matrix coordinate pattern symmetric
+ *   any number of comment lines, each with % as its first byte
+ *   the size line: rows, columns and entry count
+ *   so many entry lines: row and column, counted from 1, on or below the diagonal.
+ * Lines end in LF, the last perhaps without it; a CR is not part of an end. Lines after the header that are empty or only
+ * spaces and tabs are skipped. A number is one or more digits, however many; spaces and tabs part the numbers of a line
+ * and may also stand around them.
+ *
+ * Request k is (rows[k], columns[k]): the indices of entry k, each less 1, in file order, repeats kept. With the reply's
+ * dimension and its number of requests for both lengths they are a request of selected entries. Both lists need a place
+ * for each entry: 1,048,576 places are enough for every file, so are as many as the text has LFs, and the size line has
+ * the number itself. Refuses, in this order, each step for the whole file before the next:
+ *   15  another first line, or none
+ *   16  a size or entry line that is missing or not of this form, unequal sizes, a size above 2,048, an entry count that
+ *       is above 1,048,576 or not the number of entry lines
+ *   17  an index of 0 or above the size, or a row less than its column
+ *   7   a list too short
+ *
+ *   const char text[] = "%%MatrixMarket matrix coordinate pattern symmetric\n3 3 2\n3 1\n2 2\n";
+ *   uint32_t rows[2], columns[2];
+ *   redstartgilt_requests read = redstartgilt_read_requests((const uint8_t *)text, sizeof text - 1, rows, 2, columns, 2);
+ * gives refusal 0, dimension 3 and 2 requests, (2, 0) and (1, 1). */
+redstartgilt_requests redstartgilt_read_requests(
+    const uint8_t *text, size_t text_len, uint32_t *rows, size_t rows_len, uint32_t *columns, size_t columns_len);
 
 /* The pairs of the factor's kept entries, ascending by row then column: pair k is (pair_rows[k], pair_columns[k]).
  * Scratch needs T words, the outputs a place for each pair, at most the lesser of rows_len and T. Refuses with 1, 2, 3

@@ -58,6 +58,17 @@ int main(void)
     printf("diagonal: refusal %u, %.17g %.17g, %zu negative, least %.17g\n",
         (unsigned)refusal, diagonal[0], diagonal[1], least.num_negative, least.min_value);
 
+    /* Requests from the bytes of a Matrix Market file, counted from 0; the end of the C text is no part of them. */
+    const char file[] = "%%MatrixMarket matrix coordinate pattern symmetric\n% cells\n2 2 2\n2 1\n1 1\n";
+    uint32_t read_rows[2], read_columns[2];
+    redstartgilt_requests requests = redstartgilt_read_requests(
+        (const uint8_t *)file, sizeof(file) - 1, read_rows, COUNT(read_rows), read_columns, COUNT(read_columns));
+    printf("file: refusal %u, dimension %zu, %zu requests:",
+        (unsigned)requests.refusal, requests.dimension, requests.requests);
+    for (size_t place = 0; place < requests.requests; place++)
+        printf(" (%u, %u)", (unsigned)read_rows[place], (unsigned)read_columns[place]);
+    printf("\n");
+
     /* A list too short is refused with 7, and nothing is written. */
     reply = redstartgilt_selected_inverse_entries(
         2, starts, COUNT(starts), rows, COUNT(rows), values, COUNT(values),

@@ -34,7 +34,7 @@ pub enum Error {
     RequestOutOfRange,
     /// 6: a column without a diagonal entry, or with one at most 0.0; an entry of 0.0 counts as none.
     NonPositiveDefinite,
-    /// 7: a list lent for results, scratch or output that is too short.
+    /// 7: a list lent for results, requests, scratch or output that is too short.
     TooShort,
     /// 8: a pair that is not among the selected entries; or, of the diagonal in original order, a closed set above the
     /// default limit.
@@ -51,11 +51,19 @@ pub enum Error {
     NotFinite,
     /// 14: a floor's scale that is not finite, or below 0.
     BadScale,
+    /// 15: a request file whose first line is not exactly [`REQUEST_FILE_HEADER`](crate::REQUEST_FILE_HEADER).
+    OtherHeader,
+    /// 16: a request file with a size or entry line that is missing or not of its form, with unequal sizes or one above
+    /// [`MAX_DIMENSION`](crate::MAX_DIMENSION), or with an entry count that is above
+    /// [`MAX_ENTRIES`](crate::MAX_ENTRIES) or not the number of its entry lines.
+    MalformedFile,
+    /// 17: a request file with an index of 0, one above its size, or a row less than its column.
+    FileIndexOutside,
 }
 
 impl Error {
     /// Every refusal, by number.
-    pub const ALL: [Error; 14] = [
+    pub const ALL: [Error; 17] = [
         Error::TooLarge,
         Error::BrokenStarts,
         Error::BrokenRows,
@@ -70,6 +78,9 @@ impl Error {
         Error::NotInverse,
         Error::NotFinite,
         Error::BadScale,
+        Error::OtherHeader,
+        Error::MalformedFile,
+        Error::FileIndexOutside,
     ];
 
     /// The refusal's number.
@@ -89,6 +100,9 @@ impl Error {
             Error::NotInverse => sys::REDSTARTGILT_NOT_INVERSE,
             Error::NotFinite => sys::REDSTARTGILT_NOT_FINITE,
             Error::BadScale => sys::REDSTARTGILT_BAD_SCALE,
+            Error::OtherHeader => sys::REDSTARTGILT_OTHER_HEADER,
+            Error::MalformedFile => sys::REDSTARTGILT_MALFORMED_FILE,
+            Error::FileIndexOutside => sys::REDSTARTGILT_FILE_INDEX_OUTSIDE,
         }
     }
 
@@ -117,7 +131,7 @@ impl Error {
             Error::NonPositiveDefinite => {
                 "not positive definite: a column of the factor has no diagonal entry, or one that is at most 0"
             }
-            Error::TooShort => "a list lent for results, scratch or output is too short",
+            Error::TooShort => "a list lent for results, requests, scratch or output is too short",
             Error::NotCovered => {
                 "not covered: the pair is not among the selected entries, or all diagonals need more entries than the \
                  limit of 10 times the stored entries"
@@ -131,6 +145,18 @@ impl Error {
             Error::NotInverse => "the two permutations are not each other's inverses",
             Error::NotFinite => "a variance is not finite",
             Error::BadScale => "the scale of the floor is not finite, or is below 0",
+            Error::OtherHeader => {
+                "another header: the first line of a request file must be exactly %%MatrixMarket matrix coordinate \
+                 pattern symmetric"
+            }
+            Error::MalformedFile => {
+                "malformed request file: after comments it must have a line with two equal sizes of at most 2,048 and \
+                 the number of entries, at most 1,048,576, then so many lines of two numbers"
+            }
+            Error::FileIndexOutside => {
+                "an index of the request file is outside: indices go from 1 to the size, and a row must be at least its \
+                 column"
+            }
         }
     }
 

@@ -1,8 +1,8 @@
 //! The calls on slices that the caller lends. Nothing is allocated or kept.
 //!
 //! A list may be longer than needed; places past those filled keep their contents. A refused call leaves every list as
-//! it was, unless its documentation says otherwise. Lengths that suffice: [`result_places`], [`scratch_words`] and
-//! [`pair_total`].
+//! it was, unless its documentation says otherwise. Lengths that suffice: [`result_places`], [`scratch_words`],
+//! [`pair_total`] and [`request_places`].
 //!
 //! ```
 //! use redstartgilt::lent::{self, EntryLists, FactorLists, ResultLists};
@@ -23,7 +23,7 @@
 //! ```
 
 use crate::sys;
-use crate::{CountAndLeast, Error, SelectedInverseDiagnostics, VarianceFloor};
+use crate::{CountAndLeast, Error, SelectedInverseDiagnostics, VarianceFloor, MAX_ENTRIES};
 
 /// A factor of dimension n in compressed columns: n + 1 starts, then each column's row indices, ascending, and values.
 #[derive(Debug, Clone, Copy)]
@@ -82,6 +82,15 @@ pub struct Floored {
     pub floor_hits: usize,
 }
 
+/// What a request file holds beside its pairs.
+#[derive(Debug, Clone, Copy, PartialEq, Eq)]
+pub struct FileRequests {
+    /// The dimension.
+    pub dimension: usize,
+    /// The number of requests, repeats counted.
+    pub requests: usize,
+}
+
 /// The number of pairs (row, column) with row ≥ column in dimension n, n(n+1)/2; `usize::MAX` where it is more.
 pub const fn pair_total(n: usize) -> usize {
     let total = n as u128 * (n as u128 + 1) / 2;
@@ -110,6 +119,14 @@ pub const fn scratch_words(n: usize) -> usize {
 /// The limit that a call without one applies: 10 times the stored entries.
 pub const fn default_limit(stored_entries: usize) -> usize {
     stored_entries.saturating_mul(10)
+}
+
+/// The places that suffice for the requests of a file: one for each line end, but no more than
+/// [`MAX_ENTRIES`].
+pub fn request_places(text: &[u8]) -> usize {
+    // The header and the size line are lines too, so the last entry may do without an end.
+    let line_ends = text.iter().filter(|byte| **byte == b'\n').count();
+    line_ends.min(MAX_ENTRIES)
 }
 
 /// Selected entries: fills `result` with the closed set of the requests, column by column, rows ascending.
@@ -308,6 +325,40 @@ pub fn selected_inverse_transformed_diag(
         )
     };
     SelectedInverseDiagnostics::of_reply(reply)
+}
+
+/// Writes the requests of a Matrix Market file, counted from 0, in file order with repeats kept.
+///
+/// What the file must be is said at [`REQUEST_FILE_HEADER`](crate::REQUEST_FILE_HEADER). Refuses with 15, 16, 17, each
+/// for the whole file before the next, then with 7 for a list shorter than the entry count; [`request_places`] suffices.
+/// [`RequestFileFault::find`](crate::RequestFileFault::find) tells the line that a file is refused for.
+///
+/// ```
+/// use redstartgilt::lent;
+///
+/// let text = b"%%MatrixMarket matrix coordinate pattern symmetric\n3 3 3\n3 1\n2 2\n3 1\n";
+/// let (mut rows, mut columns) = ([7; 4], [7; 4]);
+/// let file = lent::read_requests(text, &mut rows, &mut columns)?;
+/// assert_eq!((file.dimension, file.requests), (3, 3));
+/// assert_eq!((rows, columns), ([2, 1, 2, 7], [0, 1, 0, 7]));
+/// # Ok::<(), redstartgilt::Error>(())
+/// ```
+pub fn read_requests(text: &[u8], rows: &mut [u32], columns: &mut [u32]) -> Result<FileRequests, Error> {
+    let reply = unsafe {
+        sys::redstartgilt_read_requests(
+            text.as_ptr(),
+            text.len(),
+            rows.as_mut_ptr(),
+            rows.len(),
+            columns.as_mut_ptr(),
+            columns.len(),
+        )
+    };
+    Error::check(reply.refusal)?;
+    Ok(FileRequests {
+        dimension: reply.dimension,
+        requests: reply.requests,
+    })
 }
 
 /// Writes the pairs of the factor's kept entries, ascending by row then column, and gives their number.

@@ -46,6 +46,7 @@ pub mod lent;
 mod operator;
 mod pattern;
 mod permutation;
+mod request_file;
 pub mod sys;
 mod variances;
 mod workspace;
@@ -61,6 +62,7 @@ pub use inverse::{
 pub use operator::SparseRowOperator;
 pub use pattern::SparseSymmetricPattern;
 pub use permutation::Permutation;
+pub use request_file::{RequestFileError, RequestFileFault, REQUEST_FILE_HEADER};
 pub use variances::{
     selected_inverse_diag, selected_inverse_diag_with_diagnostics, selected_inverse_diag_with_diagnostics_in,
     selected_inverse_transformed_diag, selected_inverse_transformed_diag_in, SelectedInverseDiagResult,
@@ -69,9 +71,9 @@ pub use variances::{
 pub use workspace::Workspace;
 
 /// The largest dimension, permutation and number of operator rows; above it a call is refused with
-/// [`Error::TooLarge`].
+/// [`Error::TooLarge`], a request file with [`Error::MalformedFile`].
 pub const MAX_DIMENSION: usize = 2_048;
 
 /// The largest number of stored entries, requests, operator terms and variances; above it a call is refused with
-/// [`Error::TooLarge`].
+/// [`Error::TooLarge`], a request file with [`Error::MalformedFile`].
 pub const MAX_ENTRIES: usize = 1_048_576;

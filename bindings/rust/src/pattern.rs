@@ -2,8 +2,9 @@
 
 use crate::index::word;
 use crate::lent;
-use crate::{CholeskyFactor, Error, SparseRowOperator};
+use crate::{CholeskyFactor, Error, RequestFileError, RequestFileFault, SparseRowOperator};
 use std::collections::BTreeSet;
+use std::path::Path;
 
 /// A set of pairs of a symmetric matrix, each with row ≥ column.
 ///
@@ -103,6 +104,59 @@ impl SparseSymmetricPattern {
         })
     }
 
+    /// The pairs of a Matrix Market file that begins with [`REQUEST_FILE_HEADER`](crate::REQUEST_FILE_HEADER), counted
+    /// from 0; the file counts from 1.
+    ///
+    /// Refuses with [`Error::OtherHeader`], [`Error::MalformedFile`] and [`Error::FileIndexOutside`];
+    /// [`RequestFileFault::find`] then tells the line and the reason. The file's order and its repeats, which a set does
+    /// not have, are kept by [`lent::read_requests`].
+    ///
+    /// ```
+    /// use redstartgilt::{Error, SparseSymmetricPattern};
+    ///
+    /// let text = b"%%MatrixMarket matrix coordinate pattern symmetric\n% cells\n3 3 3\n3 1\n2 2\n3 1\n";
+    /// let pattern = SparseSymmetricPattern::from_matrix_market(text)?;
+    /// assert_eq!(pattern.dimension, 3);
+    /// assert_eq!(pattern.pairs.into_iter().collect::<Vec<_>>(), [(1, 1), (2, 0)]);
+    ///
+    /// let refused = SparseSymmetricPattern::from_matrix_market(b"3 3 1\n3 1\n");
+    /// assert_eq!(refused, Err(Error::OtherHeader));
+    /// # Ok::<(), redstartgilt::Error>(())
+    /// ```
+    pub fn from_matrix_market(text: &[u8]) -> Result<Self, Error> {
+        let places = lent::request_places(text);
+        let (mut rows, mut columns) = (vec![0; places], vec![0; places]);
+        let file = lent::read_requests(text, &mut rows, &mut columns)?;
+        Ok(Self::of_lists(
+            file.dimension,
+            &rows[..file.requests],
+            &columns[..file.requests],
+        ))
+    }
+
+    /// The pairs of a Matrix Market file by its path, as [`from_matrix_market`](Self::from_matrix_market) reads its
+    /// bytes. A refusal has the line and the reason with it.
+    ///
+    /// ```
+    /// use redstartgilt::{RequestFileError, SparseSymmetricPattern};
+    ///
+    /// let path = std::env::temp_dir().join(format!("cells-{}.mtx", std::process::id()));
+    /// std::fs::write(&path, "%%MatrixMarket matrix coordinate pattern symmetric\n3 3 1\n3 1\n")?;
+    /// let pattern = SparseSymmetricPattern::read_matrix_market(&path).unwrap();
+    /// assert!(pattern.contains(2, 0));
+    ///
+    /// std::fs::write(&path, "%%MatrixMarket matrix coordinate pattern symmetric\n3 3 1\n3 4\n")?;
+    /// let refused = SparseSymmetricPattern::read_matrix_market(&path).unwrap_err();
+    /// assert_eq!(refused.to_string(), "refusal 17: line 3: column 4 is beyond the dimension 3");
+    /// # std::fs::remove_file(&path)?;
+    /// # Ok::<(), std::io::Error>(())
+    /// ```
+    pub fn read_matrix_market(path: impl AsRef<Path>) -> Result<Self, RequestFileError> {
+        let text = std::fs::read(path).map_err(RequestFileError::Unreadable)?;
+        Self::from_matrix_market(&text)
+            .map_err(|error| RequestFileError::Refused(RequestFileFault::of_refusal(&text, error)))
+    }
+
     /// The pairs that a call lists, at most `most` of them. `dimension` must be one that the library accepts, as the
     /// lists have its square's length.
     fn listed(
@@ -115,14 +169,16 @@ impl SparseSymmetricPattern {
         let mut rows = vec![0; most.min(total)];
         let mut columns = vec![0; most.min(total)];
         let pairs = list(&mut scratch, &mut rows, &mut columns)?;
-        Ok(Self {
+        Ok(Self::of_lists(dimension, &rows[..pairs], &columns[..pairs]))
+    }
+
+    /// The pairs of two lists, each with row ≥ column.
+    fn of_lists(dimension: usize, rows: &[u32], columns: &[u32]) -> Self {
+        let pairs = rows.iter().zip(columns);
+        Self {
             dimension,
-            pairs: rows[..pairs]
-                .iter()
-                .zip(&columns[..pairs])
-                .map(|(row, column)| (*row as usize, *column as usize))
-                .collect(),
-        })
+            pairs: pairs.map(|(row, column)| (*row as usize, *column as usize)).collect(),
+        }
     }
 
     /// The rows and the columns of the pairs.

@@ -35,6 +35,12 @@ pub const REDSTARTGILT_NOT_INVERSE: u32 = 12;
 pub const REDSTARTGILT_NOT_FINITE: u32 = 13;
 /// A floor's scale that is not finite or below 0.
 pub const REDSTARTGILT_BAD_SCALE: u32 = 14;
+/// A request file whose first line is not the header.
+pub const REDSTARTGILT_OTHER_HEADER: u32 = 15;
+/// A request file whose size line, entry lines or number of entries are not as they must be.
+pub const REDSTARTGILT_MALFORMED_FILE: u32 = 16;
+/// A request file with an index outside its size, or above the diagonal.
+pub const REDSTARTGILT_FILE_INDEX_OUTSIDE: u32 = 17;
 
 /// Status of an answer with entries.
 pub const REDSTARTGILT_COMPLETE: u32 = 0;
@@ -96,6 +102,20 @@ pub struct redstartgilt_floored {
     pub floor: f64,
     /// Values that were not above the floor.
     pub floor_hits: usize,
+}
+
+/// The reply of reading a request file: a refusal, or the dimension and the number of requests written. On a refusal
+/// both are 0.
+#[repr(C)]
+#[derive(Debug, Clone, Copy, PartialEq)]
+#[allow(non_camel_case_types)]
+pub struct redstartgilt_requests {
+    /// The refusal's number, or 0.
+    pub refusal: u32,
+    /// The size that the file has.
+    pub dimension: usize,
+    /// Requests written.
+    pub requests: usize,
 }
 
 /// How many values are negative, and the least of them all.
@@ -233,6 +253,16 @@ extern "C" {
         output: *mut f64,
         output_len: usize,
     ) -> redstartgilt_selected;
+
+    /// Requests from a Matrix Market file.
+    pub fn redstartgilt_read_requests(
+        text: *const u8,
+        text_len: usize,
+        rows: *mut u32,
+        rows_len: usize,
+        columns: *mut u32,
+        columns_len: usize,
+    ) -> redstartgilt_requests;
 
     /// The pairs of a factor's kept entries.
     pub fn redstartgilt_from_cholesky_factor(

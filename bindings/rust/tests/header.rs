@@ -61,6 +61,7 @@ fn field(declaration: &str) -> String {
 
 fn kind_of(kind: &str) -> &str {
     match kind {
+        "uint8_t" => "u8",
         "uint32_t" => "u32",
         "size_t" => "usize",
         "double" => "f64",
@@ -142,17 +143,17 @@ fn sys_numbers() -> BTreeSet<String> {
 #[test]
 fn functions() {
     assert_eq!(sys_functions(), header_functions());
-    assert_eq!(sys_functions().len(), 14);
+    assert_eq!(sys_functions().len(), 15);
 }
 
 #[test]
 fn structs() {
     assert_eq!(sys_structs(), header_structs());
-    assert_eq!(sys_structs().len(), 5);
+    assert_eq!(sys_structs().len(), 6);
 }
 
 #[test]
 fn numbers() {
     assert_eq!(sys_numbers(), header_numbers());
-    assert_eq!(sys_numbers().len(), 17);
+    assert_eq!(sys_numbers().len(), 20);
 }

@@ -20,7 +20,7 @@ fn numbers_and_words() {
         assert_eq!(error.to_string(), format!("refusal {number}: {}", error.reason()));
     }
     assert_eq!(Error::from_number(0), None);
-    assert_eq!(Error::from_number(15), None);
+    assert_eq!(Error::from_number(18), None);
 }
 
 #[test]
@@ -213,6 +213,19 @@ fn floors() {
 }
 
 #[test]
+fn request_files() {
+    let header = redstartgilt::REQUEST_FILE_HEADER;
+    let read = |text: String| SparseSymmetricPattern::from_matrix_market(text.as_bytes());
+    assert_eq!(read(format!("{header} \n1 1 0\n")), Err(Error::OtherHeader));
+    assert_eq!(read(format!("{header}\n1 2 0\n")), Err(Error::MalformedFile));
+    assert_eq!(read(format!("{header}\n1 1 1\n1 2\n")), Err(Error::FileIndexOutside));
+    assert_eq!(
+        read(format!("{header}\n1 1 1\n1 1\n")),
+        Ok(SparseSymmetricPattern::diagonal(1))
+    );
+}
+
+#[test]
 fn too_short() {
     let selected = selected_inverse_entries(&f2(), &SparseSymmetricPattern::diagonal(2)).unwrap();
     let inverse = selected.inverse.unwrap();
@@ -343,6 +356,20 @@ fn lookups_in_broken_lists() {
     };
     assert_eq!(lent::get(nothing, 0, 0), Err(Error::BrokenStarts));
     assert_eq!(lent::diag(nothing, &mut []), Err(Error::BrokenStarts));
+}
+
+#[test]
+fn short_request_lists() {
+    let text = format!("{}\n2 2 2\n2 1\n2 2\n", redstartgilt::REQUEST_FILE_HEADER);
+    for (rows, columns) in [(1, 2), (2, 1), (0, 5), (5, 0)] {
+        let (mut rows, mut columns) = (vec![7; rows], vec![7; columns]);
+        let reply = lent::read_requests(text.as_bytes(), &mut rows, &mut columns);
+        assert_eq!(reply, Err(Error::TooShort));
+        assert!(rows.iter().chain(&columns).all(|word| *word == 7));
+    }
+    let (mut rows, mut columns) = ([7; 2], [7; 3]);
+    lent::read_requests(text.as_bytes(), &mut rows, &mut columns).unwrap();
+    assert_eq!((rows, columns), ([1, 1], [0, 1, 7]));
 }
 
 #[test]

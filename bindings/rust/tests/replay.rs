@@ -36,6 +36,16 @@ impl<'a> Case<'a> {
         self.items(name).iter().map(|word| word.parse().unwrap()).collect()
     }
 
+    fn bytes(&self, name: &str) -> Vec<u8> {
+        let items = self.items(name).iter();
+        items
+            .map(|word| {
+                assert_eq!(word.len(), 2, "{name}");
+                u8::from_str_radix(word, 16).unwrap()
+            })
+            .collect()
+    }
+
     fn values(&self, name: &str) -> Vec<f64> {
         self.items(name).iter().map(|word| value(word)).collect()
     }
@@ -324,6 +334,29 @@ fn diagonals(answer: &mut String, case: &Case<'_>) {
     put_values(answer, "out", &output);
 }
 
+fn request_files(answer: &mut String, case: &Case<'_>) {
+    let file = case.bytes("file");
+    let mut rows = case.lent_words("lrrows", 4_608);
+    let mut columns = case.lent_words("lrcols", 4_608);
+    let reply = unsafe {
+        sys::redstartgilt_read_requests(
+            file.as_ptr(),
+            file.len(),
+            rows.as_mut_ptr(),
+            rows.len(),
+            columns.as_mut_ptr(),
+            columns.len(),
+        )
+    };
+    if put_reply(answer, reply.refusal) {
+        let _ = write!(answer, "rdim {}\nrequests {}\n", reply.dimension, reply.requests);
+    } else {
+        assert_eq!((reply.dimension, reply.requests), (0, 0));
+    }
+    put_words(answer, "rrows", &rows);
+    put_words(answer, "rcols", &columns);
+}
+
 fn patterns(answer: &mut String, case: &Case<'_>) {
     let mut scratch = case.lent_words("lscratch", 33_024);
     let mut pair_rows = case.lent_words("lprows", 33_024);
@@ -450,6 +483,7 @@ fn answer(case: &Case<'_>) -> String {
             put_gets(&mut answer, &starts, &rows, &values, case);
         }
         "diag" => diagonals(&mut answer, case),
+        "mmread" => request_files(&mut answer, case),
         "patfactor" | "patoperator" => patterns(&mut answer, case),
         "permvalidate" | "permfrom" | "permapply" => permutations(&mut answer, case),
         "floor" => floors(&mut answer, case),

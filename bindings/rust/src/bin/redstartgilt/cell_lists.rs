@@ -2,17 +2,20 @@
 
 use crate::failure::Failure;
 use crate::lines::Lines;
-use redstartgilt::{Error, Permutation, SparseSymmetricPattern};
+use redstartgilt::{Error, Permutation, RequestFileFault, SparseSymmetricPattern};
 use std::path::Path;
 
 fn is_comment(line: &str) -> bool {
     line.starts_with(['%', '#'])
 }
 
+fn text_of(file: &Path) -> Result<Vec<u8>, Failure> {
+    std::fs::read(file).map_err(|error| Failure::in_file(file, error))
+}
+
 /// The numbers of each line, counted from 0, with the line's number; each line must have as many as `names`.
-fn indices<const COUNT: usize>(file: &Path, names: &str) -> Result<Vec<(usize, [usize; COUNT])>, Failure> {
-    let text = std::fs::read(file).map_err(|error| Failure::in_file(file, error))?;
-    let mut lines = Lines::new(file, &text);
+fn indices<const COUNT: usize>(file: &Path, text: &[u8], names: &str) -> Result<Vec<(usize, [usize; COUNT])>, Failure> {
+    let mut lines = Lines::new(file, text);
     let mut found = Vec::new();
     while let Some((number, line)) = lines.next_filled(is_comment)? {
         let words = line.split_whitespace().collect::<Vec<_>>();
@@ -41,6 +44,44 @@ fn indices<const COUNT: usize>(file: &Path, names: &str) -> Result<Vec<(usize, [
     Ok(found)
 }
 
+/// Whether a file is to be read as a Matrix Market file: its first line begins as the headers of such files do. The
+/// library then says whether it is one, so that another header is refused and not passed over as a comment.
+fn is_matrix_market(text: &[u8]) -> bool {
+    const BEGINNING: &[u8] = b"%%MatrixMarket";
+    const BYTE_ORDER_MARK: &[u8] = b"\xef\xbb\xbf";
+    let text = text.strip_prefix(BYTE_ORDER_MARK).unwrap_or(text);
+    text.get(..BEGINNING.len())
+        .is_some_and(|beginning| beginning.eq_ignore_ascii_case(BEGINNING))
+}
+
+/// The pairs of a Matrix Market file, which must be of this dimension.
+fn matrix_market(file: &Path, text: &[u8], dimension: usize) -> Result<SparseSymmetricPattern, Failure> {
+    let pattern = SparseSymmetricPattern::from_matrix_market(text).map_err(|error| refused_file(file, text, error))?;
+    if pattern.dimension != dimension {
+        return Err(Failure::refused_because(
+            file.display(),
+            Error::DimensionMismatch,
+            format_args!(
+                "the file is of dimension {}, the factor of dimension {dimension}",
+                pattern.dimension
+            ),
+        ));
+    }
+    Ok(pattern)
+}
+
+/// The refusal of a Matrix Market file, with the line and the reason.
+fn refused_file(file: &Path, text: &[u8], error: Error) -> Failure {
+    let Some(fault) = RequestFileFault::find(text) else {
+        return Failure::refused_at(file.display(), error);
+    };
+    let place = match fault.line {
+        Some(line) => format!("{}:{line}", file.display()),
+        None => file.display().to_string(),
+    };
+    Failure::refused_because(place, fault.error, fault.reason)
+}
+
 /// The requested pairs of a file, moved to the factor's order.
 pub fn requests(
     file: &Path,
@@ -53,8 +94,17 @@ pub fn requests(
             .and_then(|permutation| permutation.orig_to_perm.get(cell).copied())
             .unwrap_or(cell)
     };
+    let text = text_of(file)?;
     let mut pattern = SparseSymmetricPattern::new(dimension);
-    for (line, [row, column]) in indices::<2>(file, "two indices")? {
+    if is_matrix_market(&text) {
+        for (row, column) in matrix_market(file, &text, dimension)?.pairs {
+            pattern
+                .insert(place(row), place(column))
+                .map_err(|error| Failure::refused_at(file.display(), error))?;
+        }
+        return Ok(pattern);
+    }
+    for (line, [row, column]) in indices::<2>(file, &text, "two indices")? {
         pattern
             .insert(place(row), place(column))
             .map_err(|error| Failure::refused_at(format_args!("{}:{line}", file.display()), error))?;
@@ -64,7 +114,7 @@ pub fn requests(
 
 /// The permutation of a file, for a factor of this dimension.
 pub fn permutation(file: &Path, dimension: usize) -> Result<Permutation, Failure> {
-    let orig_to_perm = indices::<1>(file, "one index")?
+    let orig_to_perm = indices::<1>(file, &text_of(file)?, "one index")?
         .into_iter()
         .map(|(_, [place])| place)
         .collect::<Vec<_>>();

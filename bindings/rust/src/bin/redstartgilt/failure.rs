@@ -53,8 +53,13 @@ impl Failure {
 
     /// The library's refusal, with the place that it is about.
     pub fn refused_at(place: impl Display, error: redstartgilt::Error) -> Self {
+        Self::refused_because(place, error, error.reason())
+    }
+
+    /// The same with a reason that says more than the refusal's own.
+    pub fn refused_because(place: impl Display, error: redstartgilt::Error, reason: impl Display) -> Self {
         Self {
-            message: format!("{place}: {error}"),
+            message: format!("{place}: refusal {}: {reason}", error.number()),
             status: REFUSED + error.number() as u8,
         }
     }

@@ -20,8 +20,9 @@ Indices count from 1 in all files and in all output. The command prints the vari
 the inverse of L times its transpose. In a general file, entries above the diagonal and zeros are dropped.
 
 Options:
-  --requests FILE     the pairs whose entries are wanted, two indices a line; without it all diagonals. Lines that are
-                      empty or begin with % or # are passed over, here and in the next
+  --requests FILE     the pairs whose entries are wanted; without it all diagonals. Two indices a line, in either order;
+                      lines that are empty or begin with % or # are passed over, here and in the next. Or a Matrix
+                      Market file, see below
   --permutation FILE  the order of the factor: line i has the place of cell i in the factor. Requests and output are
                       then in the order of the cells, not of the factor
   --limit N           give no entries if the requests and what the recurrence needs for them are more than N pairs;
@@ -34,12 +35,20 @@ Options:
   --demo              take no file: a small harbour, made and factorised by the command
   --help, --version
 
+A requests file whose first line begins with %%MatrixMarket, in small letters or capitals, is read as a Matrix Market
+file, every other one as a list of pairs. That line must be exactly
+  %%MatrixMarket matrix coordinate pattern symmetric
+Another such header is refused with 15, and not taken for a comment. Then come comment lines that begin with %, a line
+with rows, columns and entries, both sizes that of the factor, and a line with row and column for each entry, on or
+below the diagonal. Lines end in LF, not in CR LF. The message of a refusal has the file, the line and the reason.
+
 A cell is printed only if its variance was computed: with --requests not all need be. Values are printed with as many
 digits as are needed to read them back bit for bit.
 
 Exit status:
   0   done
-  1   a file cannot be read or written, or is malformed: the message has its name and line
+  1   a file cannot be read or written, or is malformed: the message has its name and line. A malformed Matrix Market
+      file of requests is 25 to 27, one of another dimension 14
   2   bad usage
   3   ClosureTooLarge: the requests need more pairs than the limit; without --requests, --limit and --entries it is 18
   10 + N  the library refuses with number N:
