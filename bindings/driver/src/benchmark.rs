@@ -12,6 +12,7 @@ use crate::grid::grid;
 use crate::lend::lend;
 use crate::list::List;
 use crate::random::Random;
+use crate::reading;
 use crate::rules;
 use crate::text::{Block, Blocks};
 use std::fs::File;
@@ -31,7 +32,7 @@ extern "C" {
 }
 
 /// The processor time of this process in milliseconds.
-fn processor_ms() -> f64 {
+pub fn processor_ms() -> f64 {
     const CLOCK_PROCESS_CPUTIME_ID: i32 = 2;
     let mut time = [0; 2];
     assert_eq!(unsafe { clock_gettime(CLOCK_PROCESS_CPUTIME_ID, &mut time) }, 0);
@@ -120,7 +121,7 @@ pub fn benchmark(folder: &Path, runs: usize) -> io::Result<()> {
     rows_of_the_timing_set(folder, runs)?;
     growth(folder, runs)?;
     split(runs);
-    Ok(())
+    reading::rows_of_files(runs)
 }
 
 /// Makes the call of one case of the timing set alone, for a profiler.
@@ -142,7 +143,7 @@ pub fn profile(folder: &Path, name: &str, runs: usize) -> io::Result<()> {
     Ok(())
 }
 
-fn machine() -> String {
+pub fn machine() -> String {
     let file = File::open("/proc/cpuinfo").map(BufReader::new);
     let lines = file.into_iter().flat_map(|f| f.lines().map_while(Result::ok));
     lines

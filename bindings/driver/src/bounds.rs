@@ -1,13 +1,16 @@
 //! Calls at the bounds.
 
 use crate::call::{Call, Function, FUNCTIONS};
+use crate::files::plain_file;
 use crate::lend::lend;
 use crate::list::List;
+use crate::matrix_market::HEADER;
 use crate::random::Random;
 use crate::refusals::{MOST_COLUMNS, MOST_ENTRIES};
 use crate::sound::sound;
 
-/// Calls on both sides of each bound of document 01's step 1; those within it are accepted, or refused by a later step.
+/// Calls on both sides of each bound of document 01's step 1, and of those of files; those within it are accepted, or
+/// refused by a later step.
 pub fn bounds() -> Vec<Call> {
     let mut random = Random::new(0);
     let mut calls = Vec::new();
@@ -86,8 +89,71 @@ pub fn bounds() -> Vec<Call> {
             ..call
         });
     }
+    let file = |text: &Vec<u8>| Call { function: Function::ReadRequests, text: List::new(text), ..Call::default() };
+    calls.extend(files().iter().map(file));
     for call in &mut calls {
         lend(call, &mut random, |_, need| need);
     }
+    // files of as many entries as are allowed, with a list one place short
+    let longest = file(&longest_file(MOST_ENTRIES));
+    let words = |count: usize| List::made(count, |at| at as u32);
+    for (rows, columns) in [(MOST_ENTRIES - 1, MOST_ENTRIES), (MOST_ENTRIES, MOST_ENTRIES - 1)] {
+        calls.push(Call { request_rows: words(rows), request_columns: words(columns), ..longest.clone() });
+    }
     calls
+}
+
+/// A file of so many entries, four bytes each.
+fn longest_file(count: usize) -> Vec<u8> {
+    let mut text = plain_file([&[MOST_COLUMNS, MOST_COLUMNS, count][..]]);
+    for k in 0..count {
+        text.extend([b'3' + (k * k % 7) as u8, b' ', b'1' + (k % 3) as u8, b'\n']);
+    }
+    text
+}
+
+/// Files at the bounds of sizes, counts, indices and lengths.
+fn files() -> Vec<Vec<u8>> {
+    let (n, most) = (MOST_COLUMNS, MOST_ENTRIES);
+    let mut files =
+        vec![Vec::new(), HEADER.to_vec(), [HEADER, b"\n"].concat(), longest_file(most), longest_file(most + 1)];
+    for lines in [
+        // sizes and indices
+        &[&[n, n, 1][..], &[n, n]][..],
+        &[&[n + 1, n + 1, 1], &[1, 1]],
+        &[&[n, n, 1], &[n + 1, 1]],
+        &[&[n, n, 1], &[n, 0]],
+        &[&[0, 0, 0]],
+        &[&[0, 0, 1], &[1, 1]],
+        &[&[(1 << 32) + 2, (1 << 32) + 2, 0]],
+        &[&[usize::MAX, usize::MAX, 0]],
+        &[&[2, 2, 1], &[(1 << 32) + 1, 1]],
+        &[&[2, 2, 1], &[2, (1 << 32) + 1]],
+        // counts
+        &[&[2, 2, most], &[1, 1]],
+        &[&[2, 2, most + 1]],
+        &[&[2, 2, (1 << 32) + 1], &[1, 1]],
+        &[&[2, 2, usize::MAX]],
+    ] {
+        files.push(plain_file(lines.iter().copied()));
+    }
+    // numbers of 400 digits, of 400 zeros, of 400 zeros before a digit, and 2 more than 2^64
+    let (nines, zeros, past) = ("9".repeat(400), "0".repeat(400), "18446744073709551618");
+    for lines in [
+        format!("{nines} {nines} 0"),
+        format!("{past} {past} 0"),
+        format!("{past} 2 0"),
+        format!("{zeros}2 2 {zeros}1\n{zeros}2 {zeros}1"),
+        format!("{zeros} {zeros} {zeros}"),
+        format!("2 2 {nines}"),
+        format!("2 2 {past}\n1 1\n2 2"),
+        format!("2 2 1\n{nines} 1"),
+        format!("2 2 1\n2 {nines}"),
+        format!("2 2 1\n{past} 1"),
+        format!("2 2 1\n{zeros} 1"),
+        format!("2 2 1\n2 {zeros}"),
+    ] {
+        files.push([HEADER, b"\n", lines.as_bytes()].concat());
+    }
+    files
 }

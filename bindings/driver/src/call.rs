@@ -20,9 +20,10 @@ pub enum Function {
     FloorZero,
     FloorMean,
     Least,
+    ReadRequests,
 }
 
-pub const FUNCTIONS: [Function; 14] = [
+pub const FUNCTIONS: [Function; 15] = [
     Function::EntriesWithLimit,
     Function::Entries,
     Function::Get,
@@ -37,6 +38,7 @@ pub const FUNCTIONS: [Function; 14] = [
     Function::FloorZero,
     Function::FloorMean,
     Function::Least,
+    Function::ReadRequests,
 ];
 
 impl Function {
@@ -57,6 +59,7 @@ impl Function {
             Function::FloorZero => "stabilize_variances_zero",
             Function::FloorMean => "stabilize_variances_positive_mean",
             Function::Least => "count_and_least",
+            Function::ReadRequests => "read_requests",
         }
     }
 
@@ -81,6 +84,7 @@ pub struct Call {
     pub values: List<f64>,
     /// The requests' dimension, or the operator's columns beside a factor.
     pub dimension: usize,
+    /// Read where entries are selected, written by `read_requests`.
     pub request_rows: List<u32>,
     pub request_columns: List<u32>,
     pub limit: usize,
@@ -94,6 +98,8 @@ pub struct Call {
     pub perm_to_orig: List<u32>,
     /// Values to reorder, to floor or to count.
     pub input: List<f64>,
+    /// A file's bytes.
+    pub text: List<u8>,
     pub scale: f64,
     pub result_starts: List<u32>,
     pub result_rows: List<u32>,
@@ -120,6 +126,8 @@ pub struct Reply {
     pub hits: usize,
     pub negative: usize,
     pub least: f64,
+    pub dimension: usize,
+    pub requests: usize,
 }
 
 impl Reply {
@@ -133,8 +141,10 @@ impl Reply {
 
     /// Equal, all NaNs taken as one.
     pub fn same(&self, other: &Self) -> bool {
-        let numbers =
-            |r: &Self| (r.refusal, r.status, [r.requested, r.closure, r.factor, r.limit, r.pairs, r.hits, r.negative]);
+        let numbers = |r: &Self| {
+            let counts = [r.requested, r.closure, r.factor, r.limit, r.pairs, r.hits, r.negative];
+            (r.refusal, r.status, counts, [r.dimension, r.requests])
+        };
         let values = |r: &Self| {
             [r.ratio, r.value, r.floor, r.least].map(|x| if x.is_nan() { f64::NAN.to_bits() } else { x.to_bits() })
         };
@@ -157,6 +167,10 @@ fn selected(r: sys::redstartgilt_selected) -> Reply {
 
 fn listed(r: sys::redstartgilt_pairs) -> Reply {
     Reply { refusal: r.refusal, pairs: r.pairs, ..Reply::default() }
+}
+
+fn read(r: sys::redstartgilt_requests) -> Reply {
+    Reply { refusal: r.refusal, dimension: r.dimension, requests: r.requests, ..Reply::default() }
 }
 
 fn floored(r: sys::redstartgilt_floored) -> Reply {
@@ -222,6 +236,8 @@ impl Call {
                 let r = c_call!(self redstartgilt_count_and_least () [input]);
                 Reply { negative: r.num_negative, least: r.min_value, ..Reply::default() }
             }
+            Function::ReadRequests => read(c_call!(self redstartgilt_read_requests ()
+                [text] {request_rows} {request_columns})),
         }
     }
 
@@ -241,6 +257,10 @@ impl Call {
             ("pair_rows", &self.pair_rows),
             ("pair_columns", &self.pair_columns),
         ]
+    }
+
+    pub fn bytes(&self) -> [(&'static str, &List<u8>); 1] {
+        [("text", &self.text)]
     }
 
     pub fn floats(&self) -> [(&'static str, &List<f64>); 5] {
@@ -267,7 +287,11 @@ impl Call {
         );
         let words = self.words().map(|(name, list)| told_list(name, list, |x| x.to_string()));
         let floats = self.floats().map(|(name, list)| told_list(name, list, |x| format!("{:016x}", x.to_bits())));
-        let lists: Vec<String> = words.into_iter().chain(floats).flatten().collect();
+        let bytes = self.bytes().map(|(name, list)| {
+            let shown = list[..list.len().min(4000)].escape_ascii();
+            (!list.is_empty()).then(|| format!("  {name} {}: {shown}", list.len()))
+        });
+        let lists: Vec<String> = words.into_iter().chain(floats).chain(bytes).flatten().collect();
         format!("{scalars}\n{}", lists.join("\n"))
     }
 }

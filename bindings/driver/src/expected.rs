@@ -1,6 +1,8 @@
 //! What a call must reply and leave, and how what it did differs.
 
 use crate::call::{Call, Reply};
+use crate::list::{Item, List};
+use std::fmt::Debug;
 
 pub struct Expected {
     pub reply: Reply,
@@ -23,13 +25,11 @@ impl Expected {
         if !self.reply.same(reply) {
             found.push(format!("reply {reply:?} in place of {:?}", self.reply));
         }
+        for ((name, list), (_, expected)) in call.bytes().into_iter().zip(self.after.bytes()) {
+            number_differences(name, list, expected, &mut found);
+        }
         for ((name, list), (_, expected)) in call.words().into_iter().zip(self.after.words()) {
-            if let Some(at) = list.difference(expected, 0) {
-                found.push(format!("{name}[{at}] is {:?} in place of {:?}", list.get(at), expected.get(at)));
-            }
-            if !list.guards_hold() {
-                found.push(format!("written outside {name}"));
-            }
+            number_differences(name, list, expected, &mut found);
         }
         for ((name, list), (_, expected)) in call.floats().into_iter().zip(self.after.floats()) {
             let filled = match name {
@@ -50,5 +50,15 @@ impl Expected {
             }
         }
         found
+    }
+}
+
+/// The differences of a list of bytes or words.
+fn number_differences<T: Item + Debug>(name: &str, list: &List<T>, expected: &List<T>, found: &mut Vec<String>) {
+    if let Some(at) = list.difference(expected, 0) {
+        found.push(format!("{name}[{at}] is {:?} in place of {:?}", list.get(at), expected.get(at)));
+    }
+    if !list.guards_hold() {
+        found.push(format!("written outside {name}"));
     }
 }

@@ -2,6 +2,7 @@
 
 use crate::call::{Call, Function};
 use crate::list::List;
+use crate::matrix_market;
 use crate::random::Random;
 use crate::refusals::{refusal, MOST_COLUMNS};
 use crate::rules::{self, scratch_words, triangle};
@@ -14,6 +15,7 @@ pub struct Needs {
     output: usize,
     pairs: usize,
     inverse: usize,
+    requests: usize,
 }
 
 pub fn needs(call: &Call) -> Needs {
@@ -36,6 +38,7 @@ pub fn needs(call: &Call) -> Needs {
         },
         pairs: if listed { rules::requested(call).count() } else { 3 },
         inverse: call.orig_to_perm.len(),
+        requests: matrix_market::read(&call.text).map_or(3, |requests| requests.rows.len()),
     }
 }
 
@@ -58,6 +61,10 @@ pub fn lend(call: &mut Call, random: &mut Random, mut length: impl FnMut(&mut Ra
             call.pair_columns = words(random, needs.pairs);
         }
         Function::Inverse => call.perm_to_orig = words(random, needs.inverse),
+        Function::ReadRequests => {
+            call.request_rows = words(random, needs.requests);
+            call.request_columns = words(random, needs.requests);
+        }
         _ => {}
     }
     let mut values = |random: &mut Random, need| {

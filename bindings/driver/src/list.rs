@@ -19,6 +19,16 @@ pub trait Item: Copy + Default {
     fn is_nan(self) -> bool;
 }
 
+impl Item for u8 {
+    const GUARD: u8 = 0xa5;
+    fn bits(self) -> u64 {
+        self as u64
+    }
+    fn is_nan(self) -> bool {
+        false
+    }
+}
+
 impl Item for u32 {
     const GUARD: u32 = 0xa5c3_96e1;
     fn bits(self) -> u64 {
@@ -86,7 +96,7 @@ impl<T: Item> List<T> {
             return Some(self.len().min(other.len()));
         }
         let same = |at: usize, a: T, b: T| a.bits() == b.bits() || (at < filled && a.is_nan() && b.is_nan());
-        (0..self.len()).find(|&at| !same(at, self[at], other[at]))
+        self.iter().zip(other.iter()).enumerate().position(|(at, (&a, &b))| !same(at, a, b))
     }
 }
 

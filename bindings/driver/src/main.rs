@@ -5,26 +5,33 @@ mod bounds;
 mod call;
 mod compare;
 mod expected;
+mod files;
 mod grid;
 mod lend;
 mod list;
 mod malformed;
+mod matrix_market;
 mod random;
+mod reading;
 mod refusals;
 mod rules;
 mod sound;
 mod spoil;
 mod text;
 
+use call::FUNCTIONS;
 use std::path::Path;
 use std::process::ExitCode;
 
 const USAGE: &str = "usage:
   driver compare ORACLE_FOLDER [SEED..]            every set but huge with each seed, 1 7 11 where none is given
   driver compare ORACLE_FOLDER --huge              the set huge
-  driver malformed [COUNT [SEED [FIRST]]] [--bare] random calls, 1,000,000 where no number is given, from call FIRST on;
-                                                   with --bare no guard words stand around the lists
+  driver malformed [COUNT [SEED [FIRST]]] [--only FUNCTION] [--bare]
+                                                   random calls, 1,000,000 where no number is given, from call FIRST on;
+                                                   with --only of one function, named as in the header without
+                                                   redstartgilt_; with --bare no guard words stand around the lists
   driver benchmark ORACLE_FOLDER [RUNS]            medians of RUNS runs, 15 where none is given
+  driver benchmark-files [RUNS]                    the part of it that reads files, which needs no oracle
   driver profile ORACLE_FOLDER CASE RUNS           one case of the benchmark alone, for a profiler
 ORACLE_FOLDER has the programs `generate` and `oracle` of bindings/oracle.";
 
@@ -64,9 +71,9 @@ fn run(words: &[&str]) -> Option<std::io::Result<usize>> {
         }
         ["malformed", rest @ ..] => malformed(rest),
         ["benchmark", folder, runs @ ..] if runs.len() < 2 => {
-            let runs = runs.first().map_or(Some(15), |r| r.parse().ok())?;
-            Some(benchmark::benchmark(Path::new(folder), runs).map(|()| 0))
+            Some(benchmark::benchmark(Path::new(folder), runs_of(runs)?).map(|()| 0))
         }
+        ["benchmark-files", runs @ ..] if runs.len() < 2 => Some(reading::benchmark_files(runs_of(runs)?).map(|()| 0)),
         ["profile", folder, case, runs] => {
             Some(benchmark::profile(Path::new(folder), case, runs.parse().ok()?).map(|()| 0))
         }
@@ -74,8 +81,18 @@ fn run(words: &[&str]) -> Option<std::io::Result<usize>> {
     }
 }
 
+/// 15 where no number is given.
+fn runs_of(words: &[&str]) -> Option<usize> {
+    words.first().map_or(Some(15), |runs| runs.parse().ok().filter(|&runs| runs > 0))
+}
+
 fn malformed(words: &[&str]) -> Option<std::io::Result<usize>> {
+    let (words, only) = match words {
+        [rest @ .., "--only", name] => (rest, Some(*FUNCTIONS.iter().find(|function| function.name() == *name)?)),
+        _ => (words, None),
+    };
     let numbers: Vec<usize> = words.iter().map(|s| s.parse().ok()).collect::<Option<_>>()?;
     let number = |at: usize, otherwise| numbers.get(at).copied().unwrap_or(otherwise);
-    (numbers.len() <= 3).then(|| Ok(malformed::malformed(number(0, 1_000_000), number(1, 1) as u64, number(2, 0))))
+    (numbers.len() <= 3)
+        .then(|| Ok(malformed::malformed(number(0, 1_000_000), number(1, 1) as u64, number(2, 0), only)))
 }

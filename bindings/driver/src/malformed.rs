@@ -1,10 +1,11 @@
 //! `malformed`: random calls of every function, most of them with something wrong.
 //!
 //! A call is made from its seed and number alone: sound lists first, then some of them are spoilt, then lists of any
-//! length and contents are lent. Reply, every list and every guard word afterwards must be what document 01 gives.
+//! length and contents are lent. Reply, every list and every guard word afterwards must be what document 01, or of files
+//! document 02, gives.
 
 use crate::bounds::bounds;
-use crate::call::{Call, Reply, FUNCTIONS};
+use crate::call::{Call, Function, Reply, FUNCTIONS};
 use crate::random::Random;
 use crate::rules;
 use crate::spoil::random_call;
@@ -20,17 +21,23 @@ const SHOWN: usize = 20;
 /// How many calls have ended.
 static ENDED: AtomicUsize = AtomicUsize::new(0);
 
-/// The number of calls that did not do as document 01 says; calls `first` to `first + count` of a seed.
-pub fn malformed(count: usize, seed: u64, first: usize) -> usize {
+/// The highest refusal.
+const LAST_REFUSAL: usize = 17;
+
+/// The number of calls that did not do as the documents say; calls `first` to `first + count` of a seed, of every
+/// function or of one alone.
+pub fn malformed(count: usize, seed: u64, first: usize, only: Option<Function>) -> usize {
     std::thread::spawn(watch);
     let mut tally = Tally::default();
     if first == 0 {
-        bounds().into_iter().for_each(|call| tally.made("bound", call));
+        let wanted = |call: &Call| only.is_none_or(|function| function == call.function);
+        bounds().into_iter().filter(wanted).for_each(|call| tally.made("bound", call));
         println!("{} calls at the bounds, {} different", tally.calls, tally.different);
     }
     for number in first..first + count {
         let mut random = Random::new(seed.wrapping_mul(0x2545_f491_4f6c_dd1d) ^ number as u64);
-        let call = random_call(FUNCTIONS[number % FUNCTIONS.len()], &mut random);
+        let function = only.unwrap_or(FUNCTIONS[number % FUNCTIONS.len()]);
+        let call = random_call(function, &mut random);
         tally.made(&format!("call {number} of seed {seed}"), call);
     }
     tally.report();
@@ -54,7 +61,7 @@ fn watch() {
 #[derive(Default)]
 struct Tally {
     /// by function: Complete or accepted, ClosureTooLarge, then each refusal
-    replies: [[usize; 16]; FUNCTIONS.len()],
+    replies: [[usize; LAST_REFUSAL + 2]; FUNCTIONS.len()],
     calls: usize,
     different: usize,
 }
@@ -77,9 +84,10 @@ impl Tally {
     }
 
     fn report(&self) {
-        let numbers: String = (1..=14).map(|k| format!("{k:>7}")).collect();
+        let numbers: String = (1..=LAST_REFUSAL).map(|k| format!("{k:>7}")).collect();
         println!("{:<36} {:>8} {:>8} {numbers}", "function", "accepted", "limit");
-        for (function, counts) in FUNCTIONS.iter().zip(&self.replies) {
+        let called = |counts: &[usize]| counts.iter().any(|&count| count > 0);
+        for (function, counts) in FUNCTIONS.iter().zip(&self.replies).filter(|(_, counts)| called(&counts[..])) {
             let numbers: String = counts[2..].iter().map(|k| format!("{k:>7}")).collect();
             println!("{:<36} {:>8} {:>8} {numbers}", function.name(), counts[0], counts[1]);
         }
@@ -91,6 +99,6 @@ impl Tally {
 fn place(reply: &Reply) -> usize {
     match reply.refusal {
         0 => usize::from(reply.status == sys::REDSTARTGILT_CLOSURE_TOO_LARGE),
-        number => (number as usize + 1).min(15),
+        number => (number as usize).min(LAST_REFUSAL) + 1,
     }
 }

@@ -1,6 +1,8 @@
-//! Document 01's refusal of a call, read from its text: the first step that fails decides.
+//! The refusal of a call by document 01, of a file's by document 02, read from their text: the first step that fails
+//! decides.
 
 use crate::call::{Call, Function};
+use crate::matrix_market;
 use crate::rules::{self, triangle, Factor};
 
 pub const MOST_COLUMNS: usize = 2_048;
@@ -23,6 +25,7 @@ pub fn refusal(call: &Call) -> u32 {
         Function::Reorder => reorder(call),
         Function::FloorZero | Function::FloorMean => floor(call),
         Function::Least => Ok(()),
+        Function::ReadRequests => file(call),
     };
     steps.err().unwrap_or(0)
 }
@@ -139,6 +142,11 @@ fn floor(call: &Call) -> Steps {
     refuse(13, call.input.iter().any(|x| !x.is_finite()))?;
     refuse(14, call.function == Function::FloorMean && (!call.scale.is_finite() || call.scale < 0.0))?;
     refuse(7, call.output.len() < call.input.len())
+}
+
+fn file(call: &Call) -> Steps {
+    let requests = matrix_market::read(&call.text)?.rows.len();
+    refuse(7, call.request_rows.len() < requests || call.request_columns.len() < requests)
 }
 
 /// What 2 says of starts but for their number, and 9 of row starts.

@@ -3,6 +3,7 @@
 
 use crate::call::{Call, Function, Reply};
 use crate::expected::Expected;
+use crate::matrix_market;
 use crate::refusals::refusal;
 use redstartgilt::sys;
 
@@ -221,6 +222,13 @@ fn accepted(mut call: Call) -> Expected {
             let least = call.input.iter().fold(f64::INFINITY, |least, &x| if x < least { x } else { least });
             let least = if call.input.is_empty() { 0.0 } else { least };
             Expected::untouched(Reply { negative, least, ..Reply::default() }, call)
+        }
+        Function::ReadRequests => {
+            let read = matrix_market::read(&call.text).expect("not refused");
+            let requests = read.rows.len();
+            call.request_rows[..requests].copy_from_slice(&read.rows);
+            call.request_columns[..requests].copy_from_slice(&read.columns);
+            Expected::untouched(Reply { dimension: read.dimension, requests, ..Reply::default() }, call)
         }
         _ => Expected::untouched(Reply::default(), call),
     }

@@ -1,6 +1,7 @@
 //! Sound calls of every function, before lists are lent for writing.
 
 use crate::call::{Call, Function};
+use crate::files::sound_file;
 use crate::list::List;
 use crate::random::Random;
 use crate::rules::triangle;
@@ -158,6 +159,7 @@ pub fn sound(function: Function, n: usize, random: &mut Random) -> Call {
             call.scale = finite(some_value(random)).abs();
         }
         Function::Least => call.input = List::made(n, |_| some_value(random)),
+        Function::ReadRequests => call.text = List::new(&sound_file(n, random)),
     }
     call
 }

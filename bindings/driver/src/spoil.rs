@@ -1,6 +1,7 @@
 //! Random calls: sound ones with something spoilt.
 
 use crate::call::{Call, Function};
+use crate::files::damage;
 use crate::lend::lend;
 use crate::list::List;
 use crate::random::Random;
@@ -142,6 +143,7 @@ fn spoil(call: &mut Call, random: &mut Random) {
             0 => spoil_values(random, &mut call.input),
             _ => call.scale = random.any_value(),
         },
+        Function::ReadRequests => call.text.edit(|text| damage(text, random)),
     }
 }
 
@@ -163,6 +165,8 @@ pub fn random_call(function: Function, random: &mut Random) -> Call {
         0 => random.pick(&[MOST_COLUMNS - 1, MOST_COLUMNS, MOST_COLUMNS, MOST_COLUMNS + 1]),
         1..=59 => random.below(65),
         60..=99 => 40 + random.below(25),
+        // a file is short whatever its size
+        100..=999 if function == Function::ReadRequests => random.below(MOST_COLUMNS + 2),
         _ => random.below(13),
     };
     let mut call = sound(function, n, random);
