@@ -1,5 +1,5 @@
 #!/usr/bin/env python3
-"""Makes crates/replay/stdin and crates/replay/stdout from the Rust's own functions.
+"""Makes crates/replay/stdin and crates/replay/stdout from the Rust's own functions and a reader of files.
 
     replay/make.py PROGRAMS                            writes both files and prints the counts
     replay/make.py PROGRAMS --compare REPLAY [SEED]    runs the program REPLAY on every case that it can hold
@@ -23,8 +23,11 @@ What the answers file holds is the Rust's answer with these changes:
   document 01 says is left;
 - of `least`, two zeros count as equal, and document 01's is written;
 - `route` and `finish`, which a call does not tell, are left out.
+
+The Rust has no reader of Matrix Market files. The answers of kind `mmread` are those of `read_file`
+below, which follows document 02's text, and the files of the set `mmread` are made here too.
 """
-import collections, itertools, math, os, struct, subprocess, sys
+import collections, itertools, math, os, random, re, struct, subprocess, sys
 
 # set: how many cases, the largest case in bytes, and the least number of a group
 SETS = {
@@ -43,6 +46,7 @@ SETS = {
     "least": (60, 2000, 12),
     "perm": (90, 2000, 12),
     "pattern": (70, 4000, 12),
+    "mmread": (100, 420, 12),
 }
 
 # ---- the text form
@@ -67,6 +71,7 @@ LENT = {
     "opvar": {**RESULT, **OUTPUT},
     "floor": OUTPUT,
     "least": {},
+    "mmread": {"lrrows": ROOM, "lrcols": ROOM},
 }
 # the fields after the lists lent
 READ = {
@@ -82,10 +87,12 @@ READ = {
     "opvar": FACTOR + OPERATOR,
     "floor": ("floor", "scale", "input"),
     "least": ("input",),
+    "mmread": ("file",),
 }
 FIELDS = {kind: (*LENT[kind], *READ[kind]) for kind in READ}
 SCALARS = ("n", "rdim", "limit", "ncols", "floor", "scale")
 VALUES = ("values", "oweights", "input", "lvalues", "lout")
+BYTES = ("file",)
 # what the program has room for: ROOM items of a list, so many pairs and bytes, and this dimension where it lends its own lists
 PAIRS, TEXT, DIMENSION = 64, 1572864, 256
 SEVENS = struct.pack(">d", 7777.0).hex()
@@ -111,7 +118,7 @@ def scalar(name, word):
 
 
 def fields(lines):
-    """A case's fields: a number or a word, or a list of words or of values' digits."""
+    """A case's fields: a number or a word, or a list of words or of the digits of values or bytes."""
     f = {}
     for line in lines:
         name, *words = line.split()
@@ -119,7 +126,7 @@ def fields(lines):
             f[name] = scalar(name, words[0])
         elif name != "expect":
             assert int(words[0]) == len(words) - 1, line
-            f[name] = words[1:] if name in VALUES else [int(w) for w in words[1:]]
+            f[name] = words[1:] if name in VALUES + BYTES else [int(w) for w in words[1:]]
     return f
 
 
@@ -210,12 +217,29 @@ def items(word):
     return [str(x) if "." in first else str(int(x)) for x in steps]
 
 
+HEADER = b"%%MatrixMarket matrix coordinate pattern symmetric"
+
+
+def file_bytes(text):
+    """The bytes of a readable file: H is the header, / is LF, {9*400} is 400 nines, and backslashes are Python's."""
+    text = re.sub(r"\{(.)\*(\d+)\}", lambda m: m[1] * int(m[2]), text)
+    text = text.replace("H", HEADER.decode()).replace("/", "\n")
+    return text.encode("latin-1").decode("unicode_escape").encode("latin-1")
+
+
+def byte_items(data):
+    """A file's bytes as the items of its list."""
+    return ["%02x" % byte for byte in data]
+
+
 def readable_fields(lines):
     """The fields of a case of cases.txt, and the replies it expects."""
     f, expect = {}, []
     for line in lines:
         name, *words = line.split("#")[0].split()
-        if name == "expect":
+        if name in BYTES:
+            f[name] = byte_items(file_bytes(line[len(name) + 1 :]))
+        elif name == "expect":
             expect = [int(w) for w in words]
         elif name in SCALARS:
             f[name] = value_bits(words[0]) if name == "scale" else scalar(name, words[0])
@@ -458,6 +482,58 @@ def floor_refusals(f):
         yield 7
 
 
+# ---- document 02: the requests of a file
+
+
+def is_blank(line):
+    return not line.strip(b" \t")
+
+
+def numbers(line, count):
+    """The numbers of a line that has so many and nothing else, or None."""
+    words = re.split(b"[ \t]+", line.strip(b" \t"))
+    good = len(words) == count and all(re.fullmatch(b"[0-9]+", w) for w in words)
+    return [int(w) for w in words] if good else None
+
+
+def read_file(data):
+    """The dimension and the pairs of a file, or the number of its refusal."""
+    first, *rest = data.split(b"\n")
+    if first != HEADER:
+        return 15
+    lines = itertools.dropwhile(lambda x: x.startswith(b"%"), (x for x in rest if not is_blank(x)))
+    size = numbers(next(lines, b""), 3)
+    entries = [numbers(x, 2) for x in lines]
+    if size is None or None in entries:
+        return 16
+    n, other, count = size
+    if n != other or n > MOST_COLUMNS or count > MOST_ENTRIES or count != len(entries):
+        return 16
+    if not all(1 <= column <= row <= n for row, column in entries):
+        return 17
+    return n, entries
+
+
+def read_case(f):
+    return read_file(bytes(int(x, 16) for x in f["file"]))
+
+
+def mmread_refusals(f):
+    read = read_case(f)
+    if isinstance(read, int):
+        yield read
+    elif min(room("mmread", f, "lrrows"), room("mmread", f, "lrcols")) < len(read[1]):
+        yield 7
+
+
+def mmread_answer(f):
+    """The answer to an accepted case, as the Rust tells those of other kinds."""
+    n, pairs = read_case(f)
+    rows, cols = ([str(pair[k] - 1) for pair in pairs] for k in (0, 1))
+    count = str(len(pairs))
+    return {"reply": ["ok"], "rdim": [str(n)], "requests": [count], "rrows": [count] + rows, "rcols": [count] + cols}
+
+
 def no_refusals(f):
     return iter(())
 
@@ -475,6 +551,7 @@ REFUSALS = {
     "opvar": opvar_refusals,
     "floor": floor_refusals,
     "least": no_refusals,
+    "mmread": mmread_refusals,
 }
 
 
@@ -537,6 +614,7 @@ TOLD = {
     "opvar": DIAGNOSIS,
     "floor": ("floor", "hits"),
     "least": ("negative", "least"),
+    "mmread": ("rdim", "requests"),
 }
 
 
@@ -603,6 +681,8 @@ def expected(kind, f, answer):
     if kind == "get":
         return get_answer(f, got)
     number, difference = refusal(kind, f), None
+    if kind == "mmread" and not number:
+        got = mmread_answer(f)
     reply = got.get("reply", [])
     said = 0 if reply == ["ok"] else error_number(kind, reply[-1]) if reply else number
     if said != number:
@@ -655,13 +735,82 @@ def fits(kind, f):
     for name, words in f.items():
         if name not in SCALARS and len(words) > (PAIRS if name in ("prows", "pcols") else ROOM):
             return False
-        if name not in SCALARS + VALUES and max(words, default=0) >= 2**32:
+        if name not in SCALARS + VALUES + BYTES and max(words, default=0) >= 2**32:
             return False
     return f.get("n", f.get("ncols", 0)) <= DIMENSION or refusal(kind, f) > 0
 
 
+# how many files the set mmread has
+FILES = 3000
+# bytes that a reader may take for others, or not expect
+ODD = b" \t\n\r%0129+-.x\0\x0b\x0c\xa0"
+
+
+class Chance:
+    """Random choices; a seed gives the same with every version of Python."""
+
+    def __init__(self, seed):
+        self.next = random.Random(seed).random
+
+    def below(self, end):
+        return int(self.next() * end)
+
+    def one_of(self, count):
+        return self.below(count) == 0
+
+    def pick(self, items):
+        return items[self.below(len(items))]
+
+    def blanks(self, least):
+        return bytes(self.pick(b"  \t") for _ in range(least + self.pick((0, 0, 0, 0, 1, 2))))
+
+    def line(self, numbers):
+        words = [b"0" * self.pick((0, 0, 0, 0, 0, 0, 1, 3)) + b"%d" % x for x in numbers]
+        return self.blanks(0) + words[0] + b"".join(self.blanks(1) + w for w in words[1:]) + self.blanks(0)
+
+
+def some_file(chance):
+    """A file with no fault, one or several."""
+    n, count = chance.pick((0, 1, 2, 3, 3, 5, 9, 2048)), chance.pick((0, 1, 2, 2, 3, 4))
+    size = chance.pick((2049, 2**32 + n, 2**64 + n)) if chance.one_of(20) else n
+    other = size + 1 if chance.one_of(30) else size
+    told = chance.pick((max(count - 1, 0), count + 1, count + 2**32, count + 2**64)) if chance.one_of(20) else count
+    lines = [chance.pick((b"%", b"%c", b"% 1 1", b"%%\xff\r")) for _ in range(chance.pick((0, 0, 0, 1, 2)))]
+    lines.append(chance.line([size, other, told]))
+    for _ in range(count):
+        row = 1 + chance.below(max(n, 1))
+        column = 1 + chance.below(row)
+        if chance.one_of(12):
+            column = chance.pick((0, row + 1, 2**64 + 1))
+        elif chance.one_of(12):
+            row = chance.pick((0, n + 1, 2**32 + row))
+        lines.append(chance.line([row, column]))
+    if chance.one_of(12):
+        lines[chance.below(len(lines))] = chance.pick((b"1", b"1 1 1", b"x", b" %", b"%", b"\r", b"+1 1", b"1 -1", b"1.0 1"))
+    for _ in range(chance.pick((0, 0, 0, 1, 2))):
+        lines.insert(chance.below(len(lines) + 1), chance.blanks(0))
+    others = (HEADER[1:], HEADER + b" ", HEADER + b"\r", HEADER.lower(), b"\n" + HEADER)
+    data = b"\n".join([chance.pick(others) if chance.one_of(25) else HEADER] + lines) + chance.pick((b"", b"\n"))
+    if chance.one_of(10):
+        at = len(HEADER) + chance.below(len(data) - len(HEADER) + 1)
+        data = data[:at] + bytes([chance.pick(ODD)]) * chance.below(2) + data[at + chance.below(2) :]
+    return data
+
+
+def some_files(seed=1):
+    """Cases of mmread, some with lists lent, mostly short ones."""
+    chance = Chance(int(seed))
+    for k in range(FILES):
+        f = {"file": byte_items(some_file(chance))}
+        if chance.one_of(3):
+            f.update({x: [7777] * chance.below(6) for x in LENT["mmread"]})
+        yield "mmread-%d" % k, f
+
+
 def generated(programs, name, *seed):
     """Every case of a set that the program can hold."""
+    if name == "mmread":
+        return [finished(i, name, f, None) for i, f in some_files(*seed) if fits(name, f)]
     cases = []
     for i, kind, lines in blocks(run(os.path.join(programs, "generate"), name, *seed)):
         f = fields(lines)
@@ -686,7 +835,7 @@ def given(programs):
         lent = [x in f for x in LENT[kind]]
         assert all(lent) or not any(lent), name
         cases.append((name, kind, f))
-        if kind == "get" or number[0] in (0, 8):
+        if kind != "mmread" and (kind == "get" or number[0] in (0, 8)):
             asked.append((name, kind, f))
     said = {c[0]: answer for c, answer in zip(asked, answers(programs, asked))}
     return [finished(*c, said.get(c[0])) for c in cases]
