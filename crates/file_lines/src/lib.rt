@@ -9,9 +9,9 @@ ghost use Rattle.file_lines.specs.Places.{Skipped, NumberAt, FieldAt, En
 ghost use Rattle.file_lines.specs.Plain.{FewAt, PlainAt};
 
 // A number, cut off at 4294967295, and the place behind its digits.
-struct Number {
-    value: usize,
-    next: usize,
+pub struct Number {
+    pub value: usize,
+    pub next: usize,
 }
 
 // Whether a number stands first, its value and the place behind it.
@@ -105,7 +105,7 @@ fn cut(x: usize) -> usize
 }
 
 // The number whose digits stand from p on.
-fn read_number(text: &[u8], p: usize) -> Number
+pub fn read_number(text: &[u8], p: usize) -> Number
     requires { ⌜ p ≤ length (now text) ⌝ }
     ensures { λ r. ⌜ NumberAt (now (text .entry)) p (r .value) (r .next) ⌝ }
 {

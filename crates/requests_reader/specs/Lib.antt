@@ -3,4 +3,5 @@ pub mod Cut
 pub mod Front
 pub mod Written
 pub mod Entries
+pub mod Stored
 pub mod Reader

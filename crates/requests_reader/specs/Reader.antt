@@ -19,7 +19,8 @@ use Rattle.file_lines.specs.Scan.{lineOf, restOf, firstLine-is, laterLines-are}
 use Rattle.file_lines.specs.Places.{fieldsAt, TripleAt}
 use Rattle.requests_reader.specs.Cut.{above-least}
 use Rattle.requests_reader.specs.Front.{LabelAt, SizeAt}
-use Rattle.requests_reader.specs.Entries.{entriesOf, entriesFrom, rowsOf, columnsOf, Scanned, Storable, Stored}
+use Rattle.requests_reader.specs.Entries.{entriesOf, entriesFrom, rowsOf, columnsOf, Scanned}
+use Rattle.requests_reader.specs.Stored.{Storable, Stored}
 use Rattle.requests_reader.specs.declared.ReadRequests.{ReadRequests}
 use Rattle.requests_reader.specs.declared.ReadRequests.the-variants.{Read, Refused}
 
