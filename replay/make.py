@@ -22,6 +22,8 @@ What the answers file holds is the Rust's answer with these changes:
 - the lists lent for writing are whole: what the Rust gives stands in front, and the rest is what
   document 01 says is left;
 - of `least`, two zeros count as equal, and document 01's is written;
+- the marks of a diagonal list are 1 where the Rust's lookup of the diagonal finds a value; marks that are
+  moved with their values go where the permutation says, and the Rust moves the values alone;
 - `route` and `finish`, which a call does not tell, are left out.
 
 The Rust has no reader of Matrix Market files. The answers of kind `mmread` are those of `read_file`
@@ -45,6 +47,7 @@ SETS = {
     "floor": (90, 2000, 12),
     "least": (60, 2000, 12),
     "perm": (90, 2000, 12),
+    "permmarked": (60, 2000, 12),
     "pattern": (70, 4000, 12),
     "mmread": (100, 420, 12),
 }
@@ -57,16 +60,18 @@ OPERATOR = ("ncols", "ostarts", "ocols", "oweights")
 ROOM, ENTRIES = 4608, 33024
 RESULT = {"lstarts": ROOM, "lrows": ENTRIES, "lvalues": ENTRIES, "lscratch": 67072}
 OUTPUT = {"lout": ROOM}
+MARKED = {"lout": ROOM, "lmarks": ROOM}
 PATTERN = {"lscratch": ENTRIES, "lprows": ENTRIES, "lpcols": ENTRIES}
 LENT = {
     "entries": RESULT,
     "get": {},
-    "diag": OUTPUT,
+    "diag": MARKED,
     "patfactor": PATTERN,
     "patoperator": PATTERN,
     "permvalidate": {},
     "permfrom": {"linv": ROOM},
     "permapply": OUTPUT,
+    "permmarked": MARKED,
     "diagorig": {**RESULT, **OUTPUT},
     "opvar": {**RESULT, **OUTPUT},
     "floor": OUTPUT,
@@ -83,6 +88,7 @@ READ = {
     "permvalidate": ("perm", "inv"),
     "permfrom": ("perm",),
     "permapply": ("perm", "input"),
+    "permmarked": ("perm", "input", "marks"),
     "diagorig": FACTOR + ("perm",),
     "opvar": FACTOR + OPERATOR,
     "floor": ("floor", "scale", "input"),
@@ -93,8 +99,9 @@ FIELDS = {kind: (*LENT[kind], *READ[kind]) for kind in READ}
 SCALARS = ("n", "rdim", "limit", "ncols", "floor", "scale")
 VALUES = ("values", "oweights", "input", "lvalues", "lout")
 BYTES = ("file",)
+MARKS = ("marks", "lmarks")
 # what the program has room for: ROOM items of a list, so many pairs and bytes, and this dimension where it lends its own lists
-PAIRS, TEXT, DIMENSION = 64, 1572864, 256
+PAIRS, TEXT, DIMENSION = 64, 2097152, 256
 SEVENS = struct.pack(">d", 7777.0).hex()
 
 
@@ -389,7 +396,7 @@ def diag_refusals(f):
         yield 2
     for c in range(len(starts) - 1):
         yield from column_refusals(starts, f["rows"], f["values"], c)
-    if room("diag", f, "lout") < len(starts) - 1:
+    if min(room("diag", f, "lout"), room("diag", f, "lmarks")) < len(starts) - 1:
         yield 7
 
 
@@ -438,6 +445,17 @@ def permapply_refusals(f):
         yield 4
     yield from permutation_refusals(f["perm"])
     if room("permapply", f, "lout") < len(f["perm"]):
+        yield 7
+
+
+def permmarked_refusals(f):
+    perm, input, marks = f["perm"], f["input"], f["marks"]
+    if max(len(perm), len(input), len(marks)) > MOST_COLUMNS:
+        yield 1
+    if len(input) != len(perm) or len(marks) != len(perm):
+        yield 4
+    yield from permutation_refusals(perm)
+    if min(room("permmarked", f, "lout"), room("permmarked", f, "lmarks")) < len(perm):
         yield 7
 
 
@@ -547,6 +565,7 @@ REFUSALS = {
     "permvalidate": permvalidate_refusals,
     "permfrom": permfrom_refusals,
     "permapply": permapply_refusals,
+    "permmarked": permmarked_refusals,
     "diagorig": diagorig_refusals,
     "opvar": opvar_refusals,
     "floor": floor_refusals,
@@ -633,7 +652,9 @@ def cleared(kind, f, number):
 
 
 def filled(kind, name, got):
-    """What the Rust puts into the front of a list."""
+    """What the Rust puts into the front of a list; of marks, whether its lookup finds the pair."""
+    if kind == "diag" and name == "marks":
+        return runs([0 if word == "none" else 1 for word in got["gets"][1:]])
     words = got["diag" if kind == "diag" else name][1:]
     return runs(words if "l" + name in VALUES else [int(w) for w in words])
 
@@ -644,9 +665,12 @@ def lists_after(kind, f, number, got):
     lines = []
     for field, length in LENT[kind].items():
         name = field[1:]
-        held = runs(f[field]) if field in f else [(SEVENS if field in VALUES else 7777, length)]
+        blank = SEVENS if field in VALUES else 77 if field in MARKS else 7777
+        held = runs(f[field]) if field in f else [(blank, length)]
         if name == "scratch":
             held = written_over([(0, cleared(kind, f, number))], held)
+        elif complete and kind == "permmarked" and name == "marks":
+            held = written_over(runs([f["marks"][k] for k in f["perm"]]), held)
         elif complete:
             held = written_over(filled(kind, name, got), held)
         lines.append(list_line(name, held))
@@ -694,7 +718,7 @@ def expected(kind, f, answer):
     lines = ["reply ok"] + told(kind, f, got)
     if kind == "least" and lines[-1].split()[1:] != got["least"]:
         difference = "least: of two zeros the Rust keeps the later"
-    gets = [" ".join(["gets"] + got["gets"])] if "gets" in got else []
+    gets = [" ".join(["gets"] + got["gets"])] if "gets" in got and kind != "diag" else []
     return lines + lists_after(kind, f, number, got) + gets, difference
 
 
@@ -708,11 +732,17 @@ def run(program, *args, text=""):
     return subprocess.run([program, *args], input=text, capture_output=True, text=True, check=True).stdout
 
 
+def asked(name, kind, f):
+    """What the Rust is asked for a case: of values with marks the values alone."""
+    return (name, "permapply", {x: f[x] for x in READ["permapply"]}) if kind == "permmarked" else (name, kind, f)
+
+
 def answers(programs, cases):
     """The Rust's answers to cases (id, kind, fields)."""
-    text = run(os.path.join(programs, "oracle"), text="".join(case_text(*c) for c in cases))
+    questions = [asked(*case) for case in cases]
+    text = run(os.path.join(programs, "oracle"), text="".join(case_text(*c) for c in questions))
     out = []
-    for (name, kind, _), (i, other, answer) in zip(cases, blocks(text), strict=True):
+    for (name, kind, _), (i, other, answer) in zip(questions, blocks(text), strict=True):
         assert (name, kind) == (i, other)
         out.append(answer)
     return out
@@ -807,10 +837,27 @@ def some_files(seed=1):
         yield "mmread-%d" % k, f
 
 
+def some_marked(programs, *seed):
+    """Cases of permmarked: those of the set perm that apply a permutation, with marks, most of them as many as elements."""
+    chance = Chance(int(seed[0]) if seed else 1)
+    for i, kind, lines in blocks(run(os.path.join(programs, "generate"), "perm", *seed)):
+        if kind == "permapply":
+            f = fields(lines)
+            count = len(f["perm"]) + (chance.pick((-1, 1)) if chance.one_of(8) else 0)
+            f["marks"] = [chance.pick((0, 1, 1, chance.below(256))) for _ in range(max(count, 0))]
+            if chance.one_of(2):
+                length = len(f["perm"]) + chance.pick((0, 0, 1, 3)) - (1 if chance.one_of(6) else 0)
+                f.update({"lout": [SEVENS] * (len(f["perm"]) + chance.below(2)), "lmarks": [77] * max(length, 0)})
+            yield "permmarked-" + i, "permmarked", f
+
+
 def generated(programs, name, *seed):
     """Every case of a set that the program can hold."""
     if name == "mmread":
         return [finished(i, name, f, None) for i, f in some_files(*seed) if fits(name, f)]
+    if name == "permmarked":
+        cases = [c for c in some_marked(programs, *seed) if fits(*c[1:])]
+        return [finished(*c, answer) for c, answer in zip(cases, answers(programs, cases))]
     cases = []
     for i, kind, lines in blocks(run(os.path.join(programs, "generate"), name, *seed)):
         f = fields(lines)
@@ -825,7 +872,7 @@ def given(programs):
     """The cases of cases.txt; what each expects must be document 01's."""
     with open(os.path.join(os.path.dirname(os.path.abspath(__file__)), "cases.txt")) as file:
         text = file.read()
-    cases, asked, names = [], [], set()
+    cases, questioned, names = [], [], set()
     for name, kind, lines in blocks(text):
         f, expect = readable_fields(lines)
         assert name not in names and fits(kind, f), name
@@ -833,11 +880,11 @@ def given(programs):
         number = [0 if is_value(x) else x for x in lookups(f)] if kind == "get" else [refusal(kind, f)]
         assert number == expect, "%s: expects %s, document 01 gives %s" % (name, expect, number)
         lent = [x in f for x in LENT[kind]]
-        assert all(lent) or not any(lent), name
+        assert all(lent) or not any(lent) or kind == "diag", name
         cases.append((name, kind, f))
         if kind != "mmread" and (kind == "get" or number[0] in (0, 8)):
-            asked.append((name, kind, f))
-    said = {c[0]: answer for c, answer in zip(asked, answers(programs, asked))}
+            questioned.append((name, kind, f))
+    said = {c[0]: answer for c, answer in zip(questioned, answers(programs, questioned))}
     return [finished(*c, said.get(c[0])) for c in cases]
 
 

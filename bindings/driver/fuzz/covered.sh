@@ -1,12 +1,13 @@
 #!/usr/bin/env bash
-# Makes the library with coverage: target/covered/target/staticlib/libredstartgilt.a below this folder, to name to run.sh by REDSTARTGILT_LIB.
+# Makes the library with coverage: target/covered/target/staticlib/libredstartgilt.a below the repository, to name to run.sh by REDSTARTGILT_LIB.
 # The kit's clang compiles the module of the proved crates with one flag more. This is done in a copy of the repository, so that the archive is never taken for the library.
 set -euo pipefail
 here=$(cd "$(dirname "$0")" && pwd)
 top=$(cd "$here/../../.." && pwd)
 home=${RATTLE_HOME:-$(dirname "$(dirname "$(rt doc)")")}
-copy=$here/target/covered
-kit=$here/target/kit
+# below target, where `rt` does not look for crates
+copy=$top/target/covered
+kit=$top/target/kit
 rm -rf "$copy" "$kit"
 mkdir -p "$copy/target" "$kit"
 cp -r "$top/crates" "$top/crates.txt" "$copy"

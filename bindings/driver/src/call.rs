@@ -17,13 +17,14 @@ pub enum Function {
     Validate,
     Inverse,
     Reorder,
+    ReorderMarked,
     FloorZero,
     FloorMean,
     Least,
     ReadRequests,
 }
 
-pub const FUNCTIONS: [Function; 15] = [
+pub const FUNCTIONS: [Function; 16] = [
     Function::EntriesWithLimit,
     Function::Entries,
     Function::Get,
@@ -35,6 +36,7 @@ pub const FUNCTIONS: [Function; 15] = [
     Function::Validate,
     Function::Inverse,
     Function::Reorder,
+    Function::ReorderMarked,
     Function::FloorZero,
     Function::FloorMean,
     Function::Least,
@@ -56,6 +58,7 @@ impl Function {
             Function::Validate => "validate",
             Function::Inverse => "from_orig_to_perm",
             Function::Reorder => "permute_factor_to_original",
+            Function::ReorderMarked => "permute_factor_to_original_marked",
             Function::FloorZero => "stabilize_variances_zero",
             Function::FloorMean => "stabilize_variances_positive_mean",
             Function::Least => "count_and_least",
@@ -98,6 +101,8 @@ pub struct Call {
     pub perm_to_orig: List<u32>,
     /// Values to reorder, to floor or to count.
     pub input: List<f64>,
+    /// The marks of values to reorder.
+    pub marks: List<u8>,
     /// A file's bytes.
     pub text: List<u8>,
     pub scale: f64,
@@ -108,6 +113,8 @@ pub struct Call {
     pub pair_rows: List<u32>,
     pub pair_columns: List<u32>,
     pub output: List<f64>,
+    /// The marks that a diagonal list has, or that are reordered.
+    pub output_marks: List<u8>,
 }
 
 /// The fields of a function's reply; those that it has not, and all but the refusal where there is one, are 0.
@@ -213,7 +220,8 @@ impl Call {
                 (self.n) [starts] [rows] [values] (self.dimension) [request_rows] [request_columns]
                 {result_starts} {result_rows} {result_values} {scratch})),
             Function::Get => look_up(&self.starts, &self.rows, &self.values, self.row, self.column),
-            Function::Diag => Reply::refused(c_call!(self redstartgilt_diag () [starts] [rows] [values] {output})),
+            Function::Diag => Reply::refused(c_call!(self redstartgilt_diag ()
+                [starts] [rows] [values] {output} {output_marks})),
             Function::OriginalDiag => selected(c_call!(self redstartgilt_selected_inverse_diag_with_diagnostics ()
                 (self.n) [starts] [rows] [values] [orig_to_perm]
                 {result_starts} {result_rows} {result_values} {scratch} {output})),
@@ -229,6 +237,8 @@ impl Call {
                 [orig_to_perm] {perm_to_orig})),
             Function::Reorder => Reply::refused(c_call!(self redstartgilt_permute_factor_to_original ()
                 [orig_to_perm] [input] {output})),
+            Function::ReorderMarked => Reply::refused(c_call!(self redstartgilt_permute_factor_to_original_marked ()
+                [orig_to_perm] [input] [marks] {output} {output_marks})),
             Function::FloorZero => floored(c_call!(self redstartgilt_stabilize_variances_zero () [input] {output})),
             Function::FloorMean => floored(c_call!(self redstartgilt_stabilize_variances_positive_mean ()
                 [input] (self.scale) {output})),
@@ -259,8 +269,8 @@ impl Call {
         ]
     }
 
-    pub fn bytes(&self) -> [(&'static str, &List<u8>); 1] {
-        [("text", &self.text)]
+    pub fn bytes(&self) -> [(&'static str, &List<u8>); 3] {
+        [("text", &self.text), ("marks", &self.marks), ("output_marks", &self.output_marks)]
     }
 
     pub fn floats(&self) -> [(&'static str, &List<f64>); 5] {

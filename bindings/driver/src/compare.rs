@@ -242,7 +242,14 @@ fn compare_case(case: &Block, answer: &Block, seed: u64, random: &mut Random, ta
     if answer.field("route").contains("DIFFERS") || answer.field("finish").contains("DIFFERS") {
         tally.differs(&["the Rust's own routes or finishing step differ".to_string()], case, &call);
     }
-    1 + if reply.complete() && answer.has("gets") { compare_read_back(&made, case, answer, tally) } else { 0 }
+    let more = match call.function {
+        Function::Reorder => compare_marked(call, &expected, case, random, tally),
+        function if function.selects() && reply.complete() && answer.has("gets") => {
+            compare_read_back(&made, case, answer, tally)
+        }
+        _ => 0,
+    };
+    1 + more
 }
 
 /// The refusal that the Rust's answer stands for, 0 where it accepts.
@@ -301,7 +308,11 @@ fn answered(case: &Block, answer: &Block, mut call: Call, by_rules: Option<&Expe
             reply = Reply { limit: answer.number("limit"), ..rules.reply };
             call = rules.after.clone();
         }
-        "diag" => output_filled = fill(&mut call.output, answer.values("diag")),
+        "diag" => {
+            output_filled = fill(&mut call.output, answer.values("diag"));
+            // the marks are what the Rust's lookup finds
+            fill(&mut call.output_marks, answer.items("gets").map(|word| u8::from(word != "none")).collect());
+        }
         "patfactor" | "patoperator" => {
             call.scratch[..rules::triangle(call.n)].fill(0);
             reply.pairs = fill(&mut call.pair_rows, answer.numbers("prows"));
@@ -327,6 +338,25 @@ fn answered(case: &Block, answer: &Block, mut call: Call, by_rules: Option<&Expe
         _ => {}
     }
     Expected { reply, after: call, values_filled, output_filled }
+}
+
+/// The same values reordered with marks: the values and the refusal as they were without, the marks by document 02.
+fn compare_marked(call: Call, without: &Expected, case: &Block, random: &mut Random, tally: &mut Tally) -> usize {
+    let length = some_more(random, call.orig_to_perm.len());
+    let call = Call {
+        function: Function::ReorderMarked,
+        marks: List::made(call.input.len(), |_| random.bits() as u8),
+        output_marks: List::made(length, |_| random.bits() as u8),
+        ..call
+    };
+    let mut expected = rules::expected(call.clone());
+    expected.reply = without.reply;
+    expected.after.output = without.after.output.clone();
+    let mut made = call.clone();
+    let reply = made.make();
+    tally.replied(&call, &reply);
+    tally.differs(&expected.differences(&reply, &made), case, &call);
+    1
 }
 
 fn pairs(case: &Block) -> Vec<(usize, usize)> {

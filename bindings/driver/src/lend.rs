@@ -33,7 +33,7 @@ pub fn needs(call: &Call) -> Needs {
             Function::Diag => call.starts.len().saturating_sub(1),
             Function::OriginalDiag => n,
             Function::OperatorVariances => call.row_starts.len().saturating_sub(1),
-            Function::Reorder => call.orig_to_perm.len(),
+            Function::Reorder | Function::ReorderMarked => call.orig_to_perm.len(),
             _ => call.input.len(),
         },
         pairs: if listed { rules::requested(call).count() } else { 3 },
@@ -79,8 +79,13 @@ pub fn lend(call: &mut Call, random: &mut Random, mut length: impl FnMut(&mut Ra
         | Function::OriginalDiag
         | Function::OperatorVariances
         | Function::Reorder
+        | Function::ReorderMarked
         | Function::FloorZero
         | Function::FloorMean => call.output = values(random, needs.output),
         _ => {}
+    }
+    if matches!(call.function, Function::Diag | Function::ReorderMarked) {
+        let length = length(random, needs.output);
+        call.output_marks = List::made(length, |_| random.bits() as u8);
     }
 }

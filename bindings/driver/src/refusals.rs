@@ -1,5 +1,4 @@
-//! The refusal of a call by document 01, of a file's by document 02, read from their text: the first step that fails
-//! decides.
+//! The refusal of a call by documents 01 and 02, read from their text: the first step that fails decides.
 
 use crate::call::{Call, Function};
 use crate::matrix_market;
@@ -23,6 +22,7 @@ pub fn refusal(call: &Call) -> u32 {
         Function::Validate => validate(call),
         Function::Inverse => inverse(call),
         Function::Reorder => reorder(call),
+        Function::ReorderMarked => reorder_marked(call),
         Function::FloorZero | Function::FloorMean => floor(call),
         Function::Least => Ok(()),
         Function::ReadRequests => file(call),
@@ -113,7 +113,7 @@ fn diagonal_list(call: &Call) -> Steps {
     for column in 0..n {
         result_column(call, column)?;
     }
-    refuse(7, call.output.len() < n)
+    refuse(7, call.output.len() < n || call.output_marks.len() < n)
 }
 
 fn validate(call: &Call) -> Steps {
@@ -135,6 +135,14 @@ fn reorder(call: &Call) -> Steps {
     refuse(4, call.input.len() != n)?;
     permutation(&call.orig_to_perm, None)?;
     refuse(7, call.output.len() < n)
+}
+
+fn reorder_marked(call: &Call) -> Steps {
+    let n = call.orig_to_perm.len();
+    refuse(1, n > MOST_COLUMNS || call.input.len() > MOST_COLUMNS || call.marks.len() > MOST_COLUMNS)?;
+    refuse(4, call.input.len() != n || call.marks.len() != n)?;
+    permutation(&call.orig_to_perm, None)?;
+    refuse(7, call.output.len() < n || call.output_marks.len() < n)
 }
 
 fn floor(call: &Call) -> Steps {

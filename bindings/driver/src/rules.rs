@@ -191,7 +191,9 @@ fn accepted(mut call: Call) -> Expected {
         Function::Diag => {
             let n = call.starts.len() - 1;
             for i in 0..n {
-                call.output[i] = found(&call, i, i).unwrap_or(0.0);
+                let value = found(&call, i, i);
+                call.output[i] = value.unwrap_or(0.0);
+                call.output_marks[i] = u8::from(value.is_some());
             }
             Expected { output_filled: n, ..Expected::untouched(Reply::default(), call) }
         }
@@ -213,6 +215,13 @@ fn accepted(mut call: Call) -> Expected {
         Function::Reorder => {
             for (at, &index) in call.orig_to_perm.iter().enumerate() {
                 call.output[at] = call.input[index as usize];
+            }
+            Expected { output_filled: call.input.len(), ..Expected::untouched(Reply::default(), call) }
+        }
+        Function::ReorderMarked => {
+            for (at, &index) in call.orig_to_perm.iter().enumerate() {
+                call.output[at] = call.input[index as usize];
+                call.output_marks[at] = call.marks[index as usize];
             }
             Expected { output_filled: call.input.len(), ..Expected::untouched(Reply::default(), call) }
         }

@@ -149,9 +149,12 @@ pub fn sound(function: Function, n: usize, random: &mut Random) -> Call {
             call.perm_to_orig = List::new(&inverse);
         }
         Function::Inverse => call.orig_to_perm = List::new(&permutation(random, n)),
-        Function::Reorder => {
+        Function::Reorder | Function::ReorderMarked => {
             call.orig_to_perm = List::new(&permutation(random, n));
             call.input = List::made(n, |_| random.any_value());
+            if function == Function::ReorderMarked {
+                call.marks = List::made(n, |_| random.bits() as u8);
+            }
         }
         Function::FloorZero | Function::FloorMean => {
             let finite = |x: f64| if x.is_finite() { x } else { 1.0 };

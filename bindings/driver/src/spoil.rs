@@ -138,6 +138,11 @@ fn spoil(call: &mut Call, random: &mut Random) {
             0 => spoil_words(random, &mut call.orig_to_perm, n),
             _ => spoil_values(random, &mut call.input),
         },
+        Function::ReorderMarked => match random.below(3) {
+            0 => spoil_words(random, &mut call.orig_to_perm, n),
+            1 => spoil_values(random, &mut call.input),
+            _ => call.marks.edit(|marks| spoil_length(random, marks, |random| random.bits() as u8)),
+        },
         Function::FloorZero | Function::Least => spoil_values(random, &mut call.input),
         Function::FloorMean => match random.below(2) {
             0 => spoil_values(random, &mut call.input),

@@ -1,5 +1,6 @@
 // What each call replies, and the lists that it was lent.
 use super::put;
+use super::put_bytes;
 use super::put_count;
 use super::put_number;
 use super::put_value;
@@ -100,6 +101,10 @@ pub fn put_scratch(scratch: &[u32]) {
 
 pub fn put_output(output: &[f64]) {
     put_values(b"out ", output);
+}
+
+pub fn put_marks(marks: &[u8]) {
+    put_bytes(b"marks ", marks);
 }
 
 fn put_status(status: SelectedInverseStatus) {

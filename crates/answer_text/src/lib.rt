@@ -53,6 +53,10 @@ fn put_word(x: u32, k: usize) {
     put_times(k);
 }
 
+fn put_byte(x: u8, k: usize) {
+    put_word(x as u32, k);
+}
+
 fn put_spaced_value(x: f64, k: usize) {
     put(b" ");
     put_value(x);
@@ -61,6 +65,21 @@ fn put_spaced_value(x: f64, k: usize) {
 
 // How often the word at i stands from there on in a row.
 fn alike_words(list: &[u32], i: usize) -> usize
+    requires { ⌜ i < length (now list) ⌝ }
+    ensures { λ r. ⌜ (0 < r) × (r ≤ length (now (list .entry)) - i) ⌝ }
+{
+    let mut k = 1;
+    while k < list.len() - i {
+        if list[i + k] != list[i] {
+            return k;
+        }
+        k += 1;
+    }
+    k
+}
+
+// The same of a byte.
+fn alike_bytes(list: &[u8], i: usize) -> usize
     requires { ⌜ i < length (now list) ⌝ }
     ensures { λ r. ⌜ (0 < r) × (r ≤ length (now (list .entry)) - i) ⌝ }
 {
@@ -101,6 +120,19 @@ pub fn put_words(label: &[u8], list: &[u32]) {
     while i < list.len() {
         let k = alike_words(list, i);
         put_word(list[i], k);
+        i += k;
+    }
+    put_line_end();
+}
+
+// The same with bytes.
+pub fn put_bytes(label: &[u8], list: &[u8]) {
+    put(label);
+    put_count(list.len());
+    let mut i = 0;
+    while i < list.len() {
+        let k = alike_bytes(list, i);
+        put_byte(list[i], k);
         i += k;
     }
     put_line_end();

@@ -6,6 +6,7 @@ use super::fields::number_field;
 use super::fields::value_field;
 use super::fields::word_field;
 use super::items::Listed;
+use super::items::read_bytes;
 use super::items::read_values;
 use super::items::read_words;
 use super::past_label;
@@ -154,6 +155,19 @@ pub fn lent_words(text: &[u8], p: usize, label: &[u8], list: &mut [u32]) -> List
     }
 }
 
+// The same with bytes, as decimal numbers.
+pub fn lent_bytes(text: &[u8], p: usize, label: &[u8], list: &mut [u8]) -> Listed
+    ensures { λ r. ⌜ Front (r .count) (now (list .exit)) ⌝ }
+{
+    if begins(text, skip_blanks(text, p), label) {
+        return read_bytes(text, past_label(text, p, label), false, list);
+    }
+    Listed {
+        count: list.len(),
+        next: p,
+    }
+}
+
 // The same with values.
 pub fn lent_values(text: &[u8], p: usize, label: &[u8], list: &mut [f64]) -> Listed
     ensures { λ r. ⌜ Front (r .count) (now (list .exit)) ⌝ }
@@ -201,4 +215,10 @@ pub fn lent_output(text: &[u8], p: usize, list: &mut [f64]) -> Listed
     ensures { λ r. ⌜ Front (r .count) (now (list .exit)) ⌝ }
 {
     lent_values(text, p, b"lout ", list)
+}
+
+pub fn lent_marks(text: &[u8], p: usize, list: &mut [u8]) -> Listed
+    ensures { λ r. ⌜ Front (r .count) (now (list .exit)) ⌝ }
+{
+    lent_bytes(text, p, b"lmarks ", list)
 }

@@ -12,15 +12,15 @@ use mathlib.Core.List.{List, [], _∷_, _++_}
 use lib.Dec.{leb, ltb, eqb}
 use lib.ListN.{length, getD, set, length-set}
 use lib.Seq.{ext-getD, getD-set-same, getD-set-other}
-use lib.Ieee.{Float, nan}
 use borrow.Author.Tests.{ltb-false, leb-false, lt-leb, eqb-true, eqb-false, eq-eqb, ne-eqb, not-false}
 use Rattle.lists.specs.Test.{any, any-none, any-next, any-hit, any-below, any-all, any-found, not-so}
 use Rattle.lists.specs.Place.{placeFrom-at}
 use Rattle.lists.specs.Sum.{bit, bit-most, sumTo, sumTo-zero, sumTo-one, sumTo-room}
 use Rattle.lists.specs.Tabulate.{tabulate, tabulate-length, tabulate-at, tabulate-cong, tabulate-of}
 use Rattle.lists.specs.Overwrite.{overwrite, overwrite-length, overwrite-at, overwrite-past}
+use Rattle.refusal.specs.Bounds.{maxDimension}
 use Rattle.refusal.specs.Steps.{Step, each, Passed, Clear, passed-clear, clear-passed, passed-append, passed-front, passed-back, each-passed, passed-each, first-end}
-use Rattle.factor_order.specs.Permutation.{index, among, indexSteps, inverseSteps, elementSteps, permutationSteps, acceptSteps, roomStep, placeOf, inverseOf, reordered, Permutation}
+use Rattle.factor_order.specs.Permutation.{index, among, indexSteps, inverseSteps, elementSteps, permutationSteps, acceptSteps, markedSteps, longStep, roomStep, placeOf, inverseOf, reordered, Permutation}
 
 -- ---- passing 10 and 11
 
@@ -94,6 +94,22 @@ accept-permutation perm room p = (
   distinct-permutation perm (passed-distinct perm (passed-front (permutationSteps perm) _ p)),
   ltb-false _ _ (passed-clear _ (passed-back (permutationSteps perm) (roomStep perm room ∷ []) p) .0),
 )
+
+-- what passes the steps of the marked form: lists as long as the permutation, and outputs not shorter
+pub marked-accepted : (perm : List ℕ) (input marks room marksRoom : ℕ) → Passed (markedSteps perm input marks room marksRoom) →
+    (input ≡ length perm) × (marks ≡ length perm) × Permutation perm × (length perm ≤ room) × (length perm ≤ marksRoom)
+marked-accepted perm input marks room marksRoom p =
+    let lengths = longStep perm ∷ (1, ltb maxDimension input) ∷ (1, ltb maxDimension marks) ∷ (4, not (eqb input (length perm))) ∷ (4, not (eqb marks (length perm))) ∷ [] in
+    let d = passed-clear lengths (passed-front lengths _ p) in
+    let later = passed-back lengths (acceptSteps perm room ++ roomStep perm marksRoom ∷ []) p in
+    let a = accept-permutation perm room (passed-front (acceptSteps perm room) _ later) in
+    let m = passed-clear _ (passed-back (acceptSteps perm room) (roomStep perm marksRoom ∷ []) later) in (
+      eqb-true _ _ (not-false _ (d .1 .1 .1 .0)),
+      eqb-true _ _ (not-false _ (d .1 .1 .1 .1 .0)),
+      a .0,
+      a .1,
+      ltb-false _ _ (m .0),
+    )
 
 pub permutation-distinct : {perm : List ℕ} → Permutation perm → Distinct perm
 permutation-distinct P = record {
@@ -189,31 +205,33 @@ validates {perm} P =
 
 -- ---- reordering
 
-pub reordered-length : (perm : List ℕ) (input : List Float) → length (reordered perm input) ≡ length perm
-unfolding reordered
-reordered-length perm input = tabulate-length _ (length perm)
+module _ {A : Type 0} (blank : A) where
+  pub reordered-length : (perm : List ℕ) (input : List A) → length (reordered blank perm input) ≡ length perm
+  unfolding reordered
+  reordered-length perm input = tabulate-length _ (length perm)
 
-pub reordered-at : (perm : List ℕ) (input : List Float) (i : ℕ) → i < length perm → getD (reordered perm input) i nan ≡ getD input (index perm i) nan
-unfolding reordered
-reordered-at perm input i l = tabulate-at _ (length perm) i nan l
+  -- element i is that of the cell at perm i: of values and of marks alike
+  pub reordered-at : (perm : List ℕ) (input : List A) (i : ℕ) → i < length perm → getD (reordered blank perm input) i blank ≡ getD input (index perm i) blank
+  unfolding reordered
+  reordered-at perm input i l = tabulate-at _ (length perm) i blank l
 
-module _ {perm : List ℕ} (P : Permutation perm) (input : List Float) (e : length input ≡ length perm) where
-  -- reordering by the inverse undoes reordering
-  pub reordered-undoes : reordered (inverseOf perm) (reordered perm input) ≡ input
-  reordered-undoes =
-      ext-getD nan _ input (reordered-length (inverseOf perm) (reordered perm input) ∙ inverseOf-length perm ∙ sym e)
-      (λ k l.
-      let m : k < length (inverseOf perm) = subst (λ (n : ℕ). k < n) (reordered-length (inverseOf perm) (reordered perm input)) l in
-      let l′ : k < length perm = subst (λ (n : ℕ). k < n) (inverseOf-length perm) m in
-      reordered-at (inverseOf perm) (reordered perm input) k m
-      ∙ reordered-at perm input (index (inverseOf perm) k) (inverse-inside P k l′)
-      ∙ ap (λ (i : ℕ). getD input i nan) (inverse-undone P k l′))
+  module _ {perm : List ℕ} (P : Permutation perm) (input : List A) (e : length input ≡ length perm) where
+    -- reordering by the inverse undoes reordering
+    pub reordered-undoes : reordered blank (inverseOf perm) (reordered blank perm input) ≡ input
+    reordered-undoes =
+        ext-getD blank _ input (reordered-length (inverseOf perm) (reordered blank perm input) ∙ inverseOf-length perm ∙ sym e)
+        (λ k l.
+        let m : k < length (inverseOf perm) = subst (λ (n : ℕ). k < n) (reordered-length (inverseOf perm) (reordered blank perm input)) l in
+        let l′ : k < length perm = subst (λ (n : ℕ). k < n) (inverseOf-length perm) m in
+        reordered-at (inverseOf perm) (reordered blank perm input) k m
+        ∙ reordered-at perm input (index (inverseOf perm) k) (inverse-inside P k l′)
+        ∙ ap (λ (i : ℕ). getD input i blank) (inverse-undone P k l′))
 
--- and the other way round
-pub reordered-undone : {perm : List ℕ} → Permutation perm → (input : List Float) → length input ≡ length perm → reordered perm (reordered (inverseOf perm) input) ≡ input
-reordered-undone {perm} P input e =
-    ap (λ (l : List ℕ). reordered l (reordered (inverseOf perm) input)) (sym (inverse-involutive P))
-    ∙ reordered-undoes (inverse-permutation P) input (e ∙ sym (inverseOf-length perm))
+  -- and the other way round
+  pub reordered-undone : {perm : List ℕ} → Permutation perm → (input : List A) → length input ≡ length perm → reordered blank perm (reordered blank (inverseOf perm) input) ≡ input
+  reordered-undone {perm} P input e =
+      ap (λ (l : List ℕ). reordered blank l (reordered blank (inverseOf perm) input)) (sym (inverse-involutive P))
+      ∙ reordered-undoes (inverse-permutation P) input (e ∙ sym (inverseOf-length perm))
 
 -- ---- the inverse list, store by store
 

@@ -6,7 +6,6 @@ use mathlib.Core.Bool.{Bool, true, false, not, cond}
 use mathlib.Core.List.{List, [], _∷_, _++_}
 use lib.Dec.{leb, ltb, eqb}
 use lib.ListN.{length, getD, set}
-use lib.Ieee.{Float, nan}
 use Rattle.lists.specs.Test.{any}
 use Rattle.lists.specs.Place.{placeFrom}
 use Rattle.lists.specs.Tabulate.{tabulate}
@@ -67,6 +66,16 @@ abbrev pub permuteSteps : {A : Type 0} → List ℕ → List A → ℕ → List 
 permuteSteps perm input room =
     longStep perm ∷ longStep input ∷ (4, not (eqb (length input) (length perm))) ∷ acceptSteps perm room
 
+-- what its marked form refuses, with lists of values and of marks and outputs of these lengths
+abbrev pub markedSteps : List ℕ → ℕ → ℕ → ℕ → ℕ → List Step
+markedSteps perm input marks room marksRoom =
+    longStep perm
+    ∷ (1, ltb maxDimension input)
+    ∷ (1, ltb maxDimension marks)
+    ∷ (4, not (eqb input (length perm)))
+    ∷ (4, not (eqb marks (length perm)))
+    ∷ (acceptSteps perm room ++ roomStep perm marksRoom ∷ [])
+
 -- where x stands in the list
 abbrev pub placeOf : List ℕ → ℕ → ℕ
 placeOf perm x = placeFrom perm x 0 (length perm)
@@ -75,9 +84,9 @@ placeOf perm x = placeFrom perm x 0 (length perm)
 unfoldable pub inverseOf : List ℕ → List ℕ
 inverseOf perm = tabulate (placeOf perm) (length perm)
 
--- the list in original order: element i is that at perm i
-unfoldable pub reordered : List ℕ → List Float → List Float
-reordered perm input = tabulate (λ i. getD input (index perm i) nan) (length perm)
+-- the list in original order: element i is that at perm i; `blank` stands for what lies past the end of a list
+unfoldable pub reordered : {A : Type 0} → A → List ℕ → List A → List A
+reordered blank perm input = tabulate (λ i. getD input (index perm i) blank) (length perm)
 
 -- each index of 0 to n - 1 stands in the list exactly once
 pub record Permutation (perm : List ℕ) : Type 0 where

@@ -1,36 +1,55 @@
-// The diagonals of a well-formed selected-inverse result, written to the front of a list.
+// The diagonals of a well-formed selected-inverse result and their marks, written to the front of two lists.
 ghost use mathlib.Core.Path.{_≡_};
 ghost use Prim.Native.Nat.{_<_, _≤_};
 ghost use lib.ListN.{length};
 ghost use lib.Ieee.{nan};
 ghost use Rattle.lists.specs.Overwrite.{overwrite};
 ghost use Rattle.columns.specs.Kept.{f0};
-ghost use Rattle.result.specs.Lookup.{dimension, diagonalOf, diagonals, WellFormed};
+ghost use Rattle.result.specs.Lookup.{dimension, diagonalOf, markOf, diagonals, coverage, WellFormed};
 use super::ordered::Entry;
 use super::ordered::column_value;
 
-// The diagonal of column c of a well-formed result, 0.0 where it is not covered.
-fn diagonal(starts: &[u32], rows: &[u32], values: &[f64], c: usize) -> f64
+// A diagonal, 0.0 where it is not covered, and its mark.
+struct MarkedDiagonal {
+    value: f64,
+    mark: u8,
+}
+
+// The diagonal of column c of a well-formed result.
+fn diagonal(starts: &[u32], rows: &[u32], values: &[f64], c: usize) -> MarkedDiagonal
     requires { ⌜ WellFormed (now starts) (now rows) (length (now values)) ⌝ }
     requires { ⌜ c < dimension (now starts) ⌝ }
-    ensures { λ d. ⌜ d ≡ diagonalOf nan f0 (now (starts .entry)) (now (rows .entry)) (now (values .entry)) c ⌝ }
+    ensures { λ d. ⌜ d .value ≡ diagonalOf nan f0 (now (starts .entry)) (now (rows .entry)) (now (values .entry)) c ⌝ }
+    ensures { λ d. ⌜ d .mark ≡ markOf nan (now (starts .entry)) (now (rows .entry)) (now (values .entry)) c ⌝ }
 {
     match column_value(starts, rows, values, c, c) {
-        Entry::Value(d) => d,
-        Entry::Refused(_) => 0.0,
+        Entry::Value(d) => MarkedDiagonal { value: d, mark: 1 },
+        Entry::Refused(_) => MarkedDiagonal {
+            value: 0.0,
+            mark: 0,
+        },
     }
 }
 
-// Writes the diagonals to the front of the output.
-pub fn write_diagonals(starts: &[u32], rows: &[u32], values: &[f64], output: &mut [f64])
+// Writes the diagonals and their marks to the front of the outputs.
+pub fn write_diagonals(
+    starts: &[u32],
+    rows: &[u32],
+    values: &[f64],
+    output: &mut [f64],
+    marks: &mut [u8],
+)
     requires { ⌜ WellFormed (now starts) (now rows) (length (now values)) ⌝ }
-    requires { ⌜ dimension (now starts) ≤ length (now output) ⌝ }
+    requires { ⌜ (dimension (now starts) ≤ length (now output)) × (dimension (now starts) ≤ length (now marks)) ⌝ }
     ensures { λ _. ⌜ now (output .exit) ≡ overwrite (diagonals (now (starts .entry)) (now (rows .entry)) (now (values .entry))) (now (output .entry)) ⌝ }
+    ensures { λ _. ⌜ now (marks .exit) ≡ overwrite (coverage (now (starts .entry)) (now (rows .entry)) (now (values .entry))) (now (marks .entry)) ⌝ }
 {
     let n = starts.len() - 1;
     let mut c = 0;
     while c < n {
-        output[c] = diagonal(starts, rows, values, c);
+        let d = diagonal(starts, rows, values, c);
+        output[c] = d.value;
+        marks[c] = d.mark;
         c += 1;
     }
 }

@@ -7,7 +7,7 @@ ghost use lib.ListN.{length};
 ghost use Rattle.lists.specs.Overwrite.{overwrite};
 ghost use Rattle.refusal.specs.Steps.{verdict, after};
 ghost use Rattle.refusal.specs.Refusal.{replyOf};
-ghost use Rattle.result.specs.Lookup.{lookup, diagSteps, diagonals};
+ghost use Rattle.result.specs.Lookup.{lookup, diagSteps, diagonals, coverage};
 ghost use Rattle.lookup.specs.Reply.{entryReply};
 use column_search::result_check::check_result;
 use diagonal_list::write_diagonals;
@@ -26,11 +26,19 @@ pub fn get(starts: &[u32], rows: &[u32], values: &[f64], row: usize, col: usize)
     get_ordered(starts, rows, values, row, col)
 }
 
-// The diagonal list, written to the front of the output.
-pub fn diag(starts: &[u32], rows: &[u32], values: &[f64], output: &mut [f64]) -> Checked
-    ensures { λ r. ⌜ replyOf r ≡ verdict (diagSteps (now (starts .entry)) (now (rows .entry)) (length (now (values .entry))) (length (now (output .entry)))) ⌝ }
-    ensures { λ _. ⌜ now (output .exit) ≡ after (diagSteps (now (starts .entry)) (now (rows .entry)) (length (now (values .entry))) (length (now (output .entry))))
+// The diagonal list and its marks, 1 where the lookup finds the pair and 0 where it does not, written to the front of the outputs.
+pub fn diag(
+    starts: &[u32],
+    rows: &[u32],
+    values: &[f64],
+    output: &mut [f64],
+    marks: &mut [u8],
+) -> Checked
+    ensures { λ r. ⌜ replyOf r ≡ verdict (diagSteps (now (starts .entry)) (now (rows .entry)) (length (now (values .entry))) (length (now (output .entry))) (length (now (marks .entry)))) ⌝ }
+    ensures { λ _. ⌜ now (output .exit) ≡ after (diagSteps (now (starts .entry)) (now (rows .entry)) (length (now (values .entry))) (length (now (output .entry))) (length (now (marks .entry))))
         (overwrite (diagonals (now (starts .entry)) (now (rows .entry)) (now (values .entry))) (now (output .entry))) (now (output .entry)) ⌝ }
+    ensures { λ _. ⌜ now (marks .exit) ≡ after (diagSteps (now (starts .entry)) (now (rows .entry)) (length (now (values .entry))) (length (now (output .entry))) (length (now (marks .entry))))
+        (overwrite (coverage (now (starts .entry)) (now (rows .entry)) (now (values .entry))) (now (marks .entry))) (now (marks .entry)) ⌝ }
 {
     match check_result(starts, rows, values.len()) {
         Checked::Refused(why) => Checked::Refused(why),
@@ -38,7 +46,10 @@ pub fn diag(starts: &[u32], rows: &[u32], values: &[f64], output: &mut [f64]) ->
             if output.len() < starts.len() - 1 {
                 return Checked::Refused(Refusal::TooShort);
             }
-            write_diagonals(starts, rows, values, output);
+            if marks.len() < starts.len() - 1 {
+                return Checked::Refused(Refusal::TooShort);
+            }
+            write_diagonals(starts, rows, values, output, marks);
             Checked::Accepted
         }
     }

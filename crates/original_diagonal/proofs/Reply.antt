@@ -126,7 +126,7 @@ module _ (x : OriginalCall) (lent : Lent) (output : List Float) where
               ∙ overwrite-length (entryValues (x .n) (selectedSet sel) (selectedTable sel)) (lent .resultValues)
               (omega (arith, entryValues-length (x .n) (selectedSet sel) (selectedTable sel), size))
 
-      written : firstEntries (x .n) (x .perm) rs rv ≡ reordered (x .perm) (factorDiagonal x)
+      written : firstEntries (x .n) (x .perm) rs rv ≡ reordered nan (x .perm) (factorDiagonal x)
       unfolding reordered
       written =
           tabulate-cong (λ i. getD rv (index rs (index (x .perm) i)) nan) (λ i. getD (factorDiagonal x) (index (x .perm) i) nan) (x .n)
@@ -141,7 +141,7 @@ module _ (x : OriginalCall) (lent : Lent) (output : List Float) where
         left = L;
         output-is =
             w ∙ ap (λ (l : List Float). overwrite l output) written
-            ∙ sym (after-passed (steps ++ eight) (overwrite (reordered (x .perm) (factorDiagonal x)) output) output all);
+            ∙ sym (after-passed (steps ++ eight) (overwrite (reordered nan (x .perm) (factorDiagonal x)) output) output all);
       }
         where
           all : Passed (steps ++ eight)

@@ -68,8 +68,8 @@ module _ (x : OriginalCall) (lent : Lent) (output : List Float) (passed : Passed
           → getD (originalAfter x lent output) i nan ≡ selectedTable (originalSelection x) (index (x .perm) i) (index (x .perm) i)
       value e i l =
           ap (λ (v : List Float). getD v i nan) (after-passed (coveredSteps x (roomOf lent) (length output)) _ output (covered e))
-          ∙ overwrite-at (reordered (x .perm) (factorDiagonal x)) output i nan (omega (arith, reordered-length (x .perm) (factorDiagonal x), A .long))
-          ∙ reordered-at (x .perm) (factorDiagonal x) i (omega (arith, A .long))
+          ∙ overwrite-at (reordered nan (x .perm) (factorDiagonal x)) output i nan (omega (arith, reordered-length nan (x .perm) (factorDiagonal x), A .long))
+          ∙ reordered-at nan (x .perm) (factorDiagonal x) i (omega (arith, A .long))
           ∙ tabulate-at (λ j. selectedTable (originalSelection x) j j) (x .n) (index (x .perm) i) nan (inside i l)
 
 -- ---- of a reply

@@ -80,7 +80,7 @@ module _ (x : OriginalCall) where
   -- the output afterwards: output i is the diagonal at orig_to_perm i
   abbrev pub originalAfter : Lent → List Float → List Float
   originalAfter lent output =
-      after (coveredSteps (roomOf lent) (length output)) (overwrite (reordered (x .perm) factorDiagonal) output) output
+      after (coveredSteps (roomOf lent) (length output)) (overwrite (reordered nan (x .perm) factorDiagonal) output) output
 
 -- the reply and the lists of a call
 pub record OriginalDiagonal (x : OriginalCall) (lent : Lent) (output : List Float) (reply : Selected) (starts rows : List ℕ) (values : List Float)

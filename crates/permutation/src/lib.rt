@@ -7,17 +7,20 @@ pub mod reordering;
 
 ghost use mathlib.Core.Path.{_≡_};
 ghost use lib.ListN.{length};
+ghost use lib.Ieee.{nan};
 ghost use Rattle.lists.specs.Overwrite.{overwrite};
 ghost use Rattle.refusal.specs.Steps.{verdict, after};
 ghost use Rattle.refusal.specs.Refusal.{replyOf};
-ghost use Rattle.factor_order.specs.Permutation.{validateSteps, invertSteps, permuteSteps, inverseOf, reordered};
+ghost use Rattle.factor_order.specs.Permutation.{validateSteps, invertSteps, permuteSteps, markedSteps, inverseOf, reordered};
 use elements::check_elements;
 use inverse::invert;
+use order::check_marked;
 use order::check_permutation;
 use refusal::Checked;
 use refusal::MAX_DIMENSION;
 use refusal::Refusal;
 use reordering::reorder;
+use reordering::reorder_marks;
 
 // Whether the two lists are permutations that undo each other.
 pub fn validate(orig_to_perm: &[u32], perm_to_orig: &[u32]) -> Checked
@@ -61,7 +64,7 @@ pub fn permute_factor_to_original(
 ) -> Checked
     ensures { λ r. ⌜ replyOf r ≡ verdict (permuteSteps (now («orig_to_perm» .entry)) (now (input .entry)) (length (now (output .entry)))) ⌝ }
     ensures { λ _. ⌜ now (output .exit) ≡ after (permuteSteps (now («orig_to_perm» .entry)) (now (input .entry)) (length (now (output .entry))))
-        (overwrite (reordered (now («orig_to_perm» .entry)) (now (input .entry))) (now (output .entry))) (now (output .entry)) ⌝ }
+        (overwrite (reordered nan (now («orig_to_perm» .entry)) (now (input .entry))) (now (output .entry))) (now (output .entry)) ⌝ }
 {
     if MAX_DIMENSION < orig_to_perm.len() {
         return Checked::Refused(Refusal::TooLarge);
@@ -76,6 +79,36 @@ pub fn permute_factor_to_original(
         Checked::Refused(r) => Checked::Refused(r),
         Checked::Accepted => {
             reorder(orig_to_perm, input, output);
+            Checked::Accepted
+        }
+    }
+}
+
+// The same with a mark for each value: values and marks are moved alike.
+pub fn permute_factor_to_original_marked(
+    orig_to_perm: &[u32],
+    input: &[f64],
+    marks: &[u8],
+    output: &mut [f64],
+    output_marks: &mut [u8],
+) -> Checked
+    ensures { λ r. ⌜ replyOf r ≡ verdict (markedSteps (now («orig_to_perm» .entry)) (length (now (input .entry))) (length (now (marks .entry))) (length (now (output .entry))) (length (now («output_marks» .entry)))) ⌝ }
+    ensures { λ _. ⌜ now (output .exit) ≡ after (markedSteps (now («orig_to_perm» .entry)) (length (now (input .entry))) (length (now (marks .entry))) (length (now (output .entry))) (length (now («output_marks» .entry))))
+        (overwrite (reordered nan (now («orig_to_perm» .entry)) (now (input .entry))) (now (output .entry))) (now (output .entry)) ⌝ }
+    ensures { λ _. ⌜ now («output_marks» .exit) ≡ after (markedSteps (now («orig_to_perm» .entry)) (length (now (input .entry))) (length (now (marks .entry))) (length (now (output .entry))) (length (now («output_marks» .entry))))
+        (overwrite (reordered 0 (now («orig_to_perm» .entry)) (now (marks .entry))) (now («output_marks» .entry))) (now («output_marks» .entry)) ⌝ }
+{
+    match check_marked(
+        orig_to_perm,
+        input.len(),
+        marks.len(),
+        output.len(),
+        output_marks.len(),
+    ) {
+        Checked::Refused(r) => Checked::Refused(r),
+        Checked::Accepted => {
+            reorder(orig_to_perm, input, output);
+            reorder_marks(orig_to_perm, marks, output_marks);
             Checked::Accepted
         }
     }

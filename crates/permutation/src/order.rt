@@ -5,9 +5,10 @@ ghost use lib.ListN.{length};
 ghost use Rattle.refusal.specs.Bounds.{maxDimension};
 ghost use Rattle.refusal.specs.Steps.{verdict};
 ghost use Rattle.refusal.specs.Refusal.{replyOf};
-ghost use Rattle.factor_order.specs.Permutation.{orderSteps, acceptSteps};
+ghost use Rattle.factor_order.specs.Permutation.{orderSteps, acceptSteps, markedSteps};
 use super::elements::check_elements;
 use refusal::Checked;
+use refusal::MAX_DIMENSION;
 use refusal::Refusal;
 
 // 4 for a list that is not n long, then 10 and 11 element by element.
@@ -30,6 +31,42 @@ pub fn check_permutation(orig_to_perm: &[u32], room: usize) -> Checked
         Checked::Refused(r) => Checked::Refused(r),
         Checked::Accepted => {
             if room < orig_to_perm.len() {
+                return Checked::Refused(Refusal::TooShort);
+            }
+            Checked::Accepted
+        }
+    }
+}
+
+// What reordering values and marks refuses, by the lengths of these lists and of the outputs.
+pub fn check_marked(
+    orig_to_perm: &[u32],
+    input: usize,
+    marks: usize,
+    room: usize,
+    marks_room: usize,
+) -> Checked
+    ensures { λ r. ⌜ replyOf r ≡ verdict (markedSteps (now («orig_to_perm» .entry)) input marks room «marks_room») ⌝ }
+{
+    if MAX_DIMENSION < orig_to_perm.len() {
+        return Checked::Refused(Refusal::TooLarge);
+    }
+    if MAX_DIMENSION < input {
+        return Checked::Refused(Refusal::TooLarge);
+    }
+    if MAX_DIMENSION < marks {
+        return Checked::Refused(Refusal::TooLarge);
+    }
+    if input != orig_to_perm.len() {
+        return Checked::Refused(Refusal::DimensionMismatch);
+    }
+    if marks != orig_to_perm.len() {
+        return Checked::Refused(Refusal::DimensionMismatch);
+    }
+    match check_permutation(orig_to_perm, room) {
+        Checked::Refused(r) => Checked::Refused(r),
+        Checked::Accepted => {
+            if marks_room < orig_to_perm.len() {
                 return Checked::Refused(Refusal::TooShort);
             }
             Checked::Accepted

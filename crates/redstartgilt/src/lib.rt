@@ -2,12 +2,13 @@
 // Each is the library's call, with its answer as numbers; include/redstartgilt.h has a paragraph on each.
 ghost use mathlib.Core.Path.{_≡_};
 ghost use lib.ListN.{length};
+ghost use lib.Ieee.{nan};
 ghost use Rattle.lists.specs.Overwrite.{overwrite};
 ghost use Rattle.refusal.specs.Steps.{verdict, first, after};
 ghost use Rattle.columns.specs.Columns.{factorSteps};
 ghost use Rattle.columns.specs.Kept.{nonzero, keptPair};
-ghost use Rattle.result.specs.Lookup.{lookup, diagSteps, diagonals};
-ghost use Rattle.factor_order.specs.Permutation.{validateSteps, invertSteps, permuteSteps, inverseOf, reordered};
+ghost use Rattle.result.specs.Lookup.{lookup, diagSteps, diagonals, coverage};
+ghost use Rattle.factor_order.specs.Permutation.{validateSteps, invertSteps, permuteSteps, markedSteps, inverseOf, reordered};
 ghost use Rattle.columns.specs.OperatorPair.{operatorPair};
 ghost use Rattle.pattern_lists.specs.PatternLists.{PatternLists};
 ghost use Rattle.pattern_lists.specs.PatternCalls.{operatorChecks};
@@ -199,19 +200,22 @@ pub extern "C" fn redstartgilt_get(
     entry_numbers(lookup::get(starts, rows, values, row, column))
 }
 
-// The diagonal list of a result.
+// The diagonal list of a result, and the marks of the diagonals that it covers.
 #[no_mangle]
 pub extern "C" fn redstartgilt_diag(
     starts: &[u32],
     rows: &[u32],
     values: &[f64],
     output: &mut [f64],
+    marks: &mut [u8],
 ) -> u32
-    ensures { λ r. ⌜ r ≡ replyNumber (verdict (diagSteps (now (starts .entry)) (now (rows .entry)) (length (now (values .entry))) (length (now (output .entry))))) ⌝ }
-    ensures { λ _. ⌜ now (output .exit) ≡ after (diagSteps (now (starts .entry)) (now (rows .entry)) (length (now (values .entry))) (length (now (output .entry))))
+    ensures { λ r. ⌜ r ≡ replyNumber (verdict (diagSteps (now (starts .entry)) (now (rows .entry)) (length (now (values .entry))) (length (now (output .entry))) (length (now (marks .entry))))) ⌝ }
+    ensures { λ _. ⌜ now (output .exit) ≡ after (diagSteps (now (starts .entry)) (now (rows .entry)) (length (now (values .entry))) (length (now (output .entry))) (length (now (marks .entry))))
         (overwrite (diagonals (now (starts .entry)) (now (rows .entry)) (now (values .entry))) (now (output .entry))) (now (output .entry)) ⌝ }
+    ensures { λ _. ⌜ now (marks .exit) ≡ after (diagSteps (now (starts .entry)) (now (rows .entry)) (length (now (values .entry))) (length (now (output .entry))) (length (now (marks .entry))))
+        (overwrite (coverage (now (starts .entry)) (now (rows .entry)) (now (values .entry))) (now (marks .entry))) (now (marks .entry)) ⌝ }
 {
-    checked_number(lookup::diag(starts, rows, values, output))
+    checked_number(lookup::diag(starts, rows, values, output, marks))
 }
 
 // The pattern of a factor.
@@ -312,9 +316,33 @@ pub extern "C" fn redstartgilt_permute_factor_to_original(
 ) -> u32
     ensures { λ r. ⌜ r ≡ replyNumber (verdict (permuteSteps (now («orig_to_perm» .entry)) (now (input .entry)) (length (now (output .entry))))) ⌝ }
     ensures { λ _. ⌜ now (output .exit) ≡ after (permuteSteps (now («orig_to_perm» .entry)) (now (input .entry)) (length (now (output .entry))))
-        (overwrite (reordered (now («orig_to_perm» .entry)) (now (input .entry))) (now (output .entry))) (now (output .entry)) ⌝ }
+        (overwrite (reordered nan (now («orig_to_perm» .entry)) (now (input .entry))) (now (output .entry))) (now (output .entry)) ⌝ }
 {
     checked_number(permutation::permute_factor_to_original(orig_to_perm, input, output))
+}
+
+// Values and their marks put in the original order.
+#[no_mangle]
+pub extern "C" fn redstartgilt_permute_factor_to_original_marked(
+    orig_to_perm: &[u32],
+    input: &[f64],
+    marks: &[u8],
+    output: &mut [f64],
+    output_marks: &mut [u8],
+) -> u32
+    ensures { λ r. ⌜ r ≡ replyNumber (verdict (markedSteps (now («orig_to_perm» .entry)) (length (now (input .entry))) (length (now (marks .entry))) (length (now (output .entry))) (length (now («output_marks» .entry))))) ⌝ }
+    ensures { λ _. ⌜ now (output .exit) ≡ after (markedSteps (now («orig_to_perm» .entry)) (length (now (input .entry))) (length (now (marks .entry))) (length (now (output .entry))) (length (now («output_marks» .entry))))
+        (overwrite (reordered nan (now («orig_to_perm» .entry)) (now (input .entry))) (now (output .entry))) (now (output .entry)) ⌝ }
+    ensures { λ _. ⌜ now («output_marks» .exit) ≡ after (markedSteps (now («orig_to_perm» .entry)) (length (now (input .entry))) (length (now (marks .entry))) (length (now (output .entry))) (length (now («output_marks» .entry))))
+        (overwrite (reordered 0 (now («orig_to_perm» .entry)) (now (marks .entry))) (now («output_marks» .entry))) (now («output_marks» .entry)) ⌝ }
+{
+    checked_number(permutation::permute_factor_to_original_marked(
+        orig_to_perm,
+        input,
+        marks,
+        output,
+        output_marks,
+    ))
 }
 
 // A floor of 0.0 under variances.

@@ -7,6 +7,7 @@ use super::lookups::lookups;
 use super::patterns::patterns;
 use super::permutations::application;
 use super::permutations::inversion;
+use super::permutations::marked_application;
 use super::permutations::validation;
 use answer_text::put;
 use answer_text::put_part;
@@ -25,6 +26,8 @@ fn call(text: &[u8], kind: usize, p: usize) {
         inversion(text, p);
     } else if begins(text, kind, b"permapply\n") {
         application(text, p);
+    } else if begins(text, kind, b"permmarked\n") {
+        marked_application(text, p);
     } else if begins(text, kind, b"floor\n") {
         stabilization(text, p);
     } else if begins(text, kind, b"least\n") {

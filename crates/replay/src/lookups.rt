@@ -1,7 +1,9 @@
 // Lookups in a result, and its diagonal list.
 use answer_text::answers::put_checked;
+use answer_text::answers::put_marks;
 use answer_text::answers::put_ok;
 use answer_text::answers::put_output;
+use case_text::groups::lent_marks;
 use case_text::groups::lent_output;
 use case_text::groups::result;
 use lookup::diag;
@@ -26,7 +28,7 @@ pub fn lookups(text: &[u8], p: usize) {
     );
 }
 
-fn diagonal(text: &[u8], p: usize, output: &mut [f64]) {
+fn diagonal(text: &[u8], p: usize, output: &mut [f64], marks: &mut [u8]) {
     let mut starts = [0u32; ROOM];
     let mut rows = [0u32; ROOM];
     let mut values = [0.0; ROOM];
@@ -36,14 +38,18 @@ fn diagonal(text: &[u8], p: usize, output: &mut [f64]) {
         &rows[..r.second],
         &values[..r.third],
         output,
+        marks,
     );
     put_checked(answer);
     put_output(output);
+    put_marks(marks);
 }
 
-// The diagonal list of the result after p; the list that stands at p is lent or, where none does, one of 7777.
+// The diagonal list of the result after p and its marks; the lists that stand at p are lent or, where none do, lists of 7777 and of 77.
 pub fn diagonals(text: &[u8], p: usize) {
     let mut output = [7777.0; ROOM];
+    let mut marks = [77u8; ROOM];
     let o = lent_output(text, p, &mut output);
-    diagonal(text, o.next, &mut output[..o.count]);
+    let m = lent_marks(text, o.next, &mut marks);
+    diagonal(text, m.next, &mut output[..o.count], &mut marks[..m.count]);
 }

@@ -11,12 +11,12 @@ fn read(text: &mut [u8]) {
     cases::replay(&text[..k]);
 }
 
-fn read_all(text: &mut [u8; 1572864]) {
+fn read_all(text: &mut [u8; 2097152]) {
     read(text);
 }
 
 // All of standard input, up to this many bytes.
 fn main() {
-    let mut text = [0u8; 1572864];
+    let mut text = [0u8; 2097152];
     read_all(&mut text);
 }

@@ -10,7 +10,7 @@ use Rattle.lists.specs.Tabulate.{tabulate}
 use Rattle.refusal.specs.Steps.{verdict, refused, answered, first, each}
 use Rattle.columns.specs.Examples.{whole, F2-starts, F2-rows}
 use Rattle.columns.specs.Kept.{f0}
-use Rattle.result.specs.Lookup.{columnFaults, entrySteps, entryOf, lookup, resultSteps, diagSteps, diagonals}
+use Rattle.result.specs.Lookup.{columnFaults, entrySteps, entryOf, lookup, resultSteps, diagSteps, diagonals, coverage}
 
 -- F2's result has F2's starts and rows, and these values
 abbrev pub F2-inverse : List Float
@@ -44,6 +44,15 @@ uncovered = refl
 uncovered-diagonals : diagonals (0 ∷ 0 ∷ 1 ∷ []) (1 ∷ []) (whole 1 ∷ []) ≡ f0 ∷ whole 1 ∷ []
 unfolding diagonals tabulate entryOf entrySteps columnFaults first any anyIn placeFrom
 uncovered-diagonals = refl
+
+-- its marks: the first diagonal is not covered; a stored 0.0 is covered
+uncovered-marks : coverage (0 ∷ 0 ∷ 1 ∷ []) (1 ∷ []) (whole 1 ∷ []) ≡ 0 ∷ 1 ∷ []
+unfolding coverage tabulate entryOf entrySteps columnFaults first any anyIn placeFrom
+uncovered-marks = refl
+
+zero-marked : coverage (0 ∷ 1 ∷ []) (0 ∷ []) (f0 ∷ []) ≡ 1 ∷ []
+unfolding coverage tabulate entryOf entrySteps columnFaults first any anyIn placeFrom
+zero-marked = refl
 
 -- no starts
 no-starts : lookup [] [] [] 0 0 ≡ refused 2
@@ -81,10 +90,15 @@ unfolding entryOf entrySteps columnFaults first any anyIn placeFrom
 row-outside = refl
 
 -- a broken column before a short output, whatever the columns before it
-broken-second : verdict (diagSteps (0 ∷ 1 ∷ 0 ∷ []) (0 ∷ []) 1 0) ≡ refused 2
+broken-second : verdict (diagSteps (0 ∷ 1 ∷ 0 ∷ []) (0 ∷ []) 1 0 0) ≡ refused 2
 unfolding diagSteps resultSteps each columnFaults first any anyIn
 broken-second = refl
 
-short-output : verdict (diagSteps F2-starts F2-rows 3 1) ≡ refused 7
+short-output : verdict (diagSteps F2-starts F2-rows 3 1 2) ≡ refused 7
 unfolding diagSteps resultSteps each columnFaults first any anyIn
 short-output = refl
+
+-- an output of marks too short
+short-marks : verdict (diagSteps F2-starts F2-rows 3 2 1) ≡ refused 7
+unfolding diagSteps resultSteps each columnFaults first any anyIn
+short-marks = refl

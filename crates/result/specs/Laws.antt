@@ -10,6 +10,7 @@ use mathlib.Core.List.{List, [], _∷_}
 use lib.ListN.{length, getD}
 use lib.Ieee.{Float, nan}
 use borrow.Author.Tests.{ltb-false, leb-false, le-ltb, lt-ltb, lt-leb, le-leb, eqb-false, eq-eqb, ne-eqb}
+use Rattle.lists.specs.Sum.{bit}
 use Rattle.lists.specs.Test.{anyIn-below, anyIn-all, not-so}
 use Rattle.lists.specs.Tabulate.{tabulate-length, tabulate-at}
 use Rattle.refusal.specs.Steps.{Step, Reply, refused, answered, decide, first, verdict, settle, Passed, passed-clear, clear-passed, passed-back}
@@ -19,7 +20,7 @@ use Rattle.columns.specs.Factor.{Column, above-ascends}
 use Rattle.columns.specs.Kept.{f0}
 use Rattle.result.specs.Place.{placeOf, placeIn, Stands, placeIn-absent, placeIn-at, placeIn-stands, holds-stands}
 use Rattle.result.specs.Lookup.{dimension, noStarts, columnFaults, absentStep, entrySteps, resultSteps, diagSteps}
-use Rattle.result.specs.Lookup.{entryOf, valueAt, lookupOf, diagonalOf, diagonals, entryPlace, WellFormed}
+use Rattle.result.specs.Lookup.{entryOf, valueAt, finds, lookupOf, diagonalOf, markOf, diagonals, entryPlace, WellFormed}
 
 -- ---- 2 and 3 pass exactly if the columns are well formed
 module _ (starts rows : List ℕ) (values c : ℕ) where
@@ -154,19 +155,19 @@ module _ {A : Type 0} (blank : A) (starts rows : List ℕ) (values : List A) whe
 
   module _ (W : WellFormed starts rows (length values)) where
     module _ (r c : ℕ) (order : c ≤ r) (inside : r < dimension starts) where
-      place : lookupOf blank starts rows values r c ≡ valueAt blank values (placeIn rows r (start starts c) (start starts (c + 1)))
-      place =
+      pub lookup-place : lookupOf blank starts rows values r c ≡ valueAt blank values (placeIn rows r (start starts c) (start starts (c + 1)))
+      lookup-place =
           lookup-ordered r c order
           ∙ entryOf-place r c (W .some) (omega arith) (columnFaults-passed starts rows (length values) c (W .column c (omega arith))) inside
 
       -- a stored entry's value
       pub lookup-at : (p : ℕ) → Stands rows r (start starts c) (start starts (c + 1)) p → lookupOf blank starts rows values r c ≡ answered (getD values p blank)
-      lookup-at p S = place ∙ ap (valueAt blank values) (placeIn-at rows r _ _ (W .column c (omega arith) .ascends) p S)
+      lookup-at p S = lookup-place ∙ ap (valueAt blank values) (placeIn-at rows r _ _ (W .column c (omega arith) .ascends) p S)
 
       -- no stored entry: 8
       pub lookup-absent : ((p : ℕ) → Stands rows r (start starts c) (start starts (c + 1)) p → ⊥) → lookupOf blank starts rows values r c ≡ refused 8
       lookup-absent none =
-          place
+          lookup-place
           ∙ ap (valueAt blank values)
           (placeIn-absent rows r _ _ (not-so _ (λ h. let f = holds-stands rows r (start starts c) (start starts (c + 1)) h in none (f .0) (f .1))))
 
@@ -180,7 +181,11 @@ module _ {A : Type 0} (blank : A) (starts rows : List ℕ) (values : List A) whe
     -- the diagonal of a column
     pub diagonalOf-place : (zero : A) (c : ℕ) → c < dimension starts
         → diagonalOf blank zero starts rows values c ≡ settle zero (valueAt blank values (placeIn rows c (start starts c) (start starts (c + 1))))
-    diagonalOf-place zero c l = ap (settle zero) (place c c (le-refl c) l)
+    diagonalOf-place zero c l = ap (settle zero) (lookup-place c c (le-refl c) l)
+
+    pub markOf-place : (c : ℕ) → c < dimension starts
+        → markOf blank starts rows values c ≡ bit (finds (valueAt blank values (placeIn rows c (start starts c) (start starts (c + 1)))))
+    markOf-place c l = ap (λ (r : Reply A). bit (finds r)) (lookup-place c c (le-refl c) l)
 
 -- ---- the diagonal list
 module _ (starts rows : List ℕ) (values : List Float) where
@@ -193,16 +198,21 @@ module _ (starts rows : List ℕ) (values : List Float) where
   diagonals-at c l = tabulate-at _ (dimension starts) c nan l
 
 -- its steps: a malformed result, a short output, or neither
-module _ (starts rows : List ℕ) (values room : ℕ) where
-  pub diagSteps-malformed : (k : ℕ) → verdict (resultSteps starts rows values) ≡ refused k → verdict (diagSteps starts rows values room) ≡ refused k
+module _ (starts rows : List ℕ) (values room marksRoom : ℕ) where
+  pub diagSteps-malformed : (k : ℕ) → verdict (resultSteps starts rows values) ≡ refused k → verdict (diagSteps starts rows values room marksRoom) ≡ refused k
   unfolding diagSteps
   diagSteps-malformed k e = append-refused (resultSteps starts rows values) _ k tt e
 
   module _ (passed : Passed (resultSteps starts rows values)) where
-    pub diagSteps-short : room < dimension starts → verdict (diagSteps starts rows values room) ≡ refused 7
+    pub diagSteps-short : room < dimension starts → verdict (diagSteps starts rows values room marksRoom) ≡ refused 7
     unfolding diagSteps
     diagSteps-short h = append-passed (resultSteps starts rows values) _ tt passed ∙ first-hit 7 _ _ (lt-ltb _ _ h)
 
-    pub diagSteps-passed : dimension starts ≤ room → Passed (diagSteps starts rows values room)
-    unfolding diagSteps
-    diagSteps-passed h = append-passed (resultSteps starts rows values) _ tt passed ∙ first-skip 7 _ _ (le-ltb _ _ h) (first-end tt)
+    module _ (long : dimension starts ≤ room) where
+      pub diagSteps-marks-short : marksRoom < dimension starts → verdict (diagSteps starts rows values room marksRoom) ≡ refused 7
+      unfolding diagSteps
+      diagSteps-marks-short h = append-passed (resultSteps starts rows values) _ tt passed ∙ first-skip 7 _ _ (le-ltb _ _ long) (first-hit 7 _ _ (lt-ltb _ _ h))
+
+      pub diagSteps-passed : dimension starts ≤ marksRoom → Passed (diagSteps starts rows values room marksRoom)
+      unfolding diagSteps
+      diagSteps-passed h = append-passed (resultSteps starts rows values) _ tt passed ∙ first-skip 7 _ _ (le-ltb _ _ long) (first-skip 7 _ _ (le-ltb _ _ h) (first-end tt))

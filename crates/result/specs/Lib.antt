@@ -2,4 +2,5 @@
 pub mod Place
 pub mod Lookup
 pub mod Laws
+pub mod Coverage
 pub mod Examples

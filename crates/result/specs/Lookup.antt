@@ -1,11 +1,12 @@
 -- A result of starts, rows and values in compressed columns: the lookup of a pair, the diagonal list, and what each refuses.
 -- Assumes nothing.
 use Prim.Native.Nat.{ℕ, _+_, _-_, _<_, max, min}
-use mathlib.Core.Bool.{not}
+use mathlib.Core.Bool.{Bool, true, false, not}
 use mathlib.Core.List.{List, [], _∷_, _++_}
 use lib.Dec.{ltb, leb, eqb}
 use lib.ListN.{length, getD}
 use lib.Ieee.{Float, nan}
+use Rattle.lists.specs.Sum.{bit}
 use Rattle.lists.specs.Tabulate.{tabulate}
 use Rattle.refusal.specs.Steps.{Step, Reply, refused, answered, first, settle, each}
 use Rattle.columns.specs.Columns.{start, falls, unsorted}
@@ -44,6 +45,11 @@ entrySteps starts rows values r c =
     ∷ absentStep starts rows r c
     ∷ []
 
+-- a reply that is an answer
+abbrev pub finds : {A : Type 0} → Reply A → Bool
+finds (answered a) = true
+finds (refused k) = false
+
 module _ {A : Type 0} (blank : A) where
   -- the value at a place; `blank` stands for what lies past the end of a list
   abbrev pub valueAt : List A → Reply ℕ → Reply A
@@ -63,6 +69,10 @@ module _ {A : Type 0} (blank : A) where
   abbrev pub diagonalOf : A → List ℕ → List ℕ → List A → ℕ → A
   diagonalOf zero starts rows values c = settle zero (lookupOf starts rows values c c)
 
+  -- the mark of column c: 1 where the lookup finds (c, c), 0 where it does not
+  abbrev pub markOf : List ℕ → List ℕ → List A → ℕ → ℕ
+  markOf starts rows values c = bit (finds (lookupOf starts rows values c c))
+
 -- the lookup in a result of floats
 abbrev pub lookup : List ℕ → List ℕ → List Float → ℕ → ℕ → Reply Float
 lookup = lookupOf nan
@@ -71,13 +81,18 @@ lookup = lookupOf nan
 unfoldable pub resultSteps : List ℕ → List ℕ → ℕ → List Step
 resultSteps starts rows values = noStarts starts ∷ each (columnFaults starts rows values) (dimension starts)
 
--- those, then 7 for an output of that length shorter than the diagonal
-unfoldable pub diagSteps : List ℕ → List ℕ → ℕ → ℕ → List Step
-diagSteps starts rows values room = resultSteps starts rows values ++ (7, ltb room (dimension starts)) ∷ []
+-- those, then 7 for outputs of these lengths, of values and of marks, shorter than the diagonal
+unfoldable pub diagSteps : List ℕ → List ℕ → ℕ → ℕ → ℕ → List Step
+diagSteps starts rows values room marksRoom =
+    resultSteps starts rows values ++ (7, ltb room (dimension starts)) ∷ (7, ltb marksRoom (dimension starts)) ∷ []
 
 -- the diagonal list: the lookup's value at (c, c), 0.0 where it is not covered
 unfoldable pub diagonals : List ℕ → List ℕ → List Float → List Float
 diagonals starts rows values = tabulate (diagonalOf nan f0 starts rows values) (dimension starts)
+
+-- the marks of the diagonal list, byte by byte
+unfoldable pub coverage : List ℕ → List ℕ → List Float → List ℕ
+coverage starts rows values = tabulate (markOf nan starts rows values) (dimension starts)
 
 -- the place of an entry, row and column exchanged if row < column; 8 where it is absent
 abbrev pub entryPlace : List ℕ → List ℕ → ℕ → ℕ → Reply ℕ

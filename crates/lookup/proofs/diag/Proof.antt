@@ -4,18 +4,18 @@ use lib.ListN.{length}
 use borrow.Author.Needs.{needs}
 use Rattle.refusal.specs.Steps.{Step, Passed, both-refused, both-passed}
 use Rattle.refusal.specs.Refusal.{replyOf}
-use Rattle.result.specs.Laws.{resultSteps-sound, diagSteps-malformed, diagSteps-short, diagSteps-passed}
+use Rattle.result.specs.Laws.{resultSteps-sound, diagSteps-malformed, diagSteps-short, diagSteps-marks-short, diagSteps-passed}
 use Rattle.result.specs.Lookup.{resultSteps, diagSteps}
 use Rattle.lookup.proofs.diag.Statement.{statement}
 use Rattle.lookup.proofs.diag.Tie as tie
 
 -- what the call refuses
 abbrev steps : tie.Start → List Step
-steps s = diagSteps (s .args .starts .now) (s .args .rows .now) (length (s .args .values .now)) (length (s .args .output .now))
+steps s = diagSteps (s .args .starts .now) (s .args .rows .now) (length (s .args .values .now)) (length (s .args .output .now)) (length (s .args .marks .now))
 
 -- past 2 and 3
 abbrev entry : tie.After-enum-told → tie.Start
-entry c = c .before .before .before .before .before .before .before
+entry c = c .before .before .before .before .before .before .before .before
 
 passed : (c : tie.After-enum-told) → let a = entry c .args in Passed (resultSteps (a .starts .now) (a .rows .now) (length (a .values .now)))
 passed c = sym (c .before .before .check-result .ensures) ∙ ap replyOf (c .enum-told .given .1)
@@ -33,25 +33,47 @@ sub-if1 : tie.Need-sub-if1
 sub-if1 c = let w = resultSteps-sound _ _ _ (passed c) .some in search needs
 
 returns : tie.Need-returns
-returns c = both-refused (steps (entry (c .before))) _ _ (diagSteps-short _ _ _ _ (passed (c .before)) (c .if1 .taken))
+returns c =
+    let h = diagSteps-short _ _ _ _ (length (entry (c .before) .args .marks .now)) (passed (c .before)) (c .if1 .taken) in
+    let b = both-refused (steps (entry (c .before))) _ _ h in
+    (b .0, (b .1, both-refused (steps (entry (c .before))) _ _ h .1))
 
-write-diagonals-requires : tie.Need-write-diagonals-requires
-write-diagonals-requires c κs = (resultSteps-sound _ _ _ (passed (c .before .before)), c .before .if1 .left)
+sub-if2 : tie.Need-sub-if2
+sub-if2 c = let w = resultSteps-sound _ _ _ (passed (c .before)) .some in search needs
 
 returns-2 : tie.Need-returns-2
 returns-2 c =
+    let e = c .before in
+    let h = diagSteps-marks-short _ _ _ _ _ (passed (e .before)) (e .if1 .left) (c .if2 .taken) in
+    let b = both-refused (steps (entry (e .before))) _ _ h in
+    (b .0, (b .1, both-refused (steps (entry (e .before))) _ _ h .1))
+
+write-diagonals-requires : tie.Need-write-diagonals-requires
+write-diagonals-requires c κs =
+    let e = c .before .before in
+    (resultSteps-sound _ _ _ (passed (e .before .before)), (e .before .if1 .left, e .if2 .left))
+
+returns-3 : tie.Need-returns-3
+returns-3 c =
     let d = c .before .before .before in
-    both-refused (steps (d .before .before .before .before .before)) _ _
-    (diagSteps-malformed _ _ _ _ _ (sym (d .check-result .ensures) ∙ ap replyOf (c .before .why .given .1)))
+    let s = d .before .before .before .before .before .before in
+    let h = diagSteps-malformed _ _ _ (length (s .args .output .now)) (length (s .args .marks .now)) _ (sym (d .check-result .ensures) ∙ ap replyOf (c .before .why .given .1)) in
+    let b = both-refused (steps s) _ _ h in
+    (b .0, (b .1, both-refused (steps s) _ _ h .1))
 
 same-length : tie.Need-same-length
 same-length c = search needs
 
-returns-3 : tie.Need-returns-3
-returns-3 c =
-    let v = c .before .before in
-    let i = v .before .before in
-    both-passed (steps (entry (i .before))) _ (diagSteps-passed _ _ _ _ (passed (i .before)) (i .if1 .left)) (v .write-diagonals .ensures)
+same-length-2 : tie.Need-same-length-2
+same-length-2 c = search needs
+
+returns-4 : tie.Need-returns-4
+returns-4 c =
+    let v = c .before .before .before .before in
+    let e = v .before .before .before in
+    let h = diagSteps-passed _ _ _ _ _ (passed (e .before .before)) (e .before .if1 .left) (e .if2 .left) in
+    let b = both-passed (steps (entry (e .before .before))) _ h (v .write-diagonals .ensures .0) in
+    (b .0, (b .1, both-passed (steps (entry (e .before .before))) _ h (v .write-diagonals .ensures .1) .1))
 
 pub diag-spec : {M : Type 1} → statement M
 diag-spec =
@@ -62,7 +84,10 @@ diag-spec =
     enum-told
     sub-if1
     returns
-    write-diagonals-requires
+    sub-if2
     returns-2
+    write-diagonals-requires
+    returns-3
     same-length
-    returns-3)
+    same-length-2
+    returns-4)

@@ -13,11 +13,14 @@ checked-number-requires c κs = search needs
 same-length : tie.Need-same-length
 same-length c = search needs
 
+same-length-2 : tie.Need-same-length-2
+same-length-2 c = search needs
+
 returns : tie.Need-returns
 returns c =
-    let d = c .before .before .before .diag .ensures in
-    (c .checked-number .ensures ∙ checkedNumber-reply (c .before .before .before .diag .result) ∙ ap replyNumber (d .0), d .1)
+    let d = c .before .before .before .before .before .diag in
+    (c .checked-number .ensures ∙ checkedNumber-reply (d .result) ∙ ap replyNumber (d .ensures .0), d .ensures .1)
 
 pub redstartgilt-diag-spec : {M : Type 1} → statement M
 redstartgilt-diag-spec =
-    tie.close (tie.spec diag-requires checked-number-requires same-length returns)
+    tie.close (tie.spec diag-requires checked-number-requires same-length same-length-2 returns)

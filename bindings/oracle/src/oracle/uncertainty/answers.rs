@@ -20,7 +20,10 @@ fn answer(case: &Case) -> Answer {
             let asked: Vec<usize> = rows.into_iter().zip(columns).map(|(row, column)| row.min(column)).collect();
             Ok(told::lookups(case, &fed::inverse(case, |c| asked.contains(&c))?))
         }
-        "diag" => Ok(told::values("diag", fed::inverse(case, |_| true)?.diag().as_slice())),
+        "diag" => {
+            let inverse = fed::inverse(case, |_| true)?;
+            Ok(told::values("diag", inverse.diag().as_slice()) + &told::diagonal_lookups(&inverse))
+        }
         "diagorig" => original_diagonal(case),
         "opvar" => operator_variances(case),
         "patfactor" => Ok(told::pattern(&SparseSymmetricPattern::from_cholesky_factor(&fed::factor(case, None)))),

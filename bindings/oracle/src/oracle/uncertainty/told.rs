@@ -57,10 +57,17 @@ pub fn pattern(pattern: &SparseSymmetricPattern) -> String {
 
 /// The lookups of a case's pairs.
 pub fn lookups(case: &Case, inverse: &SparseSelectedInverse) -> String {
-    let (rows, columns) = (case.numbers("prows"), case.numbers("pcols"));
-    let found = |(row, column)| inverse.get(row, column).map_or("none".to_string(), answered);
+    found(inverse, case.numbers("prows").into_iter().zip(case.numbers("pcols")))
+}
+
+/// The lookup of each diagonal.
+pub fn diagonal_lookups(inverse: &SparseSelectedInverse) -> String {
+    found(inverse, (0..inverse.columns.len()).map(|index| (index, index)))
+}
+
+fn found(inverse: &SparseSelectedInverse, pairs: impl ExactSizeIterator<Item = (usize, usize)>) -> String {
     let mut text = String::new();
-    put_list(&mut text, "gets", rows.into_iter().zip(columns).map(found));
+    put_list(&mut text, "gets", pairs.map(|(row, column)| inverse.get(row, column).map_or("none".to_string(), answered)));
     text
 }
 
