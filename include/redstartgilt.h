@@ -116,12 +116,13 @@ redstartgilt_entry redstartgilt_get(
     const uint32_t *starts, size_t starts_len, const uint32_t *rows, size_t rows_len, const double *values, size_t values_len,
     size_t row, size_t column);
 
-/* The diagonal of a filled result: output[c] is the entry at (c, c), or 0.0 where it is absent. The dimension n is
- * starts_len - 1, as above. Output needs n places. Refuses with 2 and 3 as the lookup does, column by column, then with
- * 7. */
+/* The diagonal of a filled result, with marks: where the lookup finds (c, c), output[c] is its value and marks[c] 1, also
+ * for a value of 0.0, -0.0 or NaN; where it does not, output[c] is 0.0 and marks[c] 0. So a cell that was not computed is
+ * told by its mark alone. The dimension n is starts_len - 1, as above. Output and marks need n places each. Refuses with
+ * 2 and 3 as the lookup does, column by column, then with 7 for either list too short; both are then as they were. */
 uint32_t redstartgilt_diag(
     const uint32_t *starts, size_t starts_len, const uint32_t *rows, size_t rows_len, const double *values, size_t values_len,
-    double *output, size_t output_len);
+    double *output, size_t output_len, uint8_t *marks, size_t marks_len);
 
 /* The diagonal in original order: the selected entries of all n diagonals with the default limit, 10 times rows_len,
  * then output[i] is the entry at (orig_to_perm[i], orig_to_perm[i]). The result lists are filled as by selected entries,
@@ -213,6 +214,15 @@ uint32_t redstartgilt_from_orig_to_perm(const uint32_t *orig_to_perm, size_t ori
  * element with 10 and 11 as above, then with 7. */
 uint32_t redstartgilt_permute_factor_to_original(
     const uint32_t *orig_to_perm, size_t orig_to_perm_len, const double *input, size_t input_len, double *output, size_t output_len);
+
+/* The same for values with their marks: output[i] is input[orig_to_perm[i]] and output_marks[i] is
+ * marks[orig_to_perm[i]], so both are of the same cell. Marks are bytes of any value. Both outputs need n places, n being
+ * orig_to_perm_len. Refuses with 1 for a list read, marks too, that is above 2,048, with 4 for input_len or marks_len
+ * not n, then element by element with 10 and 11 as above, then with 7 for either output too short; both are then as they
+ * were. */
+uint32_t redstartgilt_permute_factor_to_original_marked(
+    const uint32_t *orig_to_perm, size_t orig_to_perm_len, const double *input, size_t input_len, const uint8_t *marks, size_t marks_len,
+    double *output, size_t output_len, uint8_t *output_marks, size_t output_marks_len);
 
 /* A floor of 0.0 under values: output[i] is values[i] where that is above the floor, else the floor, and floor_hits
  * counts the latter. Output needs a place for each value. Refuses with 1 for more than 1,048,576 values, with 13 for a

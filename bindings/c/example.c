@@ -22,6 +22,7 @@ int main(void)
     double result_values[3];
     uint32_t scratch[14]; /* 2T + 4n */
     double diagonal[2];
+    uint8_t marks[2];
 
     redstartgilt_selected reply = redstartgilt_selected_inverse_entries_with_limit(
         2, starts, COUNT(starts), rows, COUNT(rows), values, COUNT(values),
@@ -51,12 +52,44 @@ int main(void)
         result_starts, COUNT(result_starts), result_rows, COUNT(result_rows), result_values, COUNT(result_values), 2, 0);
     printf("lookup (2, 0): refusal %u\n", (unsigned)entry.refusal);
 
+    /* The marks tell a cell that was not computed from one of variance 0. */
     uint32_t refusal = redstartgilt_diag(
         result_starts, COUNT(result_starts), result_rows, COUNT(result_rows), result_values, COUNT(result_values),
-        diagonal, COUNT(diagonal));
+        diagonal, COUNT(diagonal), marks, COUNT(marks));
     redstartgilt_least least = redstartgilt_count_and_least(diagonal, COUNT(diagonal));
-    printf("diagonal: refusal %u, %.17g %.17g, %zu negative, least %.17g\n",
-        (unsigned)refusal, diagonal[0], diagonal[1], least.num_negative, least.min_value);
+    printf("diagonal: refusal %u, %.17g %.17g, marks %u %u, %zu negative, least %.17g\n",
+        (unsigned)refusal, diagonal[0], diagonal[1], (unsigned)marks[0], (unsigned)marks[1],
+        least.num_negative, least.min_value);
+
+    /* With (1, 1) alone requested (0, 0) is not computed. Values and marks are put in original order together: cell 0 is
+     * the factor's second column. */
+    const uint32_t last[] = {1};
+    const uint32_t orig_to_perm[] = {1, 0};
+    double cells[2];
+    uint8_t cell_marks[2];
+    reply = redstartgilt_selected_inverse_entries_with_limit(
+        2, starts, COUNT(starts), rows, COUNT(rows), values, COUNT(values),
+        2, last, COUNT(last), last, COUNT(last),
+        3,
+        result_starts, COUNT(result_starts), result_rows, COUNT(result_rows), result_values, COUNT(result_values),
+        scratch, COUNT(scratch));
+    if (reply.refusal != REDSTARTGILT_ACCEPTED || reply.status != REDSTARTGILT_COMPLETE)
+        return 1;
+    refusal = redstartgilt_diag(
+        result_starts, COUNT(result_starts), result_rows, COUNT(result_rows), result_values, COUNT(result_values),
+        diagonal, COUNT(diagonal), marks, COUNT(marks));
+    if (refusal == REDSTARTGILT_ACCEPTED)
+        refusal = redstartgilt_permute_factor_to_original_marked(
+            orig_to_perm, COUNT(orig_to_perm), diagonal, COUNT(diagonal), marks, COUNT(marks),
+            cells, COUNT(cells), cell_marks, COUNT(cell_marks));
+    printf("cells: refusal %u", (unsigned)refusal);
+    for (size_t cell = 0; refusal == REDSTARTGILT_ACCEPTED && cell < COUNT(cells); cell++) {
+        if (cell_marks[cell])
+            printf(", %.17g", cells[cell]);
+        else
+            printf(", not computed");
+    }
+    printf("\n");
 
     /* Requests from the bytes of a Matrix Market file, counted from 0; the end of the C text is no part of them. */
     const char file[] = "%%MatrixMarket matrix coordinate pattern symmetric\n% cells\n2 2 2\n2 1\n1 1\n";

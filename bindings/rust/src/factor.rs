@@ -2,6 +2,7 @@
 
 use crate::index::{word, words};
 use crate::lent::{self, FactorLists};
+use crate::marks;
 use crate::{Error, Permutation, MAX_DIMENSION};
 
 /// A sparse lower factor L in compressed columns, with the permutation that its order comes from.
@@ -166,6 +167,26 @@ impl CholeskyFactor {
         let mut output = vec![0.0; self.n];
         lent::permute_factor_to_original(&self.order(), input, &mut output)?;
         Ok(output)
+    }
+
+    /// The same for values that are not all there: the variance of each cell that was computed, in original order.
+    ///
+    /// Refuses a list of another length with [`Error::DimensionMismatch`].
+    ///
+    /// ```
+    /// use redstartgilt::{selected_inverse_entries, CholeskyFactor, Permutation, SparseSymmetricPattern};
+    ///
+    /// // Cell 0 is the factor's second column.
+    /// let factor = CholeskyFactor::new(2, vec![0, 2, 3], vec![0, 1, 1], vec![1.0, 2.0, 1.0])?
+    ///     .with_permutation(Permutation::from_orig_to_perm(vec![1, 0])?)?;
+    /// let mut requested = SparseSymmetricPattern::new(2);
+    /// requested.insert(1, 1)?;
+    /// let inverse = selected_inverse_entries(&factor, &requested)?.inverse.unwrap();
+    /// assert_eq!(factor.permute_factor_to_original_marked(&inverse.diag())?, [Some(1.0), None]);
+    /// # Ok::<(), redstartgilt::Error>(())
+    /// ```
+    pub fn permute_factor_to_original_marked(&self, input: &[Option<f64>]) -> Result<Vec<Option<f64>>, Error> {
+        marks::permuted(&self.order(), input)
     }
 
     /// The factor's lists, to be lent.

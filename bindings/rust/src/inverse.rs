@@ -1,6 +1,7 @@
 //! Selected entries of the inverse.
 
 use crate::lent::{self, default_limit, EntryLists};
+use crate::marks::covered;
 use crate::{CholeskyFactor, Error, SelectedInverseDiagnostics, SparseSymmetricPattern, Workspace};
 
 /// Entries of the inverse of L·Lᵀ on a closed set of pairs, in the factor's order.
@@ -27,7 +28,9 @@ impl SparseSelectedInverse {
         }
     }
 
-    /// The diagonal; 0.0 stands for a diagonal that is not in the closed set, which [`get`](Self::get) tells apart.
+    /// The diagonal: the variance of each cell, in the factor's order; `None` for a cell that is not in the closed set.
+    ///
+    /// [`CholeskyFactor::permute_factor_to_original_marked`] puts it in original order.
     ///
     /// ```
     /// use redstartgilt::{selected_inverse_entries, CholeskyFactor, SparseSymmetricPattern};
@@ -36,20 +39,40 @@ impl SparseSelectedInverse {
     /// let mut requested = SparseSymmetricPattern::new(2);
     /// requested.insert(1, 1)?;
     /// let inverse = selected_inverse_entries(&factor, &requested)?.inverse.unwrap();
-    /// assert_eq!(inverse.diag(), [0.0, 1.0]);
-    /// assert_eq!(inverse.get(0, 0), None);
+    /// assert_eq!(inverse.diag(), [None, Some(1.0)]);
     /// # Ok::<(), redstartgilt::Error>(())
     /// ```
-    pub fn diag(&self) -> Vec<f64> {
-        let mut output = vec![0.0; self.dimension];
-        self.diag_into(&mut output)
-            .expect("entries that a call has filled, and an output of their dimension");
-        output
+    pub fn diag(&self) -> Vec<Option<f64>> {
+        let (values, marks) = self.marked_diag();
+        covered(&values, &marks)
     }
 
-    /// Writes the diagonal to the first places of `output`; [`Error::TooShort`] where it has too few.
-    pub fn diag_into(&self, output: &mut [f64]) -> Result<(), Error> {
-        lent::diag(self.lists(), output)
+    /// The diagonal as gmrf-rs's `diag` gives it: 0.0 also for a cell that is not in the closed set.
+    ///
+    /// ```
+    /// # use redstartgilt::{selected_inverse_entries, CholeskyFactor, SparseSymmetricPattern};
+    /// # let factor = CholeskyFactor::new(2, vec![0, 2, 3], vec![0, 1, 1], vec![1.0, 2.0, 1.0])?;
+    /// # let mut requested = SparseSymmetricPattern::new(2);
+    /// # requested.insert(1, 1)?;
+    /// # let inverse = selected_inverse_entries(&factor, &requested)?.inverse.unwrap();
+    /// assert_eq!(inverse.diag_or_zero(), [0.0, 1.0]);
+    /// # Ok::<(), redstartgilt::Error>(())
+    /// ```
+    pub fn diag_or_zero(&self) -> Vec<f64> {
+        self.marked_diag().0
+    }
+
+    /// Writes the diagonal to the first places of two lists, without allocating: the value and the mark 1 for a cell of
+    /// the closed set, 0.0 and the mark 0 for every other; [`Error::TooShort`] where either has too few.
+    pub fn diag_into(&self, values: &mut [f64], marks: &mut [u8]) -> Result<(), Error> {
+        lent::diag(self.lists(), values, marks)
+    }
+
+    fn marked_diag(&self) -> (Vec<f64>, Vec<u8>) {
+        let (mut values, mut marks) = (vec![0.0; self.dimension], vec![0; self.dimension]);
+        self.diag_into(&mut values, &mut marks)
+            .expect("entries that a call has filled, and lists of their dimension");
+        (values, marks)
     }
 
     /// The number of entries.

@@ -228,10 +228,22 @@ pub fn get(entries: EntryLists<'_>, row: usize, column: usize) -> Result<f64, Er
     Ok(reply.value)
 }
 
-/// Writes the diagonal to `output`; a diagonal that is not among the entries is written as 0.0.
+/// Writes the diagonal to `output` and `marks`: a diagonal that is among the entries is its value with the mark 1, also
+/// where that is 0.0 or NaN, and one that is not is 0.0 with the mark 0.
 ///
-/// Refuses with 2 and 3, column by column, then with 7.
-pub fn diag(entries: EntryLists<'_>, output: &mut [f64]) -> Result<(), Error> {
+/// Refuses with 2 and 3, column by column, then with 7 for either list.
+///
+/// ```
+/// use redstartgilt::lent::{self, EntryLists};
+///
+/// // One entry, 0.25 at (1, 1).
+/// let entries = EntryLists { starts: &[0, 0, 1], rows: &[1], values: &[0.25] };
+/// let (mut values, mut marks) = ([7.0; 2], [7; 2]);
+/// lent::diag(entries, &mut values, &mut marks)?;
+/// assert_eq!((values, marks), ([0.0, 0.25], [0, 1]));
+/// # Ok::<(), redstartgilt::Error>(())
+/// ```
+pub fn diag(entries: EntryLists<'_>, output: &mut [f64], marks: &mut [u8]) -> Result<(), Error> {
     let refusal = unsafe {
         sys::redstartgilt_diag(
             entries.starts.as_ptr(),
@@ -242,6 +254,8 @@ pub fn diag(entries: EntryLists<'_>, output: &mut [f64]) -> Result<(), Error> {
             entries.values.len(),
             output.as_mut_ptr(),
             output.len(),
+            marks.as_mut_ptr(),
+            marks.len(),
         )
     };
     Error::check(refusal)
@@ -464,6 +478,34 @@ pub fn permute_factor_to_original(orig_to_perm: &[u32], input: &[f64], output: &
             input.len(),
             output.as_mut_ptr(),
             output.len(),
+        )
+    };
+    Error::check(refusal)
+}
+
+/// Writes `input[orig_to_perm[i]]` to place i of `output` and `marks[orig_to_perm[i]]` to place i of `output_marks`. Marks
+/// are bytes of any value.
+///
+/// Refuses with 1, 4, then element by element with 10, 11, then with 7 for either output.
+pub fn permute_factor_to_original_marked(
+    orig_to_perm: &[u32],
+    input: &[f64],
+    marks: &[u8],
+    output: &mut [f64],
+    output_marks: &mut [u8],
+) -> Result<(), Error> {
+    let refusal = unsafe {
+        sys::redstartgilt_permute_factor_to_original_marked(
+            orig_to_perm.as_ptr(),
+            orig_to_perm.len(),
+            input.as_ptr(),
+            input.len(),
+            marks.as_ptr(),
+            marks.len(),
+            output.as_mut_ptr(),
+            output.len(),
+            output_marks.as_mut_ptr(),
+            output_marks.len(),
         )
     };
     Error::check(refusal)

@@ -43,6 +43,7 @@ mod floor;
 mod index;
 mod inverse;
 pub mod lent;
+mod marks;
 mod operator;
 mod pattern;
 mod permutation;

@@ -2,6 +2,7 @@
 
 use crate::index::{indices, words};
 use crate::lent;
+use crate::marks;
 use crate::Error;
 
 /// A permutation with its inverse.
@@ -91,5 +92,22 @@ impl Permutation {
         let mut output = vec![0.0; self.dimension()];
         lent::permute_factor_to_original(&words(&self.orig_to_perm), input, &mut output)?;
         Ok(output)
+    }
+
+    /// The same for values that are not all there, as [`SparseSelectedInverse::diag`](crate::SparseSelectedInverse::diag)
+    /// gives them: a value and that it is there are moved together.
+    ///
+    /// Refuses as [`permute_factor_to_original`](Self::permute_factor_to_original) does.
+    ///
+    /// ```
+    /// use redstartgilt::Permutation;
+    ///
+    /// let permutation = Permutation::from_orig_to_perm(vec![2, 0, 1])?;
+    /// let moved = permutation.permute_factor_to_original_marked(&[Some(10.0), None, Some(0.0)])?;
+    /// assert_eq!(moved, [Some(0.0), Some(10.0), None]);
+    /// # Ok::<(), redstartgilt::Error>(())
+    /// ```
+    pub fn permute_factor_to_original_marked(&self, input: &[Option<f64>]) -> Result<Vec<Option<f64>>, Error> {
+        marks::permuted(&words(&self.orig_to_perm), input)
     }
 }

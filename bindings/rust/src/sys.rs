@@ -191,7 +191,7 @@ extern "C" {
         column: usize,
     ) -> redstartgilt_entry;
 
-    /// The diagonal list.
+    /// The diagonal list, with marks.
     pub fn redstartgilt_diag(
         starts: *const u32,
         starts_len: usize,
@@ -201,6 +201,8 @@ extern "C" {
         values_len: usize,
         output: *mut f64,
         output_len: usize,
+        marks: *mut u8,
+        marks_len: usize,
     ) -> u32;
 
     /// The diagonal in original order.
@@ -322,6 +324,20 @@ extern "C" {
         input_len: usize,
         output: *mut f64,
         output_len: usize,
+    ) -> u32;
+
+    /// Values with their marks, in factor order, put in original order.
+    pub fn redstartgilt_permute_factor_to_original_marked(
+        orig_to_perm: *const u32,
+        orig_to_perm_len: usize,
+        input: *const f64,
+        input_len: usize,
+        marks: *const u8,
+        marks_len: usize,
+        output: *mut f64,
+        output_len: usize,
+        output_marks: *mut u8,
+        output_marks_len: usize,
     ) -> u32;
 
     /// The floor 0.0.

@@ -73,17 +73,26 @@ fn variances_of_all_cells() {
     assert_eq!(
         folder.prints(&["f2.mtx"]),
         "Complete: 2 pairs requested, 3 computed, 3 in the factor, limit 30\n\
-         2 of 2 cells, 0 of them negative, the least 1.0\n\
+         2 of 2 cells computed, 0 of them negative, the least 1.0\n\
+         0 of 2 cells not computed\n\
          cell variance\n1 5.0\n2 1.0\n"
     );
-    assert_eq!(folder.prints(&["--csv", "f2.mtx"]), "cell,variance\n1,5.0\n2,1.0\n");
+    assert_eq!(
+        folder.prints(&["--csv", "f2.mtx"]),
+        "cell,variance,covered\n1,5.0,yes\n2,1.0,yes\n"
+    );
     folder.write("f3.mtx", F3.replace('\n', "\r\n"));
     assert_eq!(
         folder.prints(&["f3.mtx", "--csv"]),
-        "cell,variance\n1,14.0\n2,1.0\n3,1.0\n"
+        "cell,variance,covered\n1,14.0,yes\n2,1.0,yes\n3,1.0,yes\n"
     );
     folder.write("none.mtx", "%%MatrixMarket matrix coordinate real general\n0 0 0");
-    assert_eq!(folder.prints(&["none.mtx", "--csv"]), "cell,variance\n");
+    assert_eq!(folder.prints(&["none.mtx", "--csv"]), "cell,variance,covered\n");
+    assert_eq!(
+        folder.prints(&["none.mtx"]),
+        "Complete: 0 pairs requested, 0 computed, 0 in the factor, limit 0\n\
+         0 of 0 cells computed\n0 of 0 cells not computed\ncell variance\n"
+    );
 }
 
 #[test]
@@ -104,13 +113,20 @@ fn entries() {
     // No variance is computed, so none is printed.
     assert_eq!(
         folder.prints(&["--requests", "pairs.txt", "f3.mtx", "--csv"]),
-        "cell,variance\n"
+        "cell,variance,covered\n1,,no\n2,,no\n3,,no\n"
+    );
+    assert_eq!(
+        folder.prints(&["--requests", "pairs.txt", "f3.mtx"]),
+        "Complete: 1 pairs requested, 1 computed, 5 in the factor, limit 50\n\
+         0 of 3 cells computed\n3 of 3 cells not computed\n\
+         cell variance\n1 not computed\n2 not computed\n3 not computed\n"
     );
     folder.write("pairs.txt", "2 2\n2 1\n");
     assert_eq!(
         folder.prints(&["--requests", "pairs.txt", "f3.mtx"]),
         "Complete: 2 pairs requested, 3 computed, 5 in the factor, limit 50\n\
-         1 of 3 cells, 0 of them negative, the least 1.0\ncell variance\n2 1.0\n"
+         1 of 3 cells computed, 0 of them negative, the least 1.0\n2 of 3 cells not computed\n\
+         cell variance\n1 not computed\n2 1.0\n3 not computed\n"
     );
 }
 
@@ -125,7 +141,7 @@ fn a_permutation() {
     let values = |text: String| {
         text.lines()
             .skip(1)
-            .map(|line| line.rsplit(',').next().unwrap().parse::<f64>().unwrap().to_bits())
+            .map(|line| line.split(',').nth(1).unwrap().parse::<f64>().unwrap().to_bits())
             .collect::<Vec<_>>()
     };
     let by_column = values(folder.prints(&["--csv", "f.mtx"]));
@@ -330,7 +346,7 @@ fn requests_in_matrix_market_form() {
     for list in ["%%Matrix Market\n1 1\n", "% 3 3 1\n%%MatrixMarket\n1 1\n", "%\n1 1\n"] {
         folder.write("cells.mtx", list);
         let found = folder.prints(&["f3.mtx", "--csv", "--requests", "cells.mtx"]);
-        assert!(found.starts_with("cell,variance\n1,14.0\n"), "{list}");
+        assert!(found.starts_with("cell,variance,covered\n1,14.0,yes\n"), "{list}");
     }
 }
 
@@ -475,8 +491,14 @@ fn bad_usage() {
             &["f2.mtx", "--grid", "2"],
             "--grid needs two numbers above 0 as in 24x16, not 2",
         ),
-        (&["f2.mtx", "--grid", "2x1"], "--svg and --grid go together"),
-        (&["f2.mtx", "--svg", "map.svg"], "--svg and --grid go together"),
+        (&["f2.mtx", "--grid", "2x1"], "--grid needs --svg or --html"),
+        (&["f2.mtx", "--svg", "map.svg"], "--svg needs --grid"),
+        (&["f2.mtx", "--html", "map.svg"], "--html needs --grid"),
+        (&["f2.mtx", "--html"], "--html needs a value"),
+        (
+            &["f2.mtx", "--grid=2x1", "--svg=map.svg", "--html=map.svg"],
+            "--svg and --html need two files",
+        ),
         (
             &["f2.mtx", "--svg", "map.svg", "--grid", "2x2"],
             "--grid 2x2 does not have the factor's 2 cells",
@@ -484,6 +506,15 @@ fn bad_usage() {
         (&["--demo", "f2.mtx"], "--demo does not go with a factor"),
         (&["--demo", "--limit", "3"], "--demo does not go with --limit"),
         (&["--demo", "--entries"], "--demo does not go with --entries"),
+        (&["--demo", "--grid", "24x16"], "--demo does not go with --grid"),
+        (
+            &["--demo", "--permutation", "f2.mtx"],
+            "--demo does not go with --permutation",
+        ),
+        (
+            &["--demo", "--svg=map.svg", "--html=map.svg"],
+            "--svg and --html need two files",
+        ),
     ] {
         assert_eq!(folder.fails(words, 2), format!("{message}; try --help"), "{words:?}");
     }
@@ -501,6 +532,7 @@ fn help_and_version() {
         "--entries",
         "--csv",
         "--svg",
+        "--html",
         "--grid",
         "--demo",
         "--version",
@@ -519,7 +551,36 @@ fn help_and_version() {
     folder.write("--f.mtx", F2);
     assert_eq!(
         folder.prints(&["--csv", "--", "--f.mtx"]),
-        "cell,variance\n1,5.0\n2,1.0\n"
+        "cell,variance,covered\n1,5.0,yes\n2,1.0,yes\n"
+    );
+}
+
+/// A variance of 0.0 that was computed, one that is infinite, and one that was not computed.
+const WIDE: &str = "%%MatrixMarket matrix coordinate real general\n3 3 3\n1 1 1e200\n2 2 1e-200\n3 3 1\n";
+
+/// 0.0 is printed for a computed variance alone.
+#[test]
+fn a_computed_zero_and_a_missing_cell() {
+    let folder = Folder::new("zero");
+    folder.write("f.mtx", WIDE);
+    folder.write("pairs.txt", "1 1\n2 2\n");
+    let requests = ["f.mtx", "--requests", "pairs.txt"];
+    assert_eq!(
+        folder.prints(&requests),
+        "Complete: 2 pairs requested, 2 computed, 3 in the factor, limit 30\n\
+         2 of 3 cells computed, 0 of them negative, the least 0.0\n1 of 3 cells not computed\n\
+         cell variance\n1 0.0\n2 inf\n3 not computed\n"
+    );
+    assert_eq!(
+        folder.prints(&[&requests[..], &["--csv"]].concat()),
+        "cell,variance,covered\n1,0.0,yes\n2,inf,yes\n3,,no\n"
+    );
+    // Cells in another order: cell 1 is the factor's third column.
+    folder.write("order.txt", "3\n1\n2\n");
+    folder.write("pairs.txt", "2 2\n");
+    assert_eq!(
+        folder.prints(&[&requests[..], &["--csv", "--permutation", "order.txt"]].concat()),
+        "cell,variance,covered\n1,,no\n2,0.0,yes\n3,,no\n"
     );
 }
 
@@ -591,15 +652,42 @@ fn a_picture_of_a_factor() {
     assert!(cells(&document)[0].contains("fill=\"#fde725\"><title>column 1, row 1: 14.0</title>"));
     assert!(cells(&document)[1].contains("fill=\"#440154\"><title>column 2, row 1: 1.0</title>"));
     assert!(document.contains("linearGradient"));
-    assert!(!document.contains("no value"));
-    // A cell that is not computed has another colour and a key.
+    assert!(document.contains(">0 of 3 cells not computed</text>"));
+    assert!(!document.contains(">not computed</text>") && !document.contains("<pattern"));
+    // A cell that is not computed is hatched and has a key.
     folder.write("f3.mtx", F3);
     folder.write("pairs.txt", "2 2\n");
     folder.prints(&["f3.mtx", "--grid", "1x3", "--svg", "map.svg", "--requests", "pairs.txt"]);
     let document = folder.read("map.svg");
     elements(&document);
-    assert!(cells(&document)[0].contains("<title>column 1, row 1: not computed</title>"));
-    assert!(document.contains("no value"));
+    for missing in [0, 2] {
+        let words = format!("<title>column 1, row {}: not computed</title>", missing + 1);
+        assert!(cells(&document)[missing].contains(&words));
+        assert!(cells(&document)[missing].contains("fill=\"url(#not-computed)\""));
+    }
+    assert!(cells(&document)[1].contains("<title>column 1, row 2: 1.0</title>"));
+    assert!(document.contains("<pattern id=\"not-computed\""));
+    assert!(document.contains(">not computed</text>"));
+    assert!(document.contains(">2 of 3 cells not computed</text>"));
+    assert!(!document.contains("not-finite") && !document.contains("land"));
+    // A variance that is not finite is computed, and is told from one that is not.
+    folder.write("wide.mtx", WIDE);
+    folder.write("pairs.txt", "1 1\n2 2\n");
+    folder.prints(&[
+        "wide.mtx",
+        "--grid",
+        "1x3",
+        "--svg",
+        "map.svg",
+        "--requests",
+        "pairs.txt",
+    ]);
+    let document = folder.read("map.svg");
+    elements(&document);
+    assert!(cells(&document)[0].contains("<title>column 1, row 1: 0.0</title>"));
+    assert!(cells(&document)[1].contains("fill=\"url(#not-finite)\"><title>column 1, row 2: inf</title>"));
+    assert!(cells(&document)[2].contains("fill=\"url(#not-computed)\""));
+    assert!(document.contains(">not finite</text>") && document.contains(">1 of 3 cells not computed</text>"));
     // No variance at all, so no scale.
     folder.write("pairs.txt", "");
     folder.prints(&["f3.mtx", "--grid", "1x3", "--svg", "map.svg", "--requests", "pairs.txt"]);
@@ -618,10 +706,12 @@ fn the_demo() {
     assert!(table.starts_with("A harbour of 24 x 16 cells"));
     assert!(table.contains("Complete: "));
     assert!(table.contains("mean depth of the turning basin"));
+    assert!(table.contains("\n0 of 266 cells not computed\n"));
     let csv = folder.prints(&["--demo", "--csv", "--svg", "map.svg"]);
     let variances = csv
         .lines()
         .skip(1)
+        .map(|line| line.strip_suffix(",yes").unwrap())
         .map(|line| line.rsplit(',').next().unwrap().parse::<f64>().unwrap())
         .collect::<Vec<_>>();
     assert!(variances.iter().all(|variance| *variance > 0.0 && *variance < 64.0));
@@ -632,4 +722,143 @@ fn the_demo() {
     assert_eq!(names.iter().filter(|name| *name == "stop").count(), 5);
     assert_eq!(folder.prints(&["--demo", "--svg", "again.svg"]), table);
     assert_eq!(folder.read("again.svg"), document);
+}
+
+const INNER_FAIRWAY: &str = concat!(env!("CARGO_MANIFEST_DIR"), "/examples/inner-fairway.mtx");
+
+/// The harbour with a part of its cells asked for: the others are told as not computed everywhere.
+#[test]
+fn the_demo_with_requests() {
+    let folder = Folder::new("demo-requests");
+    let requests = ["--demo", "--requests", INNER_FAIRWAY];
+    let all = folder.prints(&["--demo", "--csv"]);
+    let some = folder.prints(&[&requests[..], &["--csv", "--svg", "map.svg", "--html", "map.html"]].concat());
+    assert_eq!(all.lines().next(), Some("cell,column,row,variance,covered"));
+    let value = |line: &str| line.split(',').nth(3).unwrap().parse::<f64>().unwrap();
+    let (mut computed, mut missing) = (0, 0);
+    for (one, other) in all.lines().zip(some.lines()).skip(1) {
+        match other.strip_suffix(",,no") {
+            Some(place) => {
+                assert!(one.starts_with(&format!("{place},")));
+                missing += 1;
+            }
+            None => {
+                assert!(other.ends_with(",yes"));
+                assert!((value(one) - value(other)).abs() <= 1e-12 * value(one));
+                computed += 1;
+            }
+        }
+    }
+    assert_eq!((computed, missing), (98, 168));
+    let table = folder.prints(&requests);
+    assert!(table.contains("\n98 of 266 cells computed, 0 of them negative, the least 0.009"));
+    assert!(table.contains("\n168 of 266 cells not computed\n"));
+    let shoal = table.lines().find(|line| line.starts_with("shoal")).unwrap();
+    assert!(shoal.ends_with("  lead line         none  not computed"), "{shoal}");
+    let document = folder.read("map.svg");
+    elements(&document);
+    let filled = |words: &str| cells(&document).iter().filter(|cell| cell.contains(words)).count();
+    assert_eq!(filled("fill=\"url(#not-computed)\""), missing);
+    assert_eq!(filled(": not computed</title>"), missing);
+    assert_eq!(filled("fill=\"url(#land)\""), 24 * 16 - computed - missing);
+    assert_eq!(filled(": land</title>"), 24 * 16 - computed - missing);
+    assert_eq!(filled("fill=\"#"), computed);
+    assert!(document.contains(">not computed</text>") && document.contains(">land</text>"));
+    let page = folder.read("map.html");
+    assert_eq!(page.matches("data-coverage=\"not computed\"").count(), missing);
+    assert_eq!(
+        page.matches("data-coverage=\"land\"").count(),
+        24 * 16 - computed - missing
+    );
+    // The cells are those of the harbour, and the file is read as that of a factor.
+    folder.write("f3.mtx", format!("{HEADER}\n3 3 0\n"));
+    assert_eq!(
+        folder.fails(&["--demo", "--requests", "f3.mtx"], 14),
+        "f3.mtx: refusal 4: the file is of dimension 3, the factor of dimension 266"
+    );
+}
+
+/// The attribute of a cell of the page.
+fn attribute<'a>(cell: &'a str, name: &str) -> Option<&'a str> {
+    let (_, rest) = cell.split_once(&format!(" {name}=\""))?;
+    rest.split_once('"').map(|(value, _)| value)
+}
+
+#[test]
+fn a_page_of_a_factor() {
+    let folder = Folder::new("page");
+    folder.write("a<b>&\"c\".mtx", WIDE);
+    folder.write("pairs.txt", "1 1\n2 2\n");
+    let words = ["--grid", "3x1", "--html", "map.html", "--requests", "pairs.txt"];
+    let printed = folder.prints(&[&["a<b>&\"c\".mtx"], &words[..]].concat());
+    assert!(printed.ends_with("3 not computed\n"));
+    let page = folder.read("map.html");
+    assert!(page.starts_with("<!DOCTYPE html>\n<html lang=\"en\">"));
+    let title = "Variances of a&lt;b&gt;&amp;&quot;c&quot;.mtx";
+    assert!(page.contains(&format!("<title>{title}</title>")) && page.contains(&format!("<h1>{title}</h1>")));
+    let found = cells(&page);
+    let of = |name: &str| found.iter().map(|cell| attribute(cell, name)).collect::<Vec<_>>();
+    assert_eq!(of("data-cell"), [Some("1"), Some("2"), Some("3")]);
+    assert_eq!(
+        of("data-coverage"),
+        [Some("computed"), Some("computed"), Some("not computed")]
+    );
+    assert_eq!(of("data-variance"), [Some("0.0"), Some("inf"), None]);
+    assert_eq!(of("data-deviation"), [Some("0.0000"), None, None]);
+    assert_eq!(of("fill")[1..], [Some("url(#not-finite)"), Some("url(#not-computed)")]);
+    for words in [
+        "2 of 3 cells computed, <strong>1 not computed</strong>",
+        "not computed: 1 cell</li>",
+        "not finite: 1 cell</li>",
+        "<dt>status</dt><dd>Complete</dd>",
+        "<dt>pairs requested</dt><dd>2</dd>",
+        "<dt>pairs computed</dt><dd>2</dd>",
+        "<dt>pairs in the factor</dt><dd>3</dd>",
+        "<dt>limit of pairs</dt><dd>30</dd>",
+        "<dt>computed / in the factor</dt><dd>0.6667</dd>",
+        "<tr><th scope=\"row\">1</th><td>1</td><td>1</td><td>computed</td><td>0.0</td><td>0.0000</td></tr>",
+        "<tr><th scope=\"row\">3</th><td>3</td><td>1</td><td>not computed</td><td>none</td><td>none</td></tr>",
+        "aria-live=\"polite\"",
+        "prefers-color-scheme: dark",
+        "id=\"next\"",
+    ] {
+        assert!(page.contains(words), "{words}");
+    }
+    // With every cell computed there is nothing to look for.
+    folder.write("f3.mtx", F3);
+    folder.prints(&["f3.mtx", "--grid", "3x1", "--html", "map.html", "--svg", "map.svg"]);
+    let page = folder.read("map.html");
+    assert!(page.contains("3 of 3 cells computed, <strong>0 not computed</strong>"));
+    assert!(!page.contains("<button") && !page.contains("<pattern"));
+    elements(&folder.read("map.svg"));
+    // With none computed there is no scale and no least variance.
+    folder.write("pairs.txt", "");
+    folder.prints(&[&["f3.mtx"], &words[..]].concat());
+    let page = folder.read("map.html");
+    assert!(page.contains("0 of 3 cells computed, <strong>3 not computed</strong>"));
+    assert!(!page.contains("least variance") && !page.contains(">shade<"));
+    assert!(!page.contains("data-variance") && !page.contains(">0.0<"));
+    assert!(folder
+        .fails(&["f3.mtx", "--grid", "1x3", "--html", "no/map.html"], 1)
+        .starts_with("no/map.html: "));
+}
+
+/// The page needs no other file and no network.
+#[test]
+fn a_page_by_itself() {
+    let folder = Folder::new("by-itself");
+    folder.prints(&["--demo", "--requests", INNER_FAIRWAY, "--html", "map.html"]);
+    let page = folder.read("map.html");
+    for words in [
+        "http:", "https:", "//", " src=", "href", "@import", "import(", "fetch(", "XMLHttp",
+    ] {
+        let in_comments = |line: &&str| words == "//" && line.trim_start().starts_with("// ");
+        let found = page.lines().find(|line| line.contains(words) && !in_comments(line));
+        assert_eq!(found, None, "{words}");
+    }
+    let references = page.split("url(").skip(1);
+    assert!(references.clone().count() > 0);
+    assert!(references.into_iter().all(|rest| rest.starts_with('#')));
+    assert!(page.contains("http-equiv=\"Content-Security-Policy\" content=\"default-src 'none'; "));
+    assert!(!page.chars().any(|letter| letter.is_control() && letter != '\n'));
 }

@@ -95,6 +95,14 @@ fn dimension_mismatch() {
         Err(Error::DimensionMismatch)
     );
     assert_eq!(f2().permute_factor_to_original(&[1.0]), Err(Error::DimensionMismatch));
+    assert_eq!(
+        permutation.permute_factor_to_original_marked(&[Some(1.0)]),
+        Err(Error::DimensionMismatch)
+    );
+    assert_eq!(
+        f2().permute_factor_to_original_marked(&[None]),
+        Err(Error::DimensionMismatch)
+    );
     let operator = SparseRowOperator::identity(3);
     assert_eq!(
         selected_inverse_transformed_diag(&f2(), &operator),
@@ -229,11 +237,14 @@ fn request_files() {
 fn too_short() {
     let selected = selected_inverse_entries(&f2(), &SparseSymmetricPattern::diagonal(2)).unwrap();
     let inverse = selected.inverse.unwrap();
-    let mut output = [7.0; 3];
-    assert_eq!(inverse.diag_into(&mut output[..1]), Err(Error::TooShort));
-    assert_eq!(output, [7.0; 3]);
-    assert_eq!(inverse.diag_into(&mut output), Ok(()));
-    assert_eq!(output, [5.0, 1.0, 7.0]);
+    for (values, marks) in [(1, 2), (2, 1), (0, 5), (5, 0)] {
+        let (mut values, mut marks) = (vec![7.0; values], vec![7; marks]);
+        assert_eq!(inverse.diag_into(&mut values, &mut marks), Err(Error::TooShort));
+        assert!(values.iter().all(|value| *value == 7.0) && marks.iter().all(|mark| *mark == 7));
+    }
+    let (mut values, mut marks) = ([7.0; 3], [7; 4]);
+    assert_eq!(inverse.diag_into(&mut values, &mut marks), Ok(()));
+    assert_eq!((values, marks), ([5.0, 1.0, 7.0], [1, 1, 7, 7]));
 }
 
 const F2: FactorLists<'static> = FactorLists {
@@ -355,7 +366,9 @@ fn lookups_in_broken_lists() {
         values: &[],
     };
     assert_eq!(lent::get(nothing, 0, 0), Err(Error::BrokenStarts));
-    assert_eq!(lent::diag(nothing, &mut []), Err(Error::BrokenStarts));
+    assert_eq!(lent::diag(nothing, &mut [], &mut []), Err(Error::BrokenStarts));
+    // Column 0 is looked at before column 1, and both before the lists lent.
+    assert_eq!(lent::diag(entries, &mut [], &mut []), Err(Error::BrokenRows));
 }
 
 #[test]

@@ -36,6 +36,7 @@ impl<'a> Case<'a> {
         self.items(name).iter().map(|word| word.parse().unwrap()).collect()
     }
 
+    /// Bytes as two hexadecimal digits each.
     fn bytes(&self, name: &str) -> Vec<u8> {
         let items = self.items(name).iter();
         items
@@ -44,6 +45,11 @@ impl<'a> Case<'a> {
                 u8::from_str_radix(word, 16).unwrap()
             })
             .collect()
+    }
+
+    /// Bytes as decimal numbers.
+    fn marks(&self, name: &str) -> Vec<u8> {
+        self.items(name).iter().map(|word| word.parse().unwrap()).collect()
     }
 
     fn values(&self, name: &str) -> Vec<f64> {
@@ -64,6 +70,14 @@ impl<'a> Case<'a> {
             self.values(name)
         } else {
             vec![7777.0; length]
+        }
+    }
+
+    fn lent_marks(&self, name: &str, length: usize) -> Vec<u8> {
+        if self.has(name) {
+            self.marks(name)
+        } else {
+            vec![77; length]
         }
     }
 }
@@ -104,6 +118,10 @@ fn put_items<T>(
 
 fn put_words(answer: &mut String, name: &str, list: &[u32]) {
     put_items(answer, name, list, u32::eq, u32::to_string);
+}
+
+fn put_marks(answer: &mut String, name: &str, list: &[u8]) {
+    put_items(answer, name, list, u8::eq, u8::to_string);
 }
 
 /// Zeros and NaNs are written one by one.
@@ -318,6 +336,7 @@ fn selected(answer: &mut String, case: &Case<'_>) {
 fn diagonals(answer: &mut String, case: &Case<'_>) {
     let (starts, rows, values) = (case.words("starts"), case.words("rows"), case.values("values"));
     let mut output = case.lent_values("lout", 4_608);
+    let mut marks = case.lent_marks("lmarks", 4_608);
     let refusal = unsafe {
         sys::redstartgilt_diag(
             starts.as_ptr(),
@@ -328,10 +347,13 @@ fn diagonals(answer: &mut String, case: &Case<'_>) {
             values.len(),
             output.as_mut_ptr(),
             output.len(),
+            marks.as_mut_ptr(),
+            marks.len(),
         )
     };
     put_reply(answer, refusal);
     put_values(answer, "out", &output);
+    put_marks(answer, "marks", &marks);
 }
 
 fn request_files(answer: &mut String, case: &Case<'_>) {
@@ -420,6 +442,28 @@ fn permutations(answer: &mut String, case: &Case<'_>) {
             put_reply(answer, refusal);
             put_words(answer, "inv", &inverse);
         }
+        "permmarked" => {
+            let (input, marks) = (case.values("input"), case.marks("marks"));
+            let mut output = case.lent_values("lout", 4_608);
+            let mut output_marks = case.lent_marks("lmarks", 4_608);
+            let refusal = unsafe {
+                sys::redstartgilt_permute_factor_to_original_marked(
+                    permutation.as_ptr(),
+                    permutation.len(),
+                    input.as_ptr(),
+                    input.len(),
+                    marks.as_ptr(),
+                    marks.len(),
+                    output.as_mut_ptr(),
+                    output.len(),
+                    output_marks.as_mut_ptr(),
+                    output_marks.len(),
+                )
+            };
+            put_reply(answer, refusal);
+            put_values(answer, "out", &output);
+            put_marks(answer, "marks", &output_marks);
+        }
         _ => {
             let input = case.values("input");
             let mut output = case.lent_values("lout", 4_608);
@@ -485,7 +529,7 @@ fn answer(case: &Case<'_>) -> String {
         "diag" => diagonals(&mut answer, case),
         "mmread" => request_files(&mut answer, case),
         "patfactor" | "patoperator" => patterns(&mut answer, case),
-        "permvalidate" | "permfrom" | "permapply" => permutations(&mut answer, case),
+        "permvalidate" | "permfrom" | "permapply" | "permmarked" => permutations(&mut answer, case),
         "floor" => floors(&mut answer, case),
         "least" => least(&mut answer, case),
         kind => panic!("kind {kind}"),

@@ -55,7 +55,8 @@ fn f2_within_the_limit() {
     assert_eq!(inverse.get(1, 0), Some(-2.0));
     assert_eq!(inverse.get(2, 0), None);
     assert_eq!(inverse.get(0, usize::MAX), None);
-    assert_eq!(inverse.diag(), [5.0, 1.0]);
+    assert_eq!(inverse.diag(), [Some(5.0), Some(1.0)]);
+    assert_eq!(inverse.diag_or_zero(), [5.0, 1.0]);
 }
 
 #[test]
@@ -73,7 +74,8 @@ fn f2_with_other_requests() {
     assert_eq!(corner.diagnostics.closure_pairs, 1);
     let corner = corner.inverse.unwrap();
     assert_eq!(corner.get(0, 0), None);
-    assert_eq!(corner.diag(), [0.0, 1.0]);
+    assert_eq!(corner.diag(), [None, Some(1.0)]);
+    assert_eq!(corner.diag_or_zero(), [0.0, 1.0]);
     assert_eq!(select(&f2(), &[(0, 1), (1, 0)], 3).diagnostics.requested_pairs, 1);
 }
 
@@ -86,7 +88,9 @@ fn no_requests() {
     let selected = select(&none(0), &[], 3);
     assert!(selected.diagnostics.is_complete());
     assert_eq!(selected.diagnostics.closure_over_factor, 0.0);
-    assert_eq!(selected.inverse.unwrap().diag(), [0.0; 0]);
+    let inverse = selected.inverse.unwrap();
+    assert_eq!(inverse.diag(), [None; 0]);
+    assert_eq!(inverse.diag_or_zero(), [0.0; 0]);
 }
 
 #[test]

@@ -83,17 +83,9 @@ fn refused_file(file: &Path, text: &[u8], error: Error) -> Failure {
 }
 
 /// The requested pairs of a file, moved to the factor's order.
-pub fn requests(
-    file: &Path,
-    dimension: usize,
-    permutation: Option<&Permutation>,
-) -> Result<SparseSymmetricPattern, Failure> {
+pub fn requests(file: &Path, dimension: usize, permutation: &Permutation) -> Result<SparseSymmetricPattern, Failure> {
     // An index outside stays as it is, for the pattern to refuse.
-    let place = |cell: usize| {
-        permutation
-            .and_then(|permutation| permutation.orig_to_perm.get(cell).copied())
-            .unwrap_or(cell)
-    };
+    let place = |cell: usize| permutation.orig_to_perm.get(cell).copied().unwrap_or(cell);
     let text = text_of(file)?;
     let mut pattern = SparseSymmetricPattern::new(dimension);
     if is_matrix_market(&text) {

@@ -2,12 +2,11 @@
 
 use crate::failure::{written, Failure};
 use crate::grid::Grid;
-use crate::report;
-use crate::svg::{draw, Cell, Picture};
-use redstartgilt::{
-    selected_inverse_diag_with_diagnostics_in, selected_inverse_transformed_diag_in, CholeskyFactor, Permutation,
-    SparseRowOperator, Workspace,
-};
+use crate::map::{Cell, Map};
+use crate::options::Options;
+use crate::report::{self, NOT_COMPUTED};
+use crate::{cell_of, find, write_map, Found};
+use redstartgilt::{selected_inverse_transformed_diag, CholeskyFactor, Error, Permutation, SparseRowOperator};
 use std::io::{self, Write};
 
 /// `#` land, `.` water that nobody has sounded, `+` one sounding by lead line, `*` sounded by echo sounder.
@@ -57,14 +56,6 @@ pub struct Harbour {
     water: Vec<Option<usize>>,
     /// The grid's cell of each water cell.
     cells: Vec<usize>,
-}
-
-/// What is printed and drawn.
-pub struct Answer {
-    /// The variance of each water cell, row by row.
-    variances: Vec<f64>,
-    basin_mean: f64,
-    diagnostics: redstartgilt::SelectedInverseDiagnostics,
 }
 
 impl Harbour {
@@ -145,10 +136,16 @@ impl Harbour {
         matrix
     }
 
-    pub fn answer(&self) -> Result<Answer, redstartgilt::Error> {
+    /// The factor of the precision matrix, with its order.
+    fn factor(&self) -> Result<CholeskyFactor, Error> {
         let order = self.order();
         let lower = cholesky(self.precision(&order));
-        let factor = CholeskyFactor::from_triplets(self.cells.len(), &lower)?.with_permutation(order)?;
+        CholeskyFactor::from_triplets(self.cells.len(), &lower)?.with_permutation(order)
+    }
+
+    /// The variance of the mean depth of the basin. It is asked for by itself, so it is there whatever cells are asked
+    /// for.
+    fn basin_mean(&self, factor: &CholeskyFactor) -> Result<f64, Error> {
         let (columns, rows) = BASIN;
         let basin = rows
             .flat_map(|row| columns.clone().filter_map(move |column| self.at(column, row)))
@@ -158,16 +155,9 @@ impl Harbour {
             self.cells.len(),
             vec![basin.into_iter().map(|water| (water, weight)).collect()],
         )?;
-        let mut workspace = Workspace::new();
-        let cells = selected_inverse_diag_with_diagnostics_in(&factor, &mut workspace)?;
-        let means = selected_inverse_transformed_diag_in(&factor, &mean, &mut workspace)?;
+        let means = selected_inverse_transformed_diag(factor, &mean)?;
         // Its closed set is within all pairs of the harbour, which are within the limit.
-        let means = means.estimate.ok_or(redstartgilt::Error::NotCovered)?;
-        Ok(Answer {
-            variances: cells.estimate.values,
-            basin_mean: means.values[0],
-            diagnostics: cells.diagnostics,
-        })
+        Ok(means.estimate.ok_or(Error::NotCovered)?.values[0])
     }
 
     fn soundings(&self, water: usize) -> &'static str {
@@ -179,7 +169,7 @@ impl Harbour {
     }
 
     /// A short table of a few places.
-    pub fn table(&self, output: &mut impl Write, answer: &Answer) -> io::Result<()> {
+    fn table(&self, output: &mut impl Write, found: &Found, basin_mean: f64) -> io::Result<()> {
         writeln!(
             output,
             "A harbour of {} x {} cells, {} of them water; variances of the depth in square metres.",
@@ -187,7 +177,8 @@ impl Harbour {
             self.grid.height,
             self.cells.len()
         )?;
-        report::counts(output, &answer.diagnostics)?;
+        report::counts(output, &found.diagnostics)?;
+        report::coverage(output, &found.variances)?;
         writeln!(
             output,
             "{:<24} {:>6} {:>3}  {:<12} {:>9}  variance",
@@ -195,49 +186,44 @@ impl Harbour {
         )?;
         for (name, column, row) in PLACES {
             if let Some(water) = self.at(column, row) {
-                let variance = answer.variances[water];
+                let (deviation, variance) = match found.variances[water] {
+                    Some(variance) => (format!("{:.3} m", variance.sqrt()), format!("{variance:?}")),
+                    None => ("none".to_string(), NOT_COMPUTED.to_string()),
+                };
                 writeln!(
                     output,
-                    "{name:<24} {:>6} {:>3}  {:<12} {:>7.3} m  {variance:?}",
+                    "{name:<24} {:>6} {:>3}  {:<12} {deviation:>9}  {variance}",
                     column + 1,
                     row + 1,
-                    self.soundings(water),
-                    variance.sqrt()
+                    self.soundings(water)
                 )?;
             }
         }
         writeln!(
             output,
-            "{:<48} {:>7.3} m  {:?}",
+            "{:<48} {:>7.3} m  {basin_mean:?}",
             "mean depth of the turning basin",
-            answer.basin_mean.sqrt(),
-            answer.basin_mean
+            basin_mean.sqrt()
         )
     }
 
     /// Every water cell.
-    pub fn csv(&self, output: &mut impl Write, answer: &Answer) -> io::Result<()> {
-        writeln!(output, "cell,column,row,variance")?;
-        for (water, (cell, variance)) in self.cells.iter().zip(&answer.variances).enumerate() {
+    fn csv(&self, output: &mut impl Write, found: &Found) -> io::Result<()> {
+        writeln!(output, "cell,column,row,variance,covered")?;
+        for (water, (cell, variance)) in self.cells.iter().zip(&found.variances).enumerate() {
             let (column, row) = self.grid.place(*cell);
-            writeln!(output, "{},{},{},{variance:?}", water + 1, column + 1, row + 1)?;
+            let fields = report::csv_fields(*variance);
+            writeln!(output, "{},{},{},{fields}", water + 1, column + 1, row + 1)?;
         }
         Ok(())
     }
 
-    /// The variances as an SVG document.
-    pub fn picture(&self, answer: &Answer) -> String {
-        let cells = self
-            .water
-            .iter()
-            .map(|water| water.map_or(Cell::Land, |water| Cell::Variance(answer.variances[water])))
-            .collect::<Vec<_>>();
-        draw(&Picture {
-            title: "Harbour: variance of the depth",
-            measure: "variance, m\u{b2}",
-            grid: self.grid,
-            cells: &cells,
-        })
+    /// The cells of the grid; land is land, whatever was computed.
+    fn map_cells(&self, variances: &[Option<f64>]) -> Vec<Cell> {
+        let cells = self.water.iter();
+        cells
+            .map(|water| water.map_or(Cell::Land, |water| cell_of(variances[water])))
+            .collect()
     }
 }
 
@@ -262,23 +248,32 @@ fn cholesky(mut matrix: Vec<Vec<f64>>) -> Vec<(usize, usize, f64)> {
     triplets
 }
 
-/// Prints the harbour and gives its picture.
-pub fn run(output: &mut impl Write, csv: bool) -> Result<String, Failure> {
+/// Prints the harbour, and draws it where a file is given.
+pub fn run(output: &mut impl Write, options: &Options) -> Result<(), Failure> {
+    const PLACE: &str = "the harbour";
+    let refused = |error| Failure::refused_at(PLACE, error);
     let harbour = Harbour::new();
-    let answer = harbour
-        .answer()
-        .map_err(|error| Failure::refused_at("the harbour", error))?;
-    written(if csv {
-        harbour.csv(output, &answer)
+    let factor = harbour.factor().map_err(refused)?;
+    let found = find(PLACE, &factor, options)?;
+    let map = Map {
+        title: "Harbour: variance of the depth",
+        unit: Some("m"),
+        grid: harbour.grid,
+        cells: &harbour.map_cells(&found.variances),
+        diagnostics: &found.diagnostics,
+    };
+    write_map(options, &map)?;
+    written(if options.csv {
+        harbour.csv(output, &found)
     } else {
-        harbour.table(output, &answer)
-    })?;
-    Ok(harbour.picture(&answer))
+        harbour.table(output, &found, harbour.basin_mean(&factor).map_err(refused)?)
+    })
 }
 
 #[cfg(test)]
 mod tests {
     use super::{Harbour, CHART, PLACES};
+    use crate::map::Cell;
 
     #[test]
     fn the_chart_is_a_grid_and_its_places_are_water() {
@@ -294,7 +289,7 @@ mod tests {
     fn the_variances_are_those_of_the_inverse() {
         let harbour = Harbour::new();
         let order = harbour.order();
-        let answer = harbour.answer().unwrap();
+        let variances = crate::all_variances(&harbour.factor().unwrap()).unwrap().variances;
         let n = harbour.cells.len();
         let mut left = harbour.precision(&order);
         let mut right = vec![vec![0.0; n]; n];
@@ -313,14 +308,27 @@ mod tests {
                 }
             }
         }
-        for water in 0..n {
+        for (water, variance) in variances.iter().enumerate() {
             let place = order.orig_to_perm[water];
             let expected = right[place][place] / left[place][place];
-            let found = answer.variances[water];
+            let found = variance.unwrap();
             assert!(
                 (found - expected).abs() <= 1e-9 * expected,
                 "{water}: {found} {expected}"
             );
+        }
+    }
+
+    /// Land is land and not "not computed".
+    #[test]
+    fn land_stays_land() {
+        let harbour = Harbour::new();
+        let cells = harbour.map_cells(&vec![None; harbour.cells.len()]);
+        let marks = CHART.iter().flat_map(|row| row.bytes());
+        assert_eq!(cells.len(), marks.clone().count());
+        for (cell, mark) in cells.iter().zip(marks) {
+            let expected = if mark == b'#' { Cell::Land } else { Cell::NotComputed };
+            assert_eq!(*cell, expected);
         }
     }
 }

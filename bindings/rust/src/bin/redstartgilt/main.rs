@@ -4,19 +4,24 @@ mod cell_lists;
 mod demo;
 mod failure;
 mod grid;
+mod html;
 mod lines;
+mod map;
+mod markup;
 mod matrix_market;
 mod options;
 mod report;
+mod scale;
 mod svg;
 
 use failure::{written, Failure};
-use grid::Grid;
+use map::{Cell, Map};
 use options::{Command, Options};
 use redstartgilt::{
     selected_inverse_diag_with_diagnostics, selected_inverse_entries, selected_inverse_entries_with_limit,
-    CholeskyFactor, Permutation, SelectedInverseDiagnostics, SparseSelectedInverse, SparseSymmetricPattern,
+    CholeskyFactor, Error, Permutation, SelectedInverseDiagnostics, SparseSelectedInverse, SparseSymmetricPattern,
 };
+use std::fmt::Display;
 use std::io::{self, BufWriter, Write};
 use std::path::Path;
 use std::process::ExitCode;
@@ -40,20 +45,10 @@ fn run(output: &mut impl Write, command: Command) -> Result<(), Failure> {
         Command::Help => written(write!(output, "{}", options::help())),
         Command::Version => written(writeln!(output, "redstartgilt {}", env!("CARGO_PKG_VERSION"))),
         Command::Run(options) => match &options.factor {
-            None => {
-                let picture = demo::run(output, options.csv)?;
-                match &options.svg {
-                    Some(file) => write_picture(file, &picture),
-                    None => Ok(()),
-                }
-            }
+            None => demo::run(output, &options),
             Some(file) => run_factor(output, file, &options),
         },
     }
-}
-
-fn write_picture(file: &Path, picture: &str) -> Result<(), Failure> {
-    std::fs::write(file, picture).map_err(|error| Failure::in_file(file, error))
 }
 
 /// The variance of each cell that has one, in the order of the cells; and the entries, where they are asked for.
@@ -72,18 +67,24 @@ fn run_factor(output: &mut impl Write, file: &Path, options: &Options) -> Result
             grid.width, grid.height
         )));
     }
-    let permutation = match &options.permutation {
-        Some(file) => Some(cell_lists::permutation(file, n)?),
-        None => None,
+    let factor = match &options.permutation {
+        Some(list) => factor
+            .with_permutation(cell_lists::permutation(list, n)?)
+            .map_err(|error| Failure::refused_at(list.display(), error))?,
+        None => factor,
     };
-    let all_at_default = options.requests.is_none() && options.limit.is_none() && !options.entries;
-    let found = if all_at_default {
-        all_variances(file, factor, permutation)?
-    } else {
-        requested_entries(file, &factor, permutation.as_ref(), options)?
-    };
-    if let (Some(picture), Some(grid)) = (&options.svg, options.grid) {
-        write_picture(picture, &variance_map(file, grid, &found.variances))?;
+    let found = find(file.display(), &factor, options)?;
+    if let Some(grid) = options.grid {
+        let name = file.file_name().unwrap_or(file.as_os_str());
+        let cells = found.variances.iter().map(|variance| cell_of(*variance));
+        let map = Map {
+            title: &format!("Variances of {}", name.to_string_lossy()),
+            unit: None,
+            grid,
+            cells: &cells.collect::<Vec<_>>(),
+            diagnostics: &found.diagnostics,
+        };
+        write_map(options, &map)?;
     }
     written(if options.entries {
         report::entries(output, options.csv, &found.diagnostics, found.entries.into_iter())
@@ -92,13 +93,57 @@ fn run_factor(output: &mut impl Write, file: &Path, options: &Options) -> Result
     })
 }
 
-fn all_variances(file: &Path, factor: CholeskyFactor, permutation: Option<Permutation>) -> Result<Found, Failure> {
-    let refused = |error| Failure::refused_at(file.display(), error);
-    let factor = match permutation {
-        Some(permutation) => factor.with_permutation(permutation).map_err(refused)?,
-        None => factor,
+fn cell_of(variance: Option<f64>) -> Cell {
+    variance.map_or(Cell::NotComputed, Cell::Variance)
+}
+
+/// Writes the map to the files that are asked for.
+fn write_map(options: &Options, map: &Map<'_>) -> Result<(), Failure> {
+    for (file, draw) in [
+        (&options.svg, svg::draw as fn(&Map<'_>) -> String),
+        (&options.html, html::page),
+    ] {
+        if let Some(file) = file {
+            std::fs::write(file, draw(map)).map_err(|error| Failure::in_file(file, error))?;
+        }
+    }
+    Ok(())
+}
+
+/// The answer to what the options ask of a factor; `place` is for messages.
+fn find(place: impl Display, factor: &CholeskyFactor, options: &Options) -> Result<Found, Failure> {
+    let refused = |error| Failure::refused_at(&place, error);
+    if options.requests.is_none() && options.limit.is_none() && !options.entries {
+        return all_variances(factor).map_err(refused);
+    }
+    let permutation = factor.permutation();
+    let requested = match &options.requests {
+        Some(file) => cell_lists::requests(file, factor.dimension(), &permutation)?,
+        None => SparseSymmetricPattern::diagonal(factor.dimension()),
     };
-    let result = selected_inverse_diag_with_diagnostics(&factor).map_err(refused)?;
+    let selected = match options.limit {
+        Some(limit) => selected_inverse_entries_with_limit(factor, &requested, limit),
+        None => selected_inverse_entries(factor, &requested),
+    }
+    .map_err(refused)?;
+    let Some(inverse) = selected.inverse else {
+        return Err(Failure::too_many_pairs(selected.diagnostics.closure_limit));
+    };
+    Ok(Found {
+        diagnostics: selected.diagnostics,
+        variances: factor
+            .permute_factor_to_original_marked(&inverse.diag())
+            .map_err(refused)?,
+        entries: if options.entries {
+            entries_of_cells(&inverse, &permutation)
+        } else {
+            Vec::new()
+        },
+    })
+}
+
+fn all_variances(factor: &CholeskyFactor) -> Result<Found, Error> {
+    let result = selected_inverse_diag_with_diagnostics(factor)?;
     Ok(Found {
         diagnostics: result.diagnostics,
         variances: result.estimate.values.into_iter().map(Some).collect(),
@@ -106,40 +151,9 @@ fn all_variances(file: &Path, factor: CholeskyFactor, permutation: Option<Permut
     })
 }
 
-fn requested_entries(
-    file: &Path,
-    factor: &CholeskyFactor,
-    permutation: Option<&Permutation>,
-    options: &Options,
-) -> Result<Found, Failure> {
-    let n = factor.dimension();
-    let requested = match &options.requests {
-        Some(file) => cell_lists::requests(file, n, permutation)?,
-        None => SparseSymmetricPattern::diagonal(n),
-    };
-    let selected = match options.limit {
-        Some(limit) => selected_inverse_entries_with_limit(factor, &requested, limit),
-        None => selected_inverse_entries(factor, &requested),
-    }
-    .map_err(|error| Failure::refused_at(file.display(), error))?;
-    let Some(inverse) = selected.inverse else {
-        return Err(Failure::too_many_pairs(selected.diagnostics.closure_limit));
-    };
-    let place = |cell| permutation.map_or(cell, |permutation| permutation.orig_to_perm[cell]);
-    Ok(Found {
-        diagnostics: selected.diagnostics,
-        variances: (0..n).map(|cell| inverse.get(place(cell), place(cell))).collect(),
-        entries: if options.entries {
-            entries_of_cells(&inverse, permutation)
-        } else {
-            Vec::new()
-        },
-    })
-}
-
 /// The entries in the order of the cells, row ≥ column, by column then row.
-fn entries_of_cells(inverse: &SparseSelectedInverse, permutation: Option<&Permutation>) -> Vec<(usize, usize, f64)> {
-    let cell = |place| permutation.map_or(place, |permutation| permutation.perm_to_orig[place]);
+fn entries_of_cells(inverse: &SparseSelectedInverse, permutation: &Permutation) -> Vec<(usize, usize, f64)> {
+    let cell = |place: usize| permutation.perm_to_orig[place];
     let mut entries = inverse
         .entries()
         .map(|(row, column, value)| {
@@ -149,18 +163,4 @@ fn entries_of_cells(inverse: &SparseSelectedInverse, permutation: Option<&Permut
         .collect::<Vec<_>>();
     entries.sort_by_key(|(row, column, _)| (*column, *row));
     entries
-}
-
-fn variance_map(file: &Path, grid: Grid, variances: &[Option<f64>]) -> String {
-    let cells = variances
-        .iter()
-        .map(|variance| variance.map_or(svg::Cell::NotComputed, svg::Cell::Variance))
-        .collect::<Vec<_>>();
-    let name = file.file_name().unwrap_or(file.as_os_str());
-    svg::draw(&svg::Picture {
-        title: &format!("Variances of {}", name.to_string_lossy()),
-        measure: "variance",
-        grid,
-        cells: &cells,
-    })
 }

@@ -10,7 +10,7 @@ redstartgilt: variances from a sparse Cholesky factor, by a proved selected inve
 
 Usage:
   redstartgilt [OPTIONS] FACTOR
-  redstartgilt --demo [--csv] [--svg FILE]
+  redstartgilt --demo [--requests FILE] [--csv] [--svg FILE] [--html FILE]
 
 FACTOR is a Matrix Market file of a lower factor L: the header
   %%MatrixMarket matrix coordinate real general
@@ -31,8 +31,12 @@ Options:
                       variances
   --csv               print comma-separated values with a line of names, and no summary
   --svg FILE          write the variances as a picture; needs --grid or --demo
+  --html FILE         write the variances as a page for a browser, which needs no other file and no network: the map
+                      with variance, deviation and coverage of the cell under the pointer or moved to by the arrow
+                      keys, the legend, the diagnosis and all cells as a table; needs --grid or --demo
   --grid WxH          the cells are a grid of W columns and H rows, numbered row by row from the top left
-  --demo              take no file: a small harbour, made and factorised by the command
+  --demo              take no factor: a small harbour, made and factorised by the command. --demo --csv has the numbers
+                      of its cells, for --requests
   --help, --version
 
 A requests file whose first line begins with %%MatrixMarket, in small letters or capitals, is read as a Matrix Market
@@ -42,8 +46,10 @@ Another such header is refused with 15, and not taken for a comment. Then come c
 with rows, columns and entries, both sizes that of the factor, and a line with row and column for each entry, on or
 below the diagonal. Lines end in LF, not in CR LF. The message of a refusal has the file, the line and the reason.
 
-A cell is printed only if its variance was computed: with --requests not all need be. Values are printed with as many
-digits as are needed to read them back bit for bit.
+With --requests not every cell need be computed. One that is not has no variance: it is printed as \"not computed\", with
+--csv as an empty variance with no in the column covered (yes for every other cell), and on maps it is hatched. A
+variance of 0.0 is always a computed one. Values are printed with as many digits as are needed to read them back bit for
+bit.
 
 Exit status:
   0   done
@@ -74,6 +80,7 @@ pub struct Options {
     pub entries: bool,
     pub csv: bool,
     pub svg: Option<PathBuf>,
+    pub html: Option<PathBuf>,
     pub grid: Option<Grid>,
 }
 
@@ -94,6 +101,7 @@ pub fn read(words: impl IntoIterator<Item = OsString>) -> Result<Command, Failur
         entries: false,
         csv: false,
         svg: None,
+        html: None,
         grid: None,
     };
     let mut demo = false;
@@ -111,7 +119,10 @@ pub fn read(words: impl IntoIterator<Item = OsString>) -> Result<Command, Failur
             Some((name, value)) => (name, Some(OsString::from(value))),
             None => (text, None),
         };
-        let takes_value = matches!(name, "--requests" | "--permutation" | "--limit" | "--svg" | "--grid");
+        let takes_value = matches!(
+            name,
+            "--requests" | "--permutation" | "--limit" | "--svg" | "--html" | "--grid"
+        );
         let value = match (takes_value, joined) {
             (true, Some(value)) => value,
             (true, None) => words
@@ -125,6 +136,7 @@ pub fn read(words: impl IntoIterator<Item = OsString>) -> Result<Command, Failur
             "--permutation" => options.permutation.replace(value.into()).is_some(),
             "--limit" => options.limit.replace(number(&value)?).is_some(),
             "--svg" => options.svg.replace(value.into()).is_some(),
+            "--html" => options.html.replace(value.into()).is_some(),
             "--grid" => options.grid.replace(grid(&value)?).is_some(),
             "--entries" => std::mem::replace(&mut options.entries, true),
             "--csv" => std::mem::replace(&mut options.csv, true),
@@ -145,7 +157,6 @@ fn checked(options: Options, demo: bool) -> Result<Command, Failure> {
     if demo {
         let other = [
             ("a factor", options.factor.is_some()),
-            ("--requests", options.requests.is_some()),
             ("--permutation", options.permutation.is_some()),
             ("--limit", options.limit.is_some()),
             ("--entries", options.entries),
@@ -158,9 +169,17 @@ fn checked(options: Options, demo: bool) -> Result<Command, Failure> {
         if options.factor.is_none() {
             return Err(Failure::usage("no factor is given"));
         }
-        if options.svg.is_some() != options.grid.is_some() {
-            return Err(Failure::usage("--svg and --grid go together"));
+        for (name, file) in [("--svg", &options.svg), ("--html", &options.html)] {
+            if file.is_some() && options.grid.is_none() {
+                return Err(Failure::usage(format!("{name} needs --grid")));
+            }
         }
+        if options.grid.is_some() && options.svg.is_none() && options.html.is_none() {
+            return Err(Failure::usage("--grid needs --svg or --html"));
+        }
+    }
+    if options.svg.is_some() && options.svg == options.html {
+        return Err(Failure::usage("--svg and --html need two files"));
     }
     Ok(Command::Run(options))
 }

@@ -16,32 +16,54 @@ pub fn counts(output: &mut impl Write, diagnostics: &SelectedInverseDiagnostics)
     )
 }
 
-/// The variance of each cell that has one. Cells count from 1; values have all digits that are needed to read them
-/// back.
+/// How many cells were computed, in two lines.
+pub fn coverage(output: &mut impl Write, variances: &[Option<f64>]) -> io::Result<()> {
+    let cells = variances.len();
+    let computed = variances.iter().flatten().copied().collect::<Vec<_>>();
+    let counted = count_and_least(&computed);
+    write!(output, "{} of {cells} cells computed", computed.len())?;
+    if !computed.is_empty() {
+        write!(
+            output,
+            ", {} of them negative, the least {:?}",
+            counted.num_negative, counted.min_value
+        )?;
+    }
+    writeln!(output, "\n{} of {cells} cells not computed", cells - computed.len())
+}
+
+/// The words in the place of a variance that was not computed.
+pub const NOT_COMPUTED: &str = "not computed";
+
+/// The variance of a cell with all digits that are needed to read it back, and whether it was computed, as the last two
+/// fields of a line.
+pub fn csv_fields(variance: Option<f64>) -> String {
+    match variance {
+        Some(variance) => format!("{variance:?},yes"),
+        None => ",no".to_string(),
+    }
+}
+
+/// Every cell, counted from 1, with its variance or that it was not computed.
 pub fn variances(
     output: &mut impl Write,
     csv: bool,
     diagnostics: &SelectedInverseDiagnostics,
     variances: &[Option<f64>],
 ) -> io::Result<()> {
-    if !csv {
-        let computed = variances.iter().flatten().copied().collect::<Vec<_>>();
-        let counted = count_and_least(&computed);
+    if csv {
+        writeln!(output, "cell,variance,covered")?;
+    } else {
         counts(output, diagnostics)?;
-        writeln!(
-            output,
-            "{} of {} cells, {} of them negative, the least {:?}",
-            computed.len(),
-            variances.len(),
-            counted.num_negative,
-            counted.min_value
-        )?;
+        coverage(output, variances)?;
+        writeln!(output, "cell variance")?;
     }
-    let gap = if csv { ',' } else { ' ' };
-    writeln!(output, "cell{gap}variance")?;
     for (cell, variance) in variances.iter().enumerate() {
-        if let Some(variance) = variance {
-            writeln!(output, "{}{gap}{variance:?}", cell + 1)?;
+        let number = cell + 1;
+        match variance {
+            _ if csv => writeln!(output, "{number},{}", csv_fields(*variance))?,
+            Some(variance) => writeln!(output, "{number} {variance:?}")?,
+            None => writeln!(output, "{number} {NOT_COMPUTED}")?,
         }
     }
     Ok(())
