@@ -28,10 +28,9 @@ pub fn bounds() -> Vec<Call> {
         calls.push(Call { perm_to_orig: long(1), ..sound(Function::Validate, n, &mut random) });
         calls.push(Call { orig_to_perm: long(1), ..sound(Function::Reorder, n, &mut random) });
         calls.push(Call { input: zeros(1), ..sound(Function::Reorder, n, &mut random) });
-        for marks in [1, n] {
-            let marks = List::made(marks, |_| 1);
-            calls.push(Call { marks, ..sound(Function::ReorderMarked, if marks.len() == n { 1 } else { n }, &mut random) });
-        }
+        calls.push(Call { orig_to_perm: long(1), ..sound(Function::ReorderMarked, n, &mut random) });
+        calls.push(Call { input: zeros(1), ..sound(Function::ReorderMarked, n, &mut random) });
+        calls.push(Call { marks: List::made(n, |_| 1), ..sound(Function::ReorderMarked, 1, &mut random) });
         calls.push(Call { orig_to_perm: long(n), ..sound(Function::OriginalDiag, 3, &mut random) });
     }
     for count in [MOST_ENTRIES, MOST_ENTRIES + 1] {
