@@ -68,6 +68,13 @@ module _ (x : Selection) (lent : Lent) (A : Accepted x (roomOf lent)) (whole : �
         exact-case (x .n) whole ascend (Selected x) closed (E .within) X is (diag (x .starts) (x .rows) (x .values)) (desc (x .starts) (x .rows) (x .values))
         (E .diagonals) (E .entries) (selectedTable x) (table-recurs x lent A) i j p .0
 
+    -- X is symmetric
+    pub exact-symmetric : (i j : ℕ) → i < x .n → j < x .n → X i j ≡ X j i
+    exact-symmetric =
+        inverse-symmetric (x .n) (pos 1) (pos-nonzero 1 (zero-lt-suc 0)) (factor ones whole)
+        (factor-triangular (x .n) ones whole ascend (λ j jn. pos-nonzero 1 (zero-lt-suc 0))) X 1
+        (record { positive = zero-lt-suc 0; product-is = λ a b ha hb. is a b ha hb ∙ sym (*ℤ-idl (identity a b)) })
+
     exchanged : (row col : ℕ) → max row col < x .n → X (max row col) (min row col) ≡ X row col
     exchanged row col h = elim (decLe col row) [
       | yes l ↦
@@ -77,10 +84,7 @@ module _ (x : Selection) (lent : Lent) (A : Accepted x (roomOf lent)) (whole : �
       | no l ↦
           let a : max row col ≡ col = omega arith in
           let b : min row col ≡ row = omega arith in
-          ap₂ X a b
-          ∙ inverse-symmetric (x .n) (pos 1) (pos-nonzero 1 (zero-lt-suc 0)) (factor ones whole)
-          (factor-triangular (x .n) ones whole ascend (λ j jn. pos-nonzero 1 (zero-lt-suc 0))) X 1
-          (record { positive = zero-lt-suc 0; product-is = λ a b ha hb. is a b ha hb ∙ sym (*ℤ-idl (identity a b)) }) col row (omega arith) (omega arith)
+          ap₂ X a b ∙ exact-symmetric col row (omega arith) (omega arith)
     ]
 
     -- read at either order of the indices

@@ -1,5 +1,5 @@
--- From a list that is filled with the entries of a set of pairs, whose positions stand in the scratch: where the set holds the operator's pairs, its
--- values are those of the filled table. Assumes nothing.
+-- From a list that is filled with the entries of a set of pairs, whose positions stand in the scratch: where the set holds the pairs of an operator, or of
+-- row pairs of two, their values are those of the filled table. Assumes nothing.
 use Prim.Native.Nat.{ℕ, _+_, _≤_, _<_, max, min}
 use native.Mathlib.Omega.{arith}
 use mathlib.Core.Path.{_≡_, ap, _∙_}
@@ -20,67 +20,107 @@ use Rattle.closed_set.specs.ClosedSet.{Holds}
 use Rattle.exact.specs.Exact.{floats}
 use Rattle.entries.specs.Entries.{position, entryValues, entryValues-length}
 use Rattle.entries.specs.Position.{position-below, entryValues-at}
-use Rattle.layout.specs.Position.{Positioned}
+use Rattle.takahashi.specs.Recurrence.{at}
+use Rattle.layout.specs.Position.{positionOf, Positioned}
 use Rattle.request_marks.specs.OperatorRequests.{operatorRequested, places-requested}
-use Rattle.quadratic_form.specs.RowValue.{columnAt, rowValue-cong, operatorValues}
-use Rattle.operator_values.specs.Reading.{placed, OperatorReading}
+use Rattle.quadratic_form.specs.CrossValue.{crossValue-cong}
+use Rattle.quadratic_form.specs.RowValue.{columnAt, operatorValues, operatorsValues}
+use Rattle.request_marks.specs.CrossRequests.{crossRequested, cross-requested, OperatorPairs}
+use Rattle.operator_values.specs.Reading.{placed, OperatorReading, OperatorsReading}
 
--- a set that holds the pairs of an operator past its checks, its members' positions, and a list with room for their entries
-module _ (n : ℕ) (S : ℕ → ℕ → Bool) (Z : ℕ → ℕ → Float) (scratch : List ℕ) (values : List Float) (fits : setSize n S ≤ length values)
-    (P : Positioned n S scratch) (rowStarts columns : List ℕ) (weights : List Float) (O : OperatorRows n rowStarts columns (length weights))
-    (H : Holds (operatorRequested rowStarts columns) S) where
+-- a set of pairs, its members' positions, and a list with room for their entries
+module _ (n : ℕ) (S : ℕ → ℕ → Bool) (Z : ℕ → ℕ → Float) (scratch : List ℕ) (values : List Float) (fits : setSize n S ≤ length values) (P : Positioned n S scratch) where
   abbrev values′ : List Float
   values′ = overwrite (entryValues n S Z) values
 
-  -- a member's entry is within the list, and is the table's
-  member-inside : (r c : ℕ) → c ≤ r → r < n → S r c ≡ true → position n S r c < setSize n S
-  member-inside r c h l t = position-below n S r c n h l (omega arith) t
-
-  placed-is : (r c : ℕ) → c ≤ r → r < n → S r c ≡ true → placed n scratch values′ r c ≡ Z r c
-  placed-is r c h l t =
-      ap (λ (p : ℕ). getD values′ p nan) (P r c h l t)
-      ∙ overwrite-at (entryValues n S Z) values (position n S r c) nan (omega (arith, entryValues-length n S Z, member-inside r c h l t))
-      ∙ entryValues-at n S Z nan r c h l t
-
-  -- a row's pair is a member
-  pub record RowPair (r c : ℕ) : Type 0 where
+  -- a pair of columns that is a member
+  pub record MemberPair (r c : ℕ) : Type 0 where
     pub inside : max r c < n
     pub member : S (max r c) (min r c) ≡ true
 
-  row-pair : (i a b : ℕ) → i < operatorRows rowStarts → start rowStarts i ≤ a → a < start rowStarts (i + 1) → start rowStarts i ≤ b → b < start rowStarts (i + 1)
-      → RowPair (columnAt columns a) (columnAt columns b)
-  row-pair i a b l la ha lb hb =
-      let end = starts-end (O .starts-rise) (i + 1) (omega arith) in
-      let r< = O .inside a (omega arith) in
-      let c< = O .inside b (omega arith) in
-      record { inside = omega arith; member = H _ _ (places-requested rowStarts columns i a b l la ha lb hb) }
+  -- its entry is within the list, and is the table's
+  member-inside : (r c : ℕ) → c ≤ r → r < n → S r c ≡ true → position n S r c < setSize n S
+  member-inside r c h l t = position-below n S r c n h l (omega arith) t
 
-  -- they can be read
-  pub filled-reading : (room : ℕ) → n ≤ maxDimension → queueStart n + pairTotal n ≤ length scratch → operatorRows rowStarts ≤ room
-      → OperatorReading n rowStarts columns (length weights) scratch (length values′) room
-  filled-reading room small words h = record {
-    small = small;
-    operator = O;
-    words = words;
-    known = λ i a b l la ha lb hb.
-        let r = columnAt columns a in
-        let c = columnAt columns b in
-        let R = row-pair i a b l la ha lb hb in
-        omega (
-          arith,
-          P (max r c) (min r c) (omega arith) (R .inside) (R .member),
-          member-inside (max r c) (min r c) (omega arith) (R .inside) (R .member),
-          entryValues-length n S Z,
-          overwrite-length (entryValues n S Z) values (omega (arith, entryValues-length n S Z)),
-        );
-    fits = h;
-  }
+  placed-is : (r c : ℕ) → MemberPair r c → at (placed n scratch values′) r c ≡ at Z r c
+  placed-is r c M =
+      ap (λ (p : ℕ). getD values′ p nan) (P (max r c) (min r c) (omega arith) (M .inside) (M .member))
+      ∙ overwrite-at (entryValues n S Z) values (position n S (max r c) (min r c)) nan
+      (omega (arith, entryValues-length n S Z, member-inside (max r c) (min r c) (omega arith) (M .inside) (M .member)))
+      ∙ entryValues-at n S Z nan (max r c) (min r c) (omega arith) (M .inside) (M .member)
 
-  -- so the values of all rows are the table's
-  pub filled-values : operatorValues rowStarts columns weights (placed n scratch values′) ≡ operatorValues rowStarts columns weights Z
-  unfolding operatorValues
-  filled-values =
-      tabulate-cong _ _ (operatorRows rowStarts)
-      (λ i l.
-      rowValue-cong floats (columnAt columns) (value weights) (placed n scratch values′) Z (start rowStarts i) (start rowStarts (i + 1))
-      (λ a b la ha lb hb. let R = row-pair i a b l la ha lb hb in placed-is _ _ (omega arith) (R .inside) (R .member)) (O .starts-rise .rising i l))
+  placed-known : (r c : ℕ) → MemberPair r c → positionOf n scratch r c < length values′
+  placed-known r c M =
+      omega (
+        arith,
+        P (max r c) (min r c) (omega arith) (M .inside) (M .member),
+        member-inside (max r c) (min r c) (omega arith) (M .inside) (M .member),
+        entryValues-length n S Z,
+        overwrite-length (entryValues n S Z) values (omega (arith, entryValues-length n S Z)),
+      )
+
+  -- ---- the set holds the pairs of an operator past its checks
+  module _ (rowStarts columns : List ℕ) (weights : List Float) (O : OperatorRows n rowStarts columns (length weights)) (H : Holds (operatorRequested rowStarts columns) S) where
+    row-pair : (i a b : ℕ) → i < operatorRows rowStarts → start rowStarts i ≤ a → a < start rowStarts (i + 1) → start rowStarts i ≤ b → b < start rowStarts (i + 1)
+        → MemberPair (columnAt columns a) (columnAt columns b)
+    row-pair i a b l la ha lb hb =
+        let end = starts-end (O .starts-rise) (i + 1) (omega arith) in
+        let r< = O .inside a (omega arith) in
+        let c< = O .inside b (omega arith) in
+        record { inside = omega arith; member = H _ _ (places-requested rowStarts columns i a b l la ha lb hb) }
+
+    -- they can be read
+    pub filled-reading : (room : ℕ) → n ≤ maxDimension → queueStart n + pairTotal n ≤ length scratch → operatorRows rowStarts ≤ room
+        → OperatorReading n rowStarts columns (length weights) scratch (length values′) room
+    filled-reading room small words h = record {
+      small = small;
+      operator = O;
+      words = words;
+      known = λ i a b l la ha lb hb. placed-known _ _ (row-pair i a b l la ha lb hb);
+      fits = h;
+    }
+
+    -- so the values of all rows are the table's
+    pub filled-values : operatorValues rowStarts columns weights (placed n scratch values′) ≡ operatorValues rowStarts columns weights Z
+    unfolding operatorValues
+    filled-values =
+        tabulate-cong _ _ (operatorRows rowStarts)
+        (λ i l.
+        crossValue-cong floats (columnAt columns) (columnAt columns) (value weights) (value weights) (placed n scratch values′) Z
+        (start rowStarts i) (start rowStarts (i + 1)) (start rowStarts i) (start rowStarts (i + 1))
+        (λ a b la ha lb hb. placed-is _ _ (row-pair i a b l la ha lb hb)) (O .starts-rise .rising i l) (O .starts-rise .rising i l))
+
+  -- ---- the set holds the pairs of row pairs of two operators past their checks
+  module _ (aStarts aColumns : List ℕ) (aWeights : List Float) (bStarts bColumns : List ℕ) (bWeights : List Float) (aRows bRows : List ℕ)
+      (O : OperatorPairs n aStarts aColumns (length aWeights) bStarts bColumns (length bWeights) aRows bRows)
+      (H : Holds (crossRequested aStarts aColumns bStarts bColumns aRows bRows) S) where
+    cross-pair : (p a b : ℕ) → p < length aRows → start aStarts (getD aRows p 0) ≤ a → a < start aStarts (getD aRows p 0 + 1)
+        → start bStarts (getD bRows p 0) ≤ b → b < start bStarts (getD bRows p 0 + 1) → MemberPair (columnAt aColumns a) (columnAt bColumns b)
+    cross-pair p a b l la ha lb hb =
+        let i< = O .inside p l in
+        let j< = O .inside₂ p l in
+        let end = starts-end (O .first .starts-rise) (getD aRows p 0 + 1) (omega arith) in
+        let end₂ = starts-end (O .second .starts-rise) (getD bRows p 0 + 1) (omega arith) in
+        let r< = O .first .inside a (omega arith) in
+        let c< = O .second .inside b (omega arith) in
+        record { inside = omega arith; member = H _ _ (cross-requested aStarts aColumns bStarts bColumns aRows bRows p a b l la ha lb hb) }
+
+    pub filled-pairs-reading : (room : ℕ) → n ≤ maxDimension → queueStart n + pairTotal n ≤ length scratch → length aRows ≤ room
+        → OperatorsReading n aStarts aColumns (length aWeights) bStarts bColumns (length bWeights) aRows bRows scratch (length values′) room
+    filled-pairs-reading room small words h = record {
+      small = small;
+      pairs = O;
+      words = words;
+      known = λ p a b l la ha lb hb. placed-known _ _ (cross-pair p a b l la ha lb hb);
+      fits = h;
+    }
+
+    pub filled-pairs-values : operatorsValues aStarts aColumns aWeights bStarts bColumns bWeights aRows bRows (placed n scratch values′)
+        ≡ operatorsValues aStarts aColumns aWeights bStarts bColumns bWeights aRows bRows Z
+    unfolding operatorsValues
+    filled-pairs-values =
+        tabulate-cong _ _ (length aRows)
+        (λ p l.
+        crossValue-cong floats (columnAt aColumns) (columnAt bColumns) (value aWeights) (value bWeights) (placed n scratch values′) Z
+        (start aStarts (getD aRows p 0)) (start aStarts (getD aRows p 0 + 1)) (start bStarts (getD bRows p 0)) (start bStarts (getD bRows p 0 + 1))
+        (λ a b la ha lb hb. placed-is _ _ (cross-pair p a b l la ha lb hb)) (O .first .starts-rise .rising _ (O .inside p l)) (O .second .starts-rise .rising _ (O .inside₂ p l)))

@@ -11,18 +11,24 @@ use Rattle.pairs.specs.ColumnOrder.{columnPlace}
 use Rattle.columns.specs.Columns.{start}
 use Rattle.columns.specs.Operator.{operatorRows, OperatorRows}
 use Rattle.layout.specs.Position.{positionOf, Reading}
+use Rattle.request_marks.specs.CrossRequests.{OperatorPairs}
 use Rattle.quadratic_form.specs.RowValue.{columnAt}
 
 -- the entry at the position of row r and column c, r at least c
 abbrev pub placed : ℕ → List ℕ → List Float → ℕ → ℕ → Float
 placed n scratch inverse r c = getD inverse (getD scratch (queueStart n + columnPlace n r c) 0) nan
 
--- the operator's places from s to below e, the pairs of whose columns can be read among `size` entries
-pub record RowReading (n : ℕ) (columns : List ℕ) (weights : ℕ) (scratch : List ℕ) (size s e : ℕ) : Type 0 where
+-- places from s to below e of one operator and from t to below f of another, the pairs of whose columns can be read among `size` entries
+pub record RowsReading (n : ℕ) (aColumns : List ℕ) (aWeights : ℕ) (bColumns : List ℕ) (bWeights : ℕ) (scratch : List ℕ) (size s e t f : ℕ) : Type 0 where
+  pub small : n ≤ maxDimension
   pub ordered : s ≤ e
-  pub stored : e ≤ length columns
-  pub weighed : e ≤ weights
-  pub reads : (a b : ℕ) → s ≤ a → a < e → s ≤ b → b < e → Reading n (columnAt columns a) (columnAt columns b) scratch size
+  pub stored : e ≤ length aColumns
+  pub weighed : e ≤ aWeights
+  pub ordered₂ : t ≤ f
+  pub stored₂ : f ≤ length bColumns
+  pub weighed₂ : f ≤ bWeights
+  pub inside : (a : ℕ) → s ≤ a → a < e → columnAt aColumns a < n
+  pub reads : (a b : ℕ) → s ≤ a → a < e → t ≤ b → b < f → Reading n (columnAt aColumns a) (columnAt bColumns b) scratch size
 
 -- an operator past its checks, whose rows' pairs can be read, and an output of `room` places
 pub record OperatorReading (n : ℕ) (rowStarts columns : List ℕ) (weights : ℕ) (scratch : List ℕ) (size room : ℕ) : Type 0 where
@@ -32,3 +38,12 @@ pub record OperatorReading (n : ℕ) (rowStarts columns : List ℕ) (weights : �
   pub known : (i a b : ℕ) → i < operatorRows rowStarts → start rowStarts i ≤ a → a < start rowStarts (i + 1) → start rowStarts i ≤ b → b < start rowStarts (i + 1)
       → positionOf n scratch (columnAt columns a) (columnAt columns b) < size
   pub fits : operatorRows rowStarts ≤ room
+
+-- two operators past their checks, row pairs inside them, whose columns' pairs can be read, and an output of `room` places
+pub record OperatorsReading (n : ℕ) (aStarts aColumns : List ℕ) (aWeights : ℕ) (bStarts bColumns : List ℕ) (bWeights : ℕ) (aRows bRows scratch : List ℕ) (size room : ℕ) : Type 0 where
+  pub small : n ≤ maxDimension
+  pub pairs : OperatorPairs n aStarts aColumns aWeights bStarts bColumns bWeights aRows bRows
+  pub words : queueStart n + pairTotal n ≤ length scratch
+  pub known : (p a b : ℕ) → p < length aRows → start aStarts (getD aRows p 0) ≤ a → a < start aStarts (getD aRows p 0 + 1)
+      → start bStarts (getD bRows p 0) ≤ b → b < start bStarts (getD bRows p 0 + 1) → positionOf n scratch (columnAt aColumns a) (columnAt bColumns b) < size
+  pub fits : length aRows ≤ room

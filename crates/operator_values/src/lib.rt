@@ -1,14 +1,17 @@
-// The variances of an operator's rows from the entries of a selected inverse: the vector that `selected_inverse_transformed_diag` of
-// uncertainty.rs builds.
-pub mod row_value;
+// The values of operators' rows from the entries of a selected inverse: each row with itself, the vector that `selected_inverse_transformed_diag` of
+// uncertainty.rs builds; and pairs of rows of two operators.
+pub mod cross_value;
 
 ghost use mathlib.Core.Path.{_≡_};
+ghost use Prim.Native.Nat.{_+_, _<_};
 ghost use lib.ListN.{length};
 ghost use Rattle.lists.specs.Overwrite.{overwrite};
-ghost use Rattle.quadratic_form.specs.RowValue.{operatorValues};
-ghost use Rattle.operator_values.specs.Reading.{placed, OperatorReading};
+ghost use Rattle.columns.specs.Columns.{start};
+ghost use Rattle.columns.specs.Operator.{operatorRows};
+ghost use Rattle.quadratic_form.specs.RowValue.{operatorValues, operatorsValue, operatorsValues};
+ghost use Rattle.operator_values.specs.Reading.{placed, RowsReading, OperatorReading, OperatorsReading};
+use cross_value::cross_value;
 use operator_check::operator_rows;
-use row_value::row_value;
 use words::at;
 
 // Writes the value of each row to the front of the output.
@@ -28,15 +31,100 @@ pub fn operator_values(
     let last = operator_rows(row_starts);
     let mut i = 0;
     while i < last {
-        output[i] = row_value(
+        let s = at(row_starts, i);
+        let e = at(row_starts, i + 1);
+        output[i] = cross_value(
             n,
             columns,
             weights,
+            s,
+            e,
+            columns,
+            weights,
+            s,
+            e,
             scratch,
             inverse,
-            at(row_starts, i),
-            at(row_starts, i + 1),
         );
         i += 1;
+    }
+}
+
+// The value of row i of the first operator and row j of the second.
+fn pair_value(
+    n: usize,
+    a_row_starts: &[u32],
+    a_columns: &[u32],
+    a_weights: &[f64],
+    i: usize,
+    b_row_starts: &[u32],
+    b_columns: &[u32],
+    b_weights: &[f64],
+    j: usize,
+    scratch: &[u32],
+    inverse: &[f64],
+) -> f64
+    requires { ⌜ (i < operatorRows (now «a_row_starts»)) × (j < operatorRows (now «b_row_starts»)) ⌝ }
+    requires { ⌜ RowsReading n (now «a_columns») (length (now «a_weights»)) (now «b_columns») (length (now «b_weights»)) (now scratch) (length (now inverse))
+        (start (now «a_row_starts») i) (start (now «a_row_starts») (i + 1)) (start (now «b_row_starts») j) (start (now «b_row_starts») (j + 1)) ⌝ }
+    ensures { λ v. ⌜ v ≡ operatorsValue (now («a_row_starts» .entry)) (now («a_columns» .entry)) (now («a_weights» .entry))
+        (now («b_row_starts» .entry)) (now («b_columns» .entry)) (now («b_weights» .entry)) (placed n (now (scratch .entry)) (now (inverse .entry))) i j ⌝ }
+{
+    let s = at(a_row_starts, i);
+    let e = at(a_row_starts, i + 1);
+    let t = at(b_row_starts, j);
+    let f = at(b_row_starts, j + 1);
+    cross_value(
+        n,
+        a_columns,
+        a_weights,
+        s,
+        e,
+        b_columns,
+        b_weights,
+        t,
+        f,
+        scratch,
+        inverse,
+    )
+}
+
+// Writes the value of each row pair, row a_rows[p] of the first operator and row b_rows[p] of the second, to the front of the output.
+pub fn operators_values(
+    n: usize,
+    a_row_starts: &[u32],
+    a_columns: &[u32],
+    a_weights: &[f64],
+    b_row_starts: &[u32],
+    b_columns: &[u32],
+    b_weights: &[f64],
+    a_rows: &[u32],
+    b_rows: &[u32],
+    scratch: &[u32],
+    inverse: &[f64],
+    output: &mut [f64],
+)
+    requires { ⌜ OperatorsReading n (now «a_row_starts») (now «a_columns») (length (now «a_weights»)) (now «b_row_starts») (now «b_columns») (length (now «b_weights»))
+        (now «a_rows») (now «b_rows») (now scratch) (length (now inverse)) (length (now output)) ⌝ }
+    ensures { λ _. ⌜ now (output .exit) ≡ overwrite (operatorsValues (now («a_row_starts» .entry)) (now («a_columns» .entry)) (now («a_weights» .entry))
+        (now («b_row_starts» .entry)) (now («b_columns» .entry)) (now («b_weights» .entry)) (now («a_rows» .entry)) (now («b_rows» .entry))
+        (placed n (now (scratch .entry)) (now (inverse .entry)))) (now (output .entry)) ⌝ }
+{
+    let mut p = 0;
+    while p < a_rows.len() {
+        output[p] = pair_value(
+            n,
+            a_row_starts,
+            a_columns,
+            a_weights,
+            at(a_rows, p),
+            b_row_starts,
+            b_columns,
+            b_weights,
+            at(b_rows, p),
+            scratch,
+            inverse,
+        );
+        p += 1;
     }
 }

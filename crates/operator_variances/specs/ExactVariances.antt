@@ -3,15 +3,13 @@
 use Prim.Native.Nat.{ℕ, _+_, _-_, _<_}
 use native.Mathlib.Omega.{arith}
 use mathlib.Core.Path.{_≡_, sym, ap, subst, _∙_}
-use mathlib.Core.Bool.{Bool, cond}
 use mathlib.Core.List.{List}
 use lib.ListN.{length, getD}
 use lib.IntN.{ℤ}
 use lib.Ieee.{Float, nan}
-use borrow.Author.Tests.{le-leb}
 use Rattle.lists.specs.Tabulate.{tabulate-at, tabulate-length}
-use Rattle.lists.specs.Overwrite.{overwrite, overwrite-at}
-use Rattle.refusal.specs.Steps.{Step, answered, Passed, after-passed}
+use Rattle.lists.specs.Overwrite.{overwrite-at}
+use Rattle.refusal.specs.Steps.{Step, answered, Passed}
 use Rattle.refusal.specs.Told.{told-passed, told-answer}
 use Rattle.columns.specs.Columns.{start, value}
 use Rattle.columns.specs.Operator.{operatorRows}
@@ -28,12 +26,12 @@ use Rattle.diagnostics.specs.declared.SelectedInverseStatus.the-variants.{Compl
 use Rattle.diagnostics.specs.declared.Selected.{Selected}
 use Rattle.diagnostics.specs.Selected.{selectedReplyOf}
 use Rattle.selection.specs.Selection.{Lent, roomOf, selectedAnswer, selectedTable, ResultLists}
-use Rattle.selection.specs.Status.{selected-complete}
 use Rattle.exact_entries.specs.ExactEntries.{ExactCall, ReadsBack, exact-entries, exact-either}
 use Rattle.request_marks.specs.OperatorRequests.{places-requested}
+use Rattle.operator_values.specs.Output.{outputAfter, after-complete}
 use Rattle.quadratic_form.specs.RowValue.{columnAt, rowValue, operatorValues, operatorValue}
 use Rattle.quadratic_form.specs.ExactRow.{quadratic, RowWithin, rowValue-exact}
-use Rattle.operator_variances.specs.Transformed.{TransformedCall, transformedSelection, transformedSteps, transformedValues, transformedAfter}
+use Rattle.operator_variances.specs.Transformed.{TransformedCall, transformedSelection, transformedSteps, transformedValues}
 use Rattle.operator_variances.specs.Transformed.{TransformedDiagonal, AcceptedTransformed, transformed-accepted}
 
 module _ (x : TransformedCall) where
@@ -59,7 +57,7 @@ module _ (x : TransformedCall) (lent : Lent) (output : List Float) (passed : Pas
     (whole : ℕ → List (Entry ℤ)) (E : ExactCall (transformedSelection x) whole) (X : Matrix) (is : WholeInverse (x .n) (factor ones whole) X) where
   pub transformed-exact : {rs rr : List ℕ} {rv : List Float} {s : List ℕ}
       → ResultLists (transformedSteps x (roomOf lent) (length output)) (transformedSelection x) lent rs rr rv s
-      → TransformedExact x rs rr rv (transformedAfter x lent output) X
+      → TransformedExact x rs rr rv (outputAfter (transformedSteps x (roomOf lent) (length output)) (transformedSelection x) (transformedValues x) output) X
   unfolding operatorValues
   transformed-exact L = record {
     reads = exact-entries (transformedSelection x) lent (A .accepted) whole E X is (transformedSteps x (roomOf lent) (length output)) passed L;
@@ -81,11 +79,10 @@ module _ (x : TransformedCall) (lent : Lent) (output : List Float) (passed : Pas
           (request (places-requested (x .rowStarts) (x .columns) i (first-of-row x i + a) (first-of-row x i + b) l (omega arith) (omega arith) (omega arith) (omega arith)))
 
       row-is : selectedAnswer (transformedSelection x) .status ≡ Complete → (i : ℕ) → i < operatorRows (x .rowStarts)
-          → getD (transformedAfter x lent output) i nan
+          → getD (outputAfter (transformedSteps x (roomOf lent) (length output)) (transformedSelection x) (transformedValues x) output) i nan
           ≡ rowValue floats (columnAt (x .columns)) (value (x .weights)) (selectedTable (transformedSelection x)) (start (x .rowStarts) i) (start (x .rowStarts) (i + 1))
       row-is e i l =
-          ap (λ (o : List Float). getD o i nan) (after-passed (transformedSteps x (roomOf lent) (length output)) _ output passed)
-          ∙ ap (λ (b : Bool). getD (cond b (overwrite (transformedValues x) output) output) i nan) (le-leb _ _ (selected-complete (transformedSelection x) .0 e))
+          ap (λ (o : List Float). getD o i nan) (after-complete (transformedSteps x (roomOf lent) (length output)) (transformedSelection x) (transformedValues x) lent output passed e)
           ∙ overwrite-at (transformedValues x) output i nan
           (omega (arith, tabulate-length (operatorValue (x .rowStarts) (x .columns) (x .weights) (selectedTable (transformedSelection x))) (operatorRows (x .rowStarts))))
           ∙ tabulate-at (operatorValue (x .rowStarts) (x .columns) (x .weights) (selectedTable (transformedSelection x))) (operatorRows (x .rowStarts)) i nan l

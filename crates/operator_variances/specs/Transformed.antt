@@ -1,28 +1,24 @@
 -- The variances of an operator's rows: what a call is handed, what it refuses in document 01's order, what it answers and leaves.
 -- Assumes nothing.
 use Prim.Native.Nat.{ℕ, _≤_}
-use mathlib.Core.Path.{_≡_, subst}
-use mathlib.Core.Bool.{Bool, not, cond}
+use mathlib.Core.Bool.{not}
 use mathlib.Core.List.{List, [], _∷_, _++_}
 use lib.Dec.{ltb, eqb}
 use lib.ListN.{length}
 use lib.Ieee.{Float}
 use borrow.Author.Tests.{ltb-false}
-use Rattle.lists.specs.Overwrite.{overwrite}
 use Rattle.refusal.specs.Bounds.{maxEntries}
-use Rattle.refusal.specs.Steps.{Step, Reply, first, after, Passed, passed-clear, passed-front}
+use Rattle.refusal.specs.Steps.{Step, Passed, passed-clear, passed-front}
 use Rattle.refusal.specs.Groups.{grouped, AllPassed, groups-passed}
 use Rattle.columns.specs.Columns.{boundSteps, storedSteps}
 use Rattle.columns.specs.Factor.{boundSteps-sound, storedSteps-sound}
 use Rattle.columns.specs.Operator.{operatorRows, operatorBoundSteps, operatorSteps, OperatorRows, operatorSteps-sound}
-use Rattle.diagnostics.specs.declared.SelectedInverseDiagnostics.{SelectedInverseDiagnostics}
-use Rattle.selection.specs.Selection.{Selection, Lent, Room, roomOf, defaultLimit, fillSteps, selectedComplete, selectedAnswer, selectedTable, Accepted}
-use Rattle.selection.specs.Selection.{ResultLists}
+use Rattle.selection.specs.Selection.{Selection, Lent, Room, roomOf, defaultLimit, fillSteps, selectedTable, Accepted}
 use Rattle.selection.specs.Call.{fill-accepted}
 use Rattle.diagnostics.specs.declared.Selected.{Selected}
-use Rattle.diagnostics.specs.Selected.{selectedReplyOf}
 use Rattle.request_marks.specs.OperatorRequests.{operatorRequested, operatorRequested-ranged}
 use Rattle.quadratic_form.specs.RowValue.{operatorValues}
+use Rattle.operator_values.specs.Output.{SelectedOutput}
 
 -- what a call is handed to read: a factor and an operator of `ncols` columns, in factor order
 pub record TransformedCall : Type 0 where
@@ -82,25 +78,13 @@ module _ (x : TransformedCall) where
   unfoldable pub transformedSteps : Room → ℕ → List Step
   transformedSteps lengths output = grouped (transformedGroups lengths output)
 
-  -- the reply: either status carries the diagnosis
-  abbrev pub transformedReply : Lent → ℕ → Reply SelectedInverseDiagnostics
-  transformedReply lent output = first (transformedSteps (roomOf lent) output) (selectedAnswer transformedSelection)
-
   -- the rows' values
   abbrev pub transformedValues : List Float
   transformedValues = operatorValues (x .rowStarts) (x .columns) (x .weights) (selectedTable transformedSelection)
 
-  -- the output afterwards, written where the set is within the limit
-  abbrev pub transformedAfter : Lent → List Float → List Float
-  transformedAfter lent output =
-      after (transformedSteps (roomOf lent) (length output)) (cond (selectedComplete transformedSelection) (overwrite transformedValues output) output) output
-
--- the reply and the lists of a call
-pub record TransformedDiagonal (x : TransformedCall) (lent : Lent) (output : List Float) (reply : Selected) (starts rows : List ℕ) (values : List Float)
-    (scratch : List ℕ) (out : List Float) : Type 0 where
-  pub replies : selectedReplyOf reply ≡ transformedReply x lent (length output)
-  pub left : ResultLists (transformedSteps x (roomOf lent) (length output)) (transformedSelection x) lent starts rows values scratch
-  pub output-is : out ≡ transformedAfter x lent output
+-- the reply and the lists of a call; either status carries the diagnosis
+abbrev pub TransformedDiagonal : TransformedCall → Lent → List Float → Selected → List ℕ → List ℕ → List Float → List ℕ → List Float → Type 0
+TransformedDiagonal x lent output = SelectedOutput (transformedSteps x (roomOf lent) (length output)) (transformedSelection x) (transformedValues x) lent output
 
 -- ---- a call that passed
 

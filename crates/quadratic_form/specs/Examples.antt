@@ -15,8 +15,10 @@ use Rattle.takahashi.specs.Recurrence.{at}
 use Rattle.exact.specs.Multiple.{Whole, Small}
 use Rattle.exact.specs.Exact.{floats}
 use Rattle.entries.specs.Entries.{floatTable}
-use Rattle.quadratic_form.specs.RowValue.{addTerms, addPlaces, columnAt, rowValue, operatorValues}
-use Rattle.quadratic_form.specs.ExactRow.{exactTerm, runningSum, quadratic, RowWithin, WholeRow, rowValue-exact}
+use Rattle.quadratic_form.specs.CrossValue.{addTerms, addPlaces}
+use Rattle.quadratic_form.specs.RowValue.{columnAt, rowValue, operatorValues, operatorsValue}
+use Rattle.quadratic_form.specs.ExactCross.{exactTerm, runningSum, bilinear}
+use Rattle.quadratic_form.specs.ExactRow.{quadratic, RowWithin, WholeRow, rowValue-exact}
 
 F2-operator : operatorValues (0 ∷ 2 ∷ []) (0 ∷ 1 ∷ []) (whole 1 ∷ whole 1 ∷ []) (floatTable 2 F2-starts F2-rows F2-values) ≡ whole 2 ∷ []
 unfolding operatorValues tabulate addTerms addPlaces floatTable select picked ofBits ofInt ne add sub mul div neg
@@ -32,6 +34,11 @@ F2-empty : operatorValues (0 ∷ 0 ∷ []) [] [] (floatTable 2 F2-starts F2-rows
 unfolding operatorValues tabulate addTerms addPlaces floatTable select picked ofBits ofInt ne add sub mul div neg
 F2-empty = refl
 
+-- two rows: 3 at 0 with 2 at 1 is (3·2)·(−2)
+F2-cross : operatorsValue (0 ∷ 1 ∷ []) (0 ∷ []) (whole 3 ∷ []) (0 ∷ 1 ∷ []) (1 ∷ []) (whole 2 ∷ []) (floatTable 2 F2-starts F2-rows F2-values) 0 0 ≡ neg (whole 12)
+unfolding addTerms addPlaces floatTable select picked ofBits ofInt ne add sub mul div neg
+F2-cross = refl
+
 -- the inverse of F2's L·Lᵀ, and that row's wᵀXw
 abbrev F2-matrix : ℕ → ℕ → ℤ
 F2-matrix zero zero = pos 5
@@ -41,6 +48,9 @@ F2-matrix (suc i) (suc j) = pos 1
 
 F2-quadratic : quadratic (columnAt (0 ∷ 1 ∷ [])) (λ p. pos 1) F2-matrix 0 2 ≡ pos 2
 F2-quadratic = refl
+
+F2-bilinear : bilinear (columnAt (0 ∷ [])) (columnAt (1 ∷ [])) (λ p. pos 3) (λ p. pos 2) F2-matrix 0 1 0 1 ≡ negsuc 11
+F2-bilinear = refl
 
 -- ---- `rowValue-exact` at that row
 abbrev F2-weights : List Float
@@ -68,8 +78,8 @@ F2-whole = record {
 F2-within : RowWithin (columnAt (0 ∷ 1 ∷ [])) (λ p. pos 1) F2-matrix 0 2
 F2-within = record {
   weights = λ i j h l. lit≤ tt;
-  terms = places₂ (λ i j. Small (exactTerm (columnAt (0 ∷ 1 ∷ [])) (λ p. pos 1) F2-matrix 0 2 i j)) (lit≤ tt) (lit≤ tt) (lit≤ tt) (lit≤ tt);
-  sums = places₂ (λ i j. Small (runningSum (columnAt (0 ∷ 1 ∷ [])) (λ p. pos 1) F2-matrix 0 2 i (suc j))) (lit≤ tt) (lit≤ tt) (lit≤ tt) (lit≤ tt);
+  terms = places₂ (λ i j. Small (exactTerm (columnAt (0 ∷ 1 ∷ [])) (columnAt (0 ∷ 1 ∷ [])) (λ p. pos 1) (λ p. pos 1) F2-matrix 0 2 0 2 i j)) (lit≤ tt) (lit≤ tt) (lit≤ tt) (lit≤ tt);
+  sums = places₂ (λ i j. Small (runningSum (columnAt (0 ∷ 1 ∷ [])) (columnAt (0 ∷ 1 ∷ [])) (λ p. pos 1) (λ p. pos 1) F2-matrix 0 2 0 2 i (suc j))) (lit≤ tt) (lit≤ tt) (lit≤ tt) (lit≤ tt);
 }
 
 F2-exact : Whole (rowValue floats (columnAt (0 ∷ 1 ∷ [])) (value F2-weights) (floatTable 2 F2-starts F2-rows F2-values) 0 2) (pos 2)

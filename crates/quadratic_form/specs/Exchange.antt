@@ -1,4 +1,4 @@
--- In f64 the term of a with b is that of b with a, so a row's value is the same with its two loops exchanged.
+-- In f64 the term of a with b is that of b with a.
 -- Assumes nothing.
 use Prim.Native.Nat.{ℕ, _*_}
 use native.Mathlib.Nat as nat
@@ -8,7 +8,7 @@ use lib.Dec.{eqb}
 use lib.Ieee.{Float, Format, binary64, nan, inf, fin, up, down, unlike, round, mul}
 use Rattle.takahashi.specs.Recurrence.{at-sym}
 use Rattle.exact.specs.Exact.{floats}
-use Rattle.quadratic_form.specs.RowValue.{term}
+use Rattle.quadratic_form.specs.CrossValue.{term}
 
 unlike-exchanged : (s t : Bool) → unlike s t ≡ unlike t s
 unlike-exchanged true true = refl
@@ -30,5 +30,5 @@ mul-exchanged f (fin s m e) (fin t n d) =
     ap (λ (b : Bool). round f b (m * up e * (n * up d)) (down e * down d)) (unlike-exchanged s t)
     ∙ ap₂ (round f (unlike t s)) (nat.mul-comm (m * up e) (n * up d)) (nat.mul-comm (down e) (down d))
 
-pub term-exchanged : (k : ℕ → ℕ) (w : ℕ → Float) (Z : ℕ → ℕ → Float) (a b : ℕ) → term floats k w Z a b ≡ term floats k w Z b a
-term-exchanged k w Z a b = ap₂ (mul binary64) (mul-exchanged binary64 (w a) (w b)) (at-sym Z (k a) (k b))
+pub term-exchanged : (k l : ℕ → ℕ) (w v : ℕ → Float) (Z : ℕ → ℕ → Float) (a b : ℕ) → term floats k l w v Z a b ≡ term floats l k v w Z b a
+term-exchanged k l w v Z a b = ap₂ (mul binary64) (mul-exchanged binary64 (w a) (v b)) (at-sym Z (k a) (l b))

@@ -1,5 +1,7 @@
--- The value of an operator's row, wᵀXw.
+-- The value of two operators' rows, wᵀXv, and of a row with itself, wᵀXw.
+pub mod CrossValue
 pub mod RowValue
 pub mod Exchange
+pub mod ExactCross
 pub mod ExactRow
 pub mod Examples

@@ -3,3 +3,4 @@ pub mod RequestMarks
 pub mod DiagonalMarks
 pub mod OperatorRequests
 pub mod OperatorMarks
+pub mod CrossRequests

@@ -11,7 +11,7 @@ use Rattle.columns.specs.Columns.{value}
 use Rattle.columns.specs.Operator.{operatorRows}
 use Rattle.exact.specs.Exact.{floats}
 use Rattle.quadratic_form.specs.RowValue.{rowValue, columnAt, operatorValue, operatorValues}
-use Rattle.operator_values.specs.Reading.{placed, RowReading}
+use Rattle.operator_values.specs.Reading.{placed, RowsReading}
 use Rattle.operator_values.proofs.ReadingLaws.{row-reading}
 use Rattle.operator_values.proofs.operator_values.Statement.{statement}
 use Rattle.operator_values.proofs.operator_values.Tie as tie
@@ -56,12 +56,12 @@ add-at c = omega (arith, row (c .before))
 at-requires-2 : tie.Need-at-requires-2 Inv-loop μ-loop
 at-requires-2 c κs = omega (arith, row (c .before))
 
-row-value-requires : tie.Need-row-value-requires Inv-loop μ-loop
-row-value-requires c κs =
+cross-value-requires : tie.Need-cross-value-requires Inv-loop μ-loop
+cross-value-requires c κs =
     let t = c .before .before in
     let s = start (t .before) in
     let a = s .args in
-    subst₂ (λ (x y : ℕ). RowReading (a .n) (now (a .columns)) (length (now (a .weights))) (now (a .scratch)) (length (now (a .inverse))) x y)
+    subst₂ (λ (x y : ℕ). RowsReading (a .n) (now (a .columns)) (length (now (a .weights))) (now (a .columns)) (length (now (a .weights))) (now (a .scratch)) (length (now (a .inverse))) x y x y)
     (sym (c .before .at .ensures)) (sym (c .at2 .ensures)) (row-reading (s .pre) (t .before .loop .i) (row t))
 
 mul-output : tie.Need-mul-output Inv-loop μ-loop
@@ -85,11 +85,11 @@ loop-again c =
     let a = s .args in
     let f = row-value-at s in
     let Z = placed (a .n) (now (a .scratch)) (now (a .inverse)) in
-    let made : c .row-value .result ≡ f (l .i) =
-    c .row-value .ensures
+    let made : c .cross-value .result ≡ f (l .i) =
+    c .cross-value .ensures
     ∙ ap₂ (λ (x y : ℕ). rowValue floats (columnAt (now (a .columns))) (value (now (a .weights))) Z x y) (d .before .at .ensures) (d .at2 .ensures) in (
       omega (arith, row t),
-      length-set (l .output) (l .i) (c .row-value .result) ∙ l .inv .1,
+      length-set (l .output) (l .i) (c .cross-value .result) ∙ l .inv .1,
       ap (set (l .output) (l .i)) made
           ∙ ap (λ (x : List Float). set x (l .i) (f (l .i))) (l .inv .2)
           ∙ filled-more f (now (a .output)) (l .i) (room t),
@@ -117,7 +117,7 @@ operator-values-spec =
     at-requires
     add-at
     at-requires-2
-    row-value-requires
+    cross-value-requires
     mul-output
     slice-write-output
     add-i

@@ -6,7 +6,8 @@ use lib.ListN.{length}
 use lib.Ieee.{Float}
 use denote.Ref.{now}
 use borrow.Author.Needs.{needs}
-use Rattle.refusal.specs.Steps.{Passed}
+use Rattle.lists.specs.Overwrite.{overwrite}
+use Rattle.refusal.specs.Steps.{Step, Passed}
 use Rattle.refusal.specs.Refusal.{replyOf}
 use Rattle.pairs.specs.Scratch.{scratchWords-room}
 use Rattle.columns.specs.Operator.{OperatorRows}
@@ -15,8 +16,10 @@ use Rattle.diagnostics.specs.declared.SelectedInverseStatus.the-variants.{Compl
 use Rattle.selection.specs.Selection.{Lent, lists, roomOf, selectedComplete, selectedAnswer}
 use Rattle.selection.specs.Status.{status-tells}
 use Rattle.fill.specs.Fill.{marked-are, marked-input, marked-answer, marked-lists, fillsLists-limit}
-use Rattle.operator_variances.specs.Transformed.{TransformedCall, transformedCall, transformedSelection, transformedSteps, AcceptedTransformed, transformed-accepted}
-use Rattle.operator_variances.proofs.Reply.{transformed-refused, transformed-large, transformed-reading, transformed-done}
+use Rattle.operator_variances.specs.Transformed.{TransformedCall, transformedCall, transformedSelection, transformedSteps, transformedValues}
+use Rattle.operator_variances.specs.Transformed.{AcceptedTransformed, transformed-accepted}
+use Rattle.operator_values.specs.Output.{output-refused, output-large, output-within}
+use Rattle.operator_variances.proofs.Reply.{transformed-reading, transformed-written}
 use Rattle.operator_variances.proofs.selected_inverse_transformed_diag.Statement.{statement}
 use Rattle.operator_variances.proofs.selected_inverse_transformed_diag.Tie as tie
 
@@ -51,7 +54,10 @@ asked e = marking e .before .before
 abbrev filling : tie.After-enum-told3 → tie.After-fill-lists
 filling t = t .before .before .before .before .before .before .before .before .before .before
 
-passed : (t : tie.After-enum-told) → let s = checked t in Passed (transformedSteps (handed s) (roomOf (lent s)) (length (out s)))
+abbrev steps : tie.Start → List Step
+steps s = transformedSteps (handed s) (roomOf (lent s)) (length (out s))
+
+passed : (t : tie.After-enum-told) → Passed (steps (checked t))
 passed t = sym (t .before .before .check-transformed .ensures) ∙ ap replyOf (t .enum-told .given .1)
 
 ready : (t : tie.After-enum-told) → let s = checked t in AcceptedTransformed (handed s) (roomOf (lent s)) (length (out s))
@@ -129,8 +135,8 @@ returns c =
     let A = ready t .accepted in
     let M = marking e .mark-operator-pairs .ensures in
     let filled = fillsLists-limit (limiting e .default-limit .ensures) (e .fill-lists .ensures) in
-    let L = marked-lists (l .resultStarts) (l .resultRows) (l .resultValues) A M (filled .fills) (transformedSteps (handed s) (roomOf l) (length (out s))) (passed t) in
-    transformed-large (handed s) l (out s) (passed t) _ L (answer e) (k .clear-scratch .ensures)
+    let L = marked-lists (l .resultStarts) (l .resultRows) (l .resultValues) A M (filled .fills) (steps s) (passed t) in
+    output-large (steps s) (transformedSelection (handed s)) (transformedValues (handed s)) l (out s) (passed t) _ L (answer e) (k .clear-scratch .ensures)
     (status-tells (transformedSelection (handed s)) ClosureTooLarge (ap (λ (d : SelectedInverseDiagnostics). d .status) (sym (answer e)) ∙ v .enum-told2 .given .1))
 
 enum-told-3 : tie.Need-enum-told-3
@@ -146,7 +152,7 @@ operator-values-requires c κs =
     let A = ready t .accepted in
     let M = marking e .mark-operator-pairs .ensures in
     let filled = fillsLists-limit (limiting e .default-limit .ensures) (e .fill-lists .ensures) in
-    let L = marked-lists (l .resultStarts) (l .resultRows) (l .resultValues) A M (filled .fills) (transformedSteps (handed s) (roomOf l) (length (out s))) (passed t) in
+    let L = marked-lists (l .resultStarts) (l .resultRows) (l .resultValues) A M (filled .fills) (steps s) (passed t) in
     let P = filled .positions _ (marked-are (l .resultStarts) (l .resultRows) (l .resultValues) A M) (complete v) in
     transformed-reading (handed s) l (out s) (passed t) _ L (ready t) (complete v) P (e .fill-lists .ensures .long ∙ M .long)
 
@@ -160,7 +166,8 @@ clear-scratch-requires-2 c κs =
 returns-2 : tie.Need-returns-2
 returns-2 c =
     let d = c .before .before .before in
-    transformed-refused (handed (begin d)) (lent (begin d)) (out (begin d)) (sym (d .check-transformed .ensures) ∙ ap replyOf (c .before .why .given .1))
+    let s = begin d in
+    output-refused (steps s) (transformedSelection (handed s)) (transformedValues (handed s)) (lent s) (out s) (sym (d .check-transformed .ensures) ∙ ap replyOf (c .before .why .given .1))
 
 same-length-5 : tie.Need-same-length-5
 same-length-5 c = search needs
@@ -189,9 +196,11 @@ returns-3 c =
     let A = ready t .accepted in
     let M = marking e .mark-operator-pairs .ensures in
     let filled = fillsLists-limit (limiting e .default-limit .ensures) (e .fill-lists .ensures) in
-    let L = marked-lists (l .resultStarts) (l .resultRows) (l .resultValues) A M (filled .fills) (transformedSteps (handed s) (roomOf l) (length (out s))) (passed t) in
+    let L = marked-lists (l .resultStarts) (l .resultRows) (l .resultValues) A M (filled .fills) (steps s) (passed t) in
     let P = filled .positions _ (marked-are (l .resultStarts) (l .resultRows) (l .resultValues) A M) (complete v) in
-    transformed-done (handed s) l (out s) (passed t) _ L (ready t) (complete v) P (answer e) (k .clear-scratch2 .ensures) (w .operator-values .ensures)
+    output-within (steps s) (transformedSelection (handed s)) (transformedValues (handed s)) l (out s) (passed t) _ L (answer e) (k .clear-scratch2 .ensures) (complete v)
+    (w .operator-values .ensures
+    ∙ ap (λ (z : List Float). overwrite z (out s)) (transformed-written (handed s) l (out s) (passed t) _ L (ready t) (complete v) P))
 
 pub selected-inverse-transformed-diag-spec : {M : Type 1} → statement M
 selected-inverse-transformed-diag-spec =

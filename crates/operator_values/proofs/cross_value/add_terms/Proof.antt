@@ -8,33 +8,31 @@ use borrow.Author.Needs.{needs}
 use Rattle.columns.specs.Columns.{value}
 use Rattle.takahashi.specs.Recurrence as recurrence
 use Rattle.exact.specs.Exact.{floats}
-use Rattle.layout.specs.Position.{Reading, shift-fits}
-use Rattle.quadratic_form.specs.RowValue.{withTerms, withTerms-none, withTerms-next, columnAt}
+use Rattle.layout.specs.Position.{shift-fits}
+use Rattle.quadratic_form.specs.CrossValue.{withTerms, withTerms-none, withTerms-next}
+use Rattle.quadratic_form.specs.RowValue.{columnAt}
 use Rattle.operator_values.specs.Reading.{placed}
-use Rattle.operator_values.proofs.row_value.add_terms.Statement.{statement}
-use Rattle.operator_values.proofs.row_value.add_terms.Tie as tie
+use Rattle.operator_values.proofs.cross_value.add_terms.Statement.{statement}
+use Rattle.operator_values.proofs.cross_value.add_terms.Tie as tie
 
 abbrev Inv-loop : tie.InvT-loop
-Inv-loop n columns weights scratch inverse s e a first x i positions base sum₀ b₀ sum b =
-    (s ≤ b) × (b ≤ e) × (sum ≡ withTerms floats (columnAt columns) (value weights) (placed n scratch inverse) s b a first)
+Inv-loop n a-columns a-weights a b-columns b-weights t f scratch inverse first x i positions base sum₀ b₀ sum b =
+    (t ≤ b) × (b ≤ f) × (sum ≡ withTerms floats (columnAt a-columns) (columnAt b-columns) (value a-weights) (value b-weights) (placed n scratch inverse) t b a first)
 
 abbrev μ-loop : tie.MeasureT-loop
-μ-loop n columns weights scratch inverse s e a first x i positions base sum₀ b₀ sum b = e - b
+μ-loop n a-columns a-weights a b-columns b-weights t f scratch inverse first x i positions base sum₀ b₀ sum b = f - b
 
 abbrev start : tie.After-column-shift Inv-loop μ-loop → tie.Start Inv-loop μ-loop
-start q = q .before .before .before .before .before .before .before .before
+start q = q .before .before .before .before .before .before .before .before .before .before
 
--- the pair of the place's column with itself
-own : (t : tie.After-at Inv-loop μ-loop) →
-    let a = t .before .before .before .before .before .before .args in
-    Reading (a .n) (columnAt (now (a .columns)) (a .a)) (columnAt (now (a .columns)) (a .a)) (now (a .scratch)) (length (now (a .inverse)))
+-- the first row's column
+own : (t : tie.After-at Inv-loop μ-loop) → t .at .result < t .before .before .before .before .before .before .before .before .args .n
 own t =
-    let s = t .before .before .before .before .before .before in
-    let h = s .pre .1 in
-    s .pre .0 .reads (s .args .a) (s .args .a) (h .0) (h .1) (h .0) (h .1)
+    let s = t .before .before .before .before .before .before .before .before in
+    omega (arith, t .at .ensures, s .pre .inside (s .args .a) (omega arith) (omega arith))
 
 -- a place of the row
-place : (c : tie.In-loop Inv-loop μ-loop) → c .before .loop .b < start (c .before .before) .args .e
+place : (c : tie.In-loop Inv-loop μ-loop) → c .before .loop .b < start (c .before .before) .args .f
 place c = omega (arith, c .loop-test .taken)
 
 mul-x : tie.Need-mul-x Inv-loop μ-loop
@@ -47,22 +45,22 @@ at-requires : tie.Need-at-requires Inv-loop μ-loop
 at-requires c κs = search needs
 
 queue-start-requires : tie.Need-queue-start-requires Inv-loop μ-loop
-queue-start-requires c κs = own c .small
+queue-start-requires c κs = c .before .before .before .before .before .before .before .before .pre .small
 
 column-shift-requires : tie.Need-column-shift-requires Inv-loop μ-loop
-column-shift-requires c κs = let t = c .before in (own t .small, omega (arith, t .at .ensures, own t .left))
+column-shift-requires c κs = let t = c .before in (t .before .before .before .before .before .before .before .before .pre .small, own t)
 
 add-base : tie.Need-add-base Inv-loop μ-loop
 add-base c =
     let u = c .before in
     let t = u .before in
     let a = start c .args in
-    omega (arith, u .queue-start .ensures .0, shift-fits (a .n) (t .at .result) (c .column-shift .result) (own t .small) (omega (arith, t .at .ensures, own t .left)) (c .column-shift .ensures))
+    omega (arith, u .queue-start .ensures .0, shift-fits (a .n) (t .at .result) (c .column-shift .result) (start c .pre .small) (own t) (c .column-shift .ensures))
 
 loop-holds : tie.Need-loop-holds Inv-loop μ-loop
 loop-holds c =
     let s = start c in
-    (omega arith, s .pre .0 .ordered, sym (withTerms-none floats _ _ _ (s .args .s) (s .args .a) (s .args .first)))
+    (omega arith, s .pre .ordered₂, sym (withTerms-none floats _ _ _ _ _ (s .args .t) (s .args .a) (s .args .first)))
 
 mul-y : tie.Need-mul-y Inv-loop μ-loop
 mul-y c = search needs
@@ -79,7 +77,7 @@ pair-entry-requires c κs =
     let q = t .before in
     let d = q .before in
     let s = start d in
-    let R = s .pre .0 .reads (s .args .a) (q .loop .b) (s .pre .1 .0) (s .pre .1 .1) (q .loop .inv .0) (place t) in
+    let R = s .pre .reads (s .args .a) (q .loop .b) (omega arith) (omega arith) (q .loop .inv .0) (place t) in
     let u = d .before in
     (u .queue-start .ensures .0, omega (arith, u .queue-start .ensures .0, d .column-shift .ensures), rw (u .before .at .ensures, c .at2 .ensures) R)
 
@@ -97,21 +95,22 @@ loop-again c =
     let l = q .loop in
     let a = start (q .before) .args in
     let Z = placed (a .n) (now (a .scratch)) (now (a .inverse)) in
-    let w = value (now (a .weights)) in
+    let w = value (now (a .a-weights)) in
+    let v = value (now (a .b-weights)) in
     let entry = c .pair-entry .ensures ∙ ap₂ (recurrence.at Z) (q .before .before .before .at .ensures) (d .at2 .ensures) in (
       omega (arith, l .inv .0),
       omega (arith, place t),
-      ap₂ (λ (x y : Float). add binary64 x (mul binary64 (mul binary64 (w (a .a)) (w (l .b))) y)) (l .inv .2) entry
-          ∙ sym (withTerms-next floats (columnAt (now (a .columns))) w Z (a .s) (l .b) (a .a) (a .first) (l .inv .0)),
+      ap₂ (λ (x y : Float). add binary64 x (mul binary64 (mul binary64 (w (a .a)) (v (l .b))) y)) (l .inv .2) entry
+          ∙ sym (withTerms-next floats (columnAt (now (a .a-columns))) (columnAt (now (a .b-columns))) w v Z (a .t) (l .b) (a .a) (a .first) (l .inv .0)),
     )
 
 returns : tie.Need-returns Inv-loop μ-loop
 returns c =
     let l = c .before .loop in
     let a = start (c .before .before) .args in
-    let e : l .b ≡ a .e = omega (arith, c .loop-test .left, l .inv .1) in
+    let e : l .b ≡ a .f = omega (arith, c .loop-test .left, l .inv .1) in
     let Z = placed (a .n) (now (a .scratch)) (now (a .inverse)) in
-    l .inv .2 ∙ ap (λ (k : ℕ). withTerms floats (columnAt (now (a .columns))) (value (now (a .weights))) Z (a .s) k (a .a) (a .first)) e
+    l .inv .2 ∙ ap (λ (k : ℕ). withTerms floats (columnAt (now (a .a-columns))) (columnAt (now (a .b-columns))) (value (now (a .a-weights))) (value (now (a .b-weights))) Z (a .t) k (a .a) (a .first)) e
 
 pub add-terms-spec : {M : Type 1} → statement M
 add-terms-spec =

@@ -1,0 +1,155 @@
+-- The covariances of row pairs of two operators: what a call is handed, what it refuses in its order, what it answers and leaves.
+-- Assumes nothing.
+use Prim.Native.Nat.{ℕ, _≤_, _<_}
+use mathlib.Core.Path.{subst}
+use mathlib.Core.Bool.{not}
+use mathlib.Core.List.{List, [], _∷_, _++_}
+use lib.Dec.{ltb, eqb}
+use lib.ListN.{length}
+use lib.Ieee.{Float}
+use borrow.Author.Tests.{ltb-false, leb-false, eqb-true, not-false}
+use Rattle.lists.specs.Test.{any-below}
+use Rattle.refusal.specs.Bounds.{maxEntries}
+use Rattle.refusal.specs.Steps.{Step, Passed, passed-clear, passed-front, passed-back}
+use Rattle.refusal.specs.Groups.{grouped, AllPassed, groups-passed}
+use Rattle.columns.specs.Columns.{outsideAt, outside, boundSteps, storedSteps}
+use Rattle.columns.specs.Factor.{boundSteps-sound, storedSteps-sound}
+use Rattle.columns.specs.Operator.{operatorRows, operatorBoundSteps, operatorSteps, operatorSteps-sound}
+use Rattle.selection.specs.Selection.{Selection, Lent, Room, roomOf, defaultLimit, fillSteps, selectedTable, Accepted}
+use Rattle.selection.specs.Call.{fill-accepted}
+use Rattle.diagnostics.specs.declared.Selected.{Selected}
+use Rattle.request_marks.specs.CrossRequests.{crossRequested, crossRequested-ranged, OperatorPairs}
+use Rattle.quadratic_form.specs.RowValue.{operatorsValues}
+use Rattle.operator_values.specs.Output.{SelectedOutput}
+
+-- an operator of `ncols` columns
+pub record Operator : Type 0 where
+  pub ncols : ℕ
+  pub rowStarts : List ℕ
+  pub columns : List ℕ
+  pub weights : List Float
+
+-- what a call is handed to read: a factor, operators a and b in factor order, and the rows of each row pair
+pub record CovarianceCall : Type 0 where
+  pub n : ℕ
+  pub starts : List ℕ
+  pub rows : List ℕ
+  pub values : List Float
+  pub a : Operator
+  pub b : Operator
+  pub aRows : List ℕ
+  pub bRows : List ℕ
+
+abbrev pub operator : ℕ → List ℕ → List ℕ → List Float → Operator
+operator ncols rowStarts columns weights = record { ncols = ncols; rowStarts = rowStarts; columns = columns; weights = weights }
+
+-- a call, from a function's parameters in their order
+abbrev pub covarianceCall : ℕ → List ℕ → List ℕ → List Float → Operator → Operator → List ℕ → List ℕ → CovarianceCall
+covarianceCall n starts rows values a b aRows bRows = record { n = n; starts = starts; rows = rows; values = values; a = a; b = b; aRows = aRows; bRows = bRows }
+
+module _ (x : CovarianceCall) where
+  -- the requests are every column of the one row with every column of the other, for each row pair; the limit is the default one
+  abbrev pub covarianceSelection : Selection
+  covarianceSelection = record {
+    n = x .n;
+    starts = x .starts;
+    rows = x .rows;
+    values = x .values;
+    requests = crossRequested (x .a .rowStarts) (x .a .columns) (x .b .rowStarts) (x .b .columns) (x .aRows) (x .bRows);
+    limit = defaultLimit (x .rows);
+  }
+
+  -- 1: too many row pairs, counted by a's list
+  abbrev pub pairBoundSteps : List Step
+  pairBoundSteps = (1, ltb maxEntries (length (x .aRows))) ∷ []
+
+  -- 1 of the factor, of either operator and of the row pairs
+  abbrev pub covarianceBounds : List Step
+  covarianceBounds =
+      boundSteps (x .n) (length (x .rows)) ++ (operatorBoundSteps (x .a .rowStarts) (x .a .columns) ++ (operatorBoundSteps (x .b .rowStarts) (x .b .columns) ++ pairBoundSteps))
+
+  -- 4: an operator's columns are not n, or the row pairs' lists are of unequal length
+  abbrev pub countSteps : List Step
+  countSteps = (4, not (eqb (x .a .ncols) (x .n))) ∷ (4, not (eqb (x .b .ncols) (x .n))) ∷ (4, not (eqb (length (x .aRows)) (length (x .bRows)))) ∷ []
+
+  -- 9: a row pair outside either operator
+  abbrev pub rowSteps : List Step
+  rowSteps = (9, outside (operatorRows (x .a .rowStarts)) (x .aRows)) ∷ (9, outside (operatorRows (x .b .rowStarts)) (x .bRows)) ∷ []
+
+  -- 9 of either operator and of the row pairs
+  abbrev pub operatorsSteps : List Step
+  operatorsSteps =
+      operatorSteps (x .n) (x .a .rowStarts) (x .a .columns) (length (x .a .weights)) ++ (operatorSteps (x .n) (x .b .rowStarts) (x .b .columns) (length (x .b .weights)) ++ rowSteps)
+
+  -- 7: an output below the number of row pairs
+  abbrev pub outputSteps : ℕ → List Step
+  outputSteps output = (7, ltb output (length (x .aRows))) ∷ []
+
+  -- refusals 1; 2, 3; 4; 9; 6, 7; 7 of an output of that length
+  abbrev pub covarianceGroups : Room → ℕ → List (List Step)
+  covarianceGroups lengths output =
+      covarianceBounds
+      ∷ storedSteps (x .n) (x .starts) (x .rows) (x .values)
+      ∷ countSteps
+      ∷ operatorsSteps
+      ∷ fillSteps (x .n) (x .starts) (x .rows) (x .values) (defaultLimit (x .rows)) lengths
+      ∷ outputSteps output
+      ∷ []
+
+  unfoldable pub covarianceSteps : Room → ℕ → List Step
+  covarianceSteps lengths output = grouped (covarianceGroups lengths output)
+
+  -- the row pairs' values
+  abbrev pub covarianceValues : List Float
+  covarianceValues =
+      operatorsValues (x .a .rowStarts) (x .a .columns) (x .a .weights) (x .b .rowStarts) (x .b .columns) (x .b .weights) (x .aRows) (x .bRows) (selectedTable covarianceSelection)
+
+-- the reply and the lists of a call; either status carries the diagnosis
+abbrev pub Covariances : CovarianceCall → Lent → List Float → Selected → List ℕ → List ℕ → List Float → List ℕ → List Float → Type 0
+Covariances x lent output = SelectedOutput (covarianceSteps x (roomOf lent) (length output)) (covarianceSelection x) (covarianceValues x) lent output
+
+-- ---- a call that passed
+
+-- what it has
+pub record AcceptedCovariances (x : CovarianceCall) (lengths : Room) (output : ℕ) : Type 0 where
+  pub accepted : Accepted (covarianceSelection x) lengths
+  pub few : length (x .rows) ≤ maxEntries
+  pub operators : OperatorPairs (x .n) (x .a .rowStarts) (x .a .columns) (length (x .a .weights)) (x .b .rowStarts) (x .b .columns) (length (x .b .weights)) (x .aRows) (x .bRows)
+  pub room : length (x .aRows) ≤ output
+
+module _ (x : CovarianceCall) (lengths : Room) (output : ℕ) (p : Passed (covarianceSteps x lengths output)) where
+  passed : AllPassed (covarianceGroups x lengths output)
+  unfolding covarianceSteps
+  passed = groups-passed (covarianceGroups x lengths output) p
+
+  abbrev aSteps : List Step
+  aSteps = operatorSteps (x .n) (x .a .rowStarts) (x .a .columns) (length (x .a .weights))
+
+  abbrev bSteps : List Step
+  bSteps = operatorSteps (x .n) (x .b .rowStarts) (x .b .columns) (length (x .b .weights))
+
+  pub covariance-accepted : AcceptedCovariances x lengths output
+  covariance-accepted =
+      let bounds = boundSteps (x .n) (length (x .rows)) in
+      let B = boundSteps-sound (x .n) (length (x .rows)) (passed-front bounds _ (passed .0)) in
+      let F = storedSteps-sound (x .n) (x .starts) (x .rows) (x .values) (passed .1 .0) in
+      let C = passed-clear (countSteps x) (passed .1 .1 .0) in
+      let nine = passed .1 .1 .1 .0 in
+      let later = passed-back aSteps (bSteps ++ rowSteps x) nine in
+      let R = passed-clear (rowSteps x) (passed-back bSteps (rowSteps x) later) in
+      let O : OperatorPairs (x .n) (x .a .rowStarts) (x .a .columns) (length (x .a .weights)) (x .b .rowStarts) (x .b .columns) (length (x .b .weights)) (x .aRows) (x .bRows) =
+      record {
+        first = operatorSteps-sound (x .n) (x .a .rowStarts) (x .a .columns) (length (x .a .weights)) (passed-front aSteps _ nine);
+        second = operatorSteps-sound (x .n) (x .b .rowStarts) (x .b .columns) (length (x .b .weights)) (passed-front bSteps _ later);
+        paired = eqb-true _ _ (not-false _ (C .1 .1 .0));
+        inside = λ q l. leb-false _ _ (any-below (outsideAt (operatorRows (x .a .rowStarts)) (x .aRows)) (length (x .aRows)) q (R .0) l);
+        inside₂ = λ q l.
+            leb-false _ _ (any-below (outsideAt (operatorRows (x .b .rowStarts)) (x .bRows)) (length (x .bRows)) q (R .1 .0)
+            (subst (λ (m : ℕ). q < m) (eqb-true _ _ (not-false _ (C .1 .1 .0))) l));
+      } in
+      record {
+        accepted = fill-accepted (covarianceSelection x) lengths (B .small) F (crossRequested-ranged O) (passed .1 .1 .1 .1 .0);
+        few = B .few;
+        operators = O;
+        room = ltb-false _ _ (passed-clear (outputSteps x output) (passed .1 .1 .1 .1 .1 .0) .0);
+      }

@@ -1,0 +1,148 @@
+-- The exact case of covariances: for whole weights each row pair's value is the exact wᵀXv, and exchanging the operators gives the same.
+-- Assumes nothing.
+use Prim.Native.Nat.{ℕ, _+_, _-_, _<_}
+use native.Mathlib.Omega.{arith}
+use mathlib.Core.Path.{_≡_, sym, ap, subst, _∙_}
+use mathlib.Core.List.{List}
+use lib.ListN.{length, getD}
+use lib.IntN.{ℤ}
+use lib.Ieee.{Float, nan}
+use Rattle.lists.specs.Tabulate.{tabulate-at, tabulate-length}
+use Rattle.lists.specs.Overwrite.{overwrite-at}
+use Rattle.refusal.specs.Steps.{Step, answered, Passed}
+use Rattle.refusal.specs.Told.{told-passed, told-answer}
+use Rattle.columns.specs.Columns.{start, value}
+use Rattle.columns.specs.Factor.{starts-end}
+use Rattle.integers.specs.Matrix.{Matrix}
+use Rattle.integers.specs.Inverse.{WholeInverse}
+use Rattle.takahashi.specs.Entries.{Entry}
+use Rattle.exact.specs.Multiple.{Whole}
+use Rattle.exact.specs.Factor.{factor}
+use Rattle.exact.specs.ExactCase.{ones}
+use Rattle.closed_set.specs.ClosedSet.{request}
+use Rattle.diagnostics.specs.declared.SelectedInverseDiagnostics.{SelectedInverseDiagnostics}
+use Rattle.diagnostics.specs.declared.SelectedInverseStatus.the-variants.{Complete}
+use Rattle.diagnostics.specs.declared.Selected.{Selected}
+use Rattle.diagnostics.specs.Selected.{selectedReplyOf}
+use Rattle.selection.specs.Selection.{Selection, Lent, roomOf, selectedAnswer, selectedTable, ResultLists}
+use Rattle.exact_entries.specs.ExactEntries.{ExactCall, ReadsBack, exact-entries, exact-either, exact-symmetric}
+use Rattle.request_marks.specs.CrossRequests.{cross-requested}
+use Rattle.quadratic_form.specs.RowValue.{columnAt, operatorsValue, operatorsValues}
+use Rattle.quadratic_form.specs.ExactCross.{bilinear, bilinear-exchanged, RowsWithin, crossValue-exact}
+use Rattle.operator_values.specs.Output.{outputAfter, after-complete}
+use Rattle.covariances.specs.Covariances.{Operator, CovarianceCall, covarianceSelection, covarianceSteps, covarianceValues, Covariances}
+use Rattle.covariances.specs.Covariances.{AcceptedCovariances, covariance-accepted}
+
+-- the first place of an operator's row, and how many places it has
+abbrev pub firstPlace : Operator → ℕ → ℕ
+firstPlace o i = start (o .rowStarts) i
+
+abbrev pub placeCount : Operator → ℕ → ℕ
+placeCount o i = start (o .rowStarts) (i + 1) - start (o .rowStarts) i
+
+-- the same call with the operators exchanged
+abbrev pub exchanged : CovarianceCall → CovarianceCall
+exchanged x = record { n = x .n; starts = x .starts; rows = x .rows; values = x .values; a = x .b; b = x .a; aRows = x .bRows; bRows = x .aRows }
+
+module _ (x : CovarianceCall) where
+  -- the rows of row pair p
+  abbrev pub aRow : ℕ → ℕ
+  aRow p = getD (x .aRows) p 0
+
+  abbrev pub bRow : ℕ → ℕ
+  bRow p = getD (x .bRows) p 0
+
+  -- wᵀXv of row pair p, whose rows have the whole weights v and u
+  abbrev pub exactCovariance : (ℕ → ℤ) → (ℕ → ℤ) → Matrix → ℕ → ℤ
+  exactCovariance v u X p =
+      bilinear (columnAt (x .a .columns)) (columnAt (x .b .columns)) v u X
+      (firstPlace (x .a) (aRow p)) (placeCount (x .a) (aRow p)) (firstPlace (x .b) (bRow p)) (placeCount (x .b) (bRow p))
+
+  -- row pair p has the whole weights v and u, and no weight product, product with an entry or running sum is beyond 2 ^ 53
+  pub record ExactPair (v u : ℕ → ℤ) (X : Matrix) (p : ℕ) : Type 0 where
+    pub first : (i : ℕ) → i < placeCount (x .a) (aRow p) → Whole (value (x .a .weights) (firstPlace (x .a) (aRow p) + i)) (v (firstPlace (x .a) (aRow p) + i))
+    pub second : (j : ℕ) → j < placeCount (x .b) (bRow p) → Whole (value (x .b .weights) (firstPlace (x .b) (bRow p) + j)) (u (firstPlace (x .b) (bRow p) + j))
+    pub within : RowsWithin (columnAt (x .a .columns)) (columnAt (x .b .columns)) v u X
+        (firstPlace (x .a) (aRow p)) (placeCount (x .a) (aRow p)) (firstPlace (x .b) (bRow p)) (placeCount (x .b) (bRow p))
+
+  -- X is what reads back, and wᵀXv what the output holds for each row pair in the exact case
+  pub record CovariancesExact (rs rr : List ℕ) (rv out : List Float) (X : Matrix) : Type 0 where
+    pub reads : ReadsBack (covarianceSelection x) rs rr rv X
+    pub covariances : selectedAnswer (covarianceSelection x) .status ≡ Complete → (p : ℕ) → p < length (x .aRows) → (v u : ℕ → ℤ) → ExactPair v u X p
+        → Whole (getD out p nan) (exactCovariance v u X p)
+
+module _ (x : CovarianceCall) (lent : Lent) (output : List Float) (passed : Passed (covarianceSteps x (roomOf lent) (length output)))
+    (whole : ℕ → List (Entry ℤ)) (E : ExactCall (covarianceSelection x) whole) (X : Matrix) (is : WholeInverse (x .n) (factor ones whole) X) where
+  abbrev steps : List Step
+  steps = covarianceSteps x (roomOf lent) (length output)
+
+  abbrev sel : Selection
+  sel = covarianceSelection x
+
+  A : AcceptedCovariances x (roomOf lent) (length output)
+  A = covariance-accepted x (roomOf lent) (length output) passed
+
+  entry : (p : ℕ) → p < length (x .aRows) → (i j : ℕ) → i < placeCount (x .a) (aRow x p) → j < placeCount (x .b) (bRow x p)
+      → Whole (Rattle.takahashi.specs.Recurrence.at (selectedTable sel) (columnAt (x .a .columns) (firstPlace (x .a) (aRow x p) + i)) (columnAt (x .b .columns) (firstPlace (x .b) (bRow x p) + j)))
+      (X (columnAt (x .a .columns) (firstPlace (x .a) (aRow x p) + i)) (columnAt (x .b .columns) (firstPlace (x .b) (bRow x p) + j)))
+  entry p l i j hi hj =
+      exact-either sel lent (A .accepted) whole E X is (columnAt (x .a .columns) (firstPlace (x .a) (aRow x p) + i))
+      (columnAt (x .b .columns) (firstPlace (x .b) (bRow x p) + j))
+      (request
+      (cross-requested (x .a .rowStarts) (x .a .columns) (x .b .rowStarts) (x .b .columns) (x .aRows) (x .bRows) p
+      (firstPlace (x .a) (aRow x p) + i) (firstPlace (x .b) (bRow x p) + j) l (omega arith) (omega arith) (omega arith) (omega arith)))
+
+  abbrev pairValue : ℕ → Float
+  pairValue p =
+      operatorsValue (x .a .rowStarts) (x .a .columns) (x .a .weights) (x .b .rowStarts) (x .b .columns) (x .b .weights) (selectedTable sel) (aRow x p) (bRow x p)
+
+  pair-is : selectedAnswer sel .status ≡ Complete → (p : ℕ) → p < length (x .aRows)
+      → getD (outputAfter steps sel (covarianceValues x) output) p nan ≡ pairValue p
+  unfolding operatorsValues
+  pair-is e p l =
+      ap (λ (o : List Float). getD o p nan) (after-complete steps sel (covarianceValues x) lent output passed e)
+      ∙ overwrite-at (covarianceValues x) output p nan (omega (arith, tabulate-length pairValue (length (x .aRows))))
+      ∙ tabulate-at pairValue (length (x .aRows)) p nan l
+
+  pub covariance-exact : {rs rr : List ℕ} {rv : List Float} {s : List ℕ} → ResultLists steps sel lent rs rr rv s
+      → CovariancesExact x rs rr rv (outputAfter steps sel (covarianceValues x) output) X
+  covariance-exact L = record {
+    reads = exact-entries sel lent (A .accepted) whole E X is steps passed L;
+    covariances = λ e p l v u P.
+        subst (λ (z : Float). Whole z (exactCovariance x v u X p)) (sym (pair-is e p l))
+        (crossValue-exact (columnAt (x .a .columns)) (columnAt (x .b .columns)) (value (x .a .weights)) (value (x .b .weights)) (selectedTable sel) v u X
+        (start (x .a .rowStarts) (aRow x p)) (start (x .a .rowStarts) (aRow x p + 1)) (start (x .b .rowStarts) (bRow x p)) (start (x .b .rowStarts) (bRow x p + 1))
+        (record { first = P .first; second = P .second; entries = λ i j hi hj. entry p l i j hi hj }) (P .within));
+  }
+
+  -- exchanging the operators gives the same exact covariance
+  pub covariance-exchanged : (v u : ℕ → ℤ) (p : ℕ) → p < length (x .aRows) → exactCovariance x v u X p ≡ exactCovariance (exchanged x) u v X p
+  covariance-exchanged v u p l =
+      let O = A .operators in
+      let a< = O .inside p l in
+      let b< = O .inside₂ p l in
+      let a-end = starts-end (O .first .starts-rise) (aRow x p + 1) (omega arith) in
+      let b-end = starts-end (O .second .starts-rise) (bRow x p + 1) (omega arith) in
+      bilinear-exchanged (columnAt (x .a .columns)) (columnAt (x .b .columns)) v u X
+      (firstPlace (x .a) (aRow x p)) (placeCount (x .a) (aRow x p)) (firstPlace (x .b) (bRow x p)) (placeCount (x .b) (bRow x p))
+      (λ i j hi hj.
+      exact-symmetric sel lent (A .accepted) whole E X is (columnAt (x .a .columns) (firstPlace (x .a) (aRow x p) + i))
+      (columnAt (x .b .columns) (firstPlace (x .b) (bRow x p) + j))
+      (O .first .inside (firstPlace (x .a) (aRow x p) + i) (omega arith)) (O .second .inside (firstPlace (x .b) (bRow x p) + j) (omega arith)))
+
+-- ---- of a reply
+module _ (x : CovarianceCall) (lent : Lent) (output : List Float) {reply : Selected} {rs rr : List ℕ} {rv : List Float} {s : List ℕ} {out : List Float}
+    (C : Covariances x lent output reply rs rr rv s out) {d : SelectedInverseDiagnostics} (answer : selectedReplyOf reply ≡ answered d)
+    (whole : ℕ → List (Entry ℤ)) (E : ExactCall (covarianceSelection x) whole) (X : Matrix) (is : WholeInverse (x .n) (factor ones whole) X) where
+  abbrev checks : List Step
+  checks = covarianceSteps x (roomOf lent) (length output)
+
+  all : Passed checks
+  all = told-passed checks (selectedAnswer (covarianceSelection x)) (sym answer ∙ C .replies)
+
+  -- demand 3, of the reply: d is the diagnosis, X is what reads back, and the output holds each row pair's wᵀXv
+  pub covariance-exact-reply : (d ≡ selectedAnswer (covarianceSelection x)) × CovariancesExact x rs rr rv out X
+  covariance-exact-reply = (
+    told-answer checks (selectedAnswer (covarianceSelection x)) (sym answer ∙ C .replies),
+    subst (λ (o : List Float). CovariancesExact x rs rr rv o X) (sym (C .output-is)) (covariance-exact x lent output all whole E X is (C .left)),
+  )

@@ -1,0 +1,85 @@
+// The value of a row of one operator and a row of another, from entries of the inverse that are read by position.
+ghost use mathlib.Core.Path.{_≡_};
+ghost use Prim.Native.Nat.{_+_, _<_, _≤_};
+ghost use lib.ListN.{length};
+ghost use Rattle.columns.specs.Columns.{value};
+ghost use Rattle.exact.specs.Exact.{floats};
+ghost use Rattle.quadratic_form.specs.CrossValue.{withTerms, crossValue};
+ghost use Rattle.quadratic_form.specs.RowValue.{columnAt};
+ghost use Rattle.operator_values.specs.Reading.{placed, RowsReading};
+use layout::positions::column_shift;
+use layout::positions::pair_entry;
+use scratch::queue_start;
+use words::at;
+
+// Adds the terms of the place a of the first row with each place from t to f of the second to a sum.
+fn add_terms(
+    n: usize,
+    a_columns: &[u32],
+    a_weights: &[f64],
+    a: usize,
+    b_columns: &[u32],
+    b_weights: &[f64],
+    t: usize,
+    f: usize,
+    scratch: &[u32],
+    inverse: &[f64],
+    first: f64,
+) -> f64
+    requires { ⌜ RowsReading n (now «a_columns») (length (now «a_weights»)) (now «b_columns») (length (now «b_weights»)) (now scratch) (length (now inverse)) a (a + 1) t f ⌝ }
+    ensures { λ sum. ⌜ sum ≡ withTerms floats (columnAt (now («a_columns» .entry))) (columnAt (now («b_columns» .entry))) (value (now («a_weights» .entry))) (value (now («b_weights» .entry)))
+        (placed n (now (scratch .entry)) (now (inverse .entry))) t f a first ⌝ }
+{
+    let x = a_weights[a];
+    let i = at(a_columns, a);
+    let positions = queue_start(n);
+    let base = positions + column_shift(n, i);
+    let mut sum = first;
+    let mut b = t;
+    while b < f {
+        let y = b_weights[b];
+        let z = pair_entry(n, positions, base, i, at(b_columns, b), scratch, inverse);
+        sum = sum + x * y * z;
+        b += 1;
+    }
+    sum
+}
+
+// The value of the row with the places from s to e and that with the places from t to f.
+pub fn cross_value(
+    n: usize,
+    a_columns: &[u32],
+    a_weights: &[f64],
+    s: usize,
+    e: usize,
+    b_columns: &[u32],
+    b_weights: &[f64],
+    t: usize,
+    f: usize,
+    scratch: &[u32],
+    inverse: &[f64],
+) -> f64
+    requires { ⌜ RowsReading n (now «a_columns») (length (now «a_weights»)) (now «b_columns») (length (now «b_weights»)) (now scratch) (length (now inverse)) s e t f ⌝ }
+    ensures { λ v. ⌜ v ≡ crossValue floats (columnAt (now («a_columns» .entry))) (columnAt (now («b_columns» .entry))) (value (now («a_weights» .entry))) (value (now («b_weights» .entry)))
+        (placed n (now (scratch .entry)) (now (inverse .entry))) s e t f ⌝ }
+{
+    let mut sum = 0.0;
+    let mut a = s;
+    while a < e {
+        sum = add_terms(
+            n,
+            a_columns,
+            a_weights,
+            a,
+            b_columns,
+            b_weights,
+            t,
+            f,
+            scratch,
+            inverse,
+            sum,
+        );
+        a += 1;
+    }
+    sum
+}
