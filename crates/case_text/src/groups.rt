@@ -117,6 +117,58 @@ pub fn operator(
     )
 }
 
+// Operator A of two.
+pub fn operator_a(
+    text: &[u8],
+    p: usize,
+    row_starts: &mut [u32],
+    columns: &mut [u32],
+    weights: &mut [f64],
+) -> Group
+    ensures { λ r. ⌜ Front (r .first) (now («row_starts» .exit)) ⌝ }
+    ensures { λ r. ⌜ Front (r .second) (now (columns .exit)) ⌝ }
+    ensures { λ r. ⌜ Front (r .third) (now (weights .exit)) ⌝ }
+{
+    let n = number_field(text, p, b"ancols ");
+    lists(
+        text,
+        n.next,
+        n.value,
+        b"astarts ",
+        b"acols ",
+        b"aweights ",
+        row_starts,
+        columns,
+        weights,
+    )
+}
+
+// Operator B of two.
+pub fn operator_b(
+    text: &[u8],
+    p: usize,
+    row_starts: &mut [u32],
+    columns: &mut [u32],
+    weights: &mut [f64],
+) -> Group
+    ensures { λ r. ⌜ Front (r .first) (now («row_starts» .exit)) ⌝ }
+    ensures { λ r. ⌜ Front (r .second) (now (columns .exit)) ⌝ }
+    ensures { λ r. ⌜ Front (r .third) (now (weights .exit)) ⌝ }
+{
+    let n = number_field(text, p, b"bncols ");
+    lists(
+        text,
+        n.next,
+        n.value,
+        b"bstarts ",
+        b"bcols ",
+        b"bweights ",
+        row_starts,
+        columns,
+        weights,
+    )
+}
+
 // Requests: the dimension, rows and columns.
 pub fn requests(text: &[u8], p: usize, rows: &mut [u32], columns: &mut [u32]) -> Group
     ensures { λ r. ⌜ Front (r .first) (now (rows .exit)) ⌝ }

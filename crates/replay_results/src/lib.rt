@@ -1,5 +1,6 @@
 // Cases about results: the kinds that fill result lists, and those that read them.
 pub mod calls;
+pub mod covar;
 pub mod lookups;
 
 ghost use Rattle.case_text.specs.Groups.{Front};
@@ -21,6 +22,7 @@ use case_text::groups::requests;
 use case_text::past_label;
 use case_text::skip_to;
 use case_text::skip_word;
+use covar::covar;
 use diagnostics::Selected;
 use lookups::gets;
 
@@ -345,6 +347,8 @@ pub fn results(text: &[u8], name: usize, p: usize) {
         of_kind(text, 2, p);
     } else if begins(text, name, b"opvar\n") {
         of_kind(text, 3, p);
+    } else if begins(text, name, b"covar\n") {
+        covar(text, p);
     } else {
         put(b"unknown kind\n");
     }

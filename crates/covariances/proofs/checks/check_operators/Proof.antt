@@ -41,7 +41,7 @@ returns c =
     let firsts : List Step = operatorSteps (a .n) (now (a .a-row-starts)) (now (a .a-columns)) (a .a-weights) in
     let seconds : List Step = operatorSteps (a .n) (now (a .b-row-starts)) (now (a .b-columns)) (a .b-weights) in
     let rows : List Step =
-        (9, outside (operatorRows (now (a .a-row-starts))) (now (a .a-rows))) ∷ (9, outside (operatorRows (now (a .b-row-starts))) (now (a .b-rows))) ∷ [] in
+    (9, outside (operatorRows (now (a .a-row-starts))) (now (a .a-rows))) ∷ (9, outside (operatorRows (now (a .b-row-starts))) (now (a .b-rows))) ∷ [] in
     verdicts firsts (seconds ++ rows) (c .first-of2 .ensures) (first .check-operator .ensures)
     (verdicts seconds rows (later .first-of .ensures) (second .check-operator2 .ensures)
     (rw (count .operator-rows .ensures, count2 .operator-rows2 .ensures) at (inside .check-rows .ensures)))
