@@ -706,6 +706,19 @@ fn the_demo() {
     assert!(table.starts_with("A harbour of 24 x 16 cells"));
     assert!(table.contains("Complete: "));
     assert!(table.contains("mean depth of the turning basin"));
+    // The two areas lie side by side, so their volumes are wrong together.
+    assert!(table.contains("\nTwo dredging areas, 12 and 12 cells of 10 x 10 m;"));
+    let value = |name: &str| {
+        let line = table.lines().find(|line| line.starts_with(name)).unwrap();
+        line.rsplit(' ').next().unwrap().parse::<f64>().unwrap()
+    };
+    let (west, east) = (
+        value("volume over the western dredging area"),
+        value("volume over the eastern dredging area"),
+    );
+    let covariance = value("covariance of the two volumes");
+    assert!(covariance > 0.0);
+    assert_eq!(value("difference of the two volumes"), west + east - 2.0 * covariance);
     assert!(table.contains("\n0 of 266 cells not computed\n"));
     let csv = folder.prints(&["--demo", "--csv", "--svg", "map.svg"]);
     let variances = csv
