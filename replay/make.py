@@ -965,7 +965,7 @@ def spoil_covar(chance, f):
     """One fault, or something that looks like one."""
     which = chance.below(8)
     if which == 0:
-        f[chance.pick(("ancols", "bncols"))] += chance.pick((-1, 1)) if f["n"] else 1
+        f[chance.pick(("ancols", "bncols"))] = f["n"] + (chance.pick((-1, 1)) if f["n"] else 1)
     elif which == 1:
         name = chance.pick(("arows", "brows"))
         f[name] = f[name][:-1] if f[name] and chance.one_of(2) else f[name] + [0]
