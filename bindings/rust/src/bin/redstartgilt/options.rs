@@ -98,7 +98,7 @@ pub struct Options {
 
 #[derive(Debug, Clone, PartialEq)]
 pub enum Command {
-    Run(Options),
+    Run(Box<Options>),
     Help,
     Version,
 }
@@ -225,7 +225,7 @@ fn checked(options: Options, demo: bool) -> Result<Command, Failure> {
     if options.svg.is_some() && options.svg == options.html {
         return Err(Failure::usage("--svg and --html need two files"));
     }
-    Ok(Command::Run(options))
+    Ok(Command::Run(Box::new(options)))
 }
 
 fn number(value: &OsString) -> Result<usize, Failure> {
