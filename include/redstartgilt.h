@@ -159,6 +159,49 @@ redstartgilt_selected redstartgilt_selected_inverse_transformed_diag(
     uint32_t *result_starts, size_t result_starts_len, uint32_t *result_rows, size_t result_rows_len, double *result_values, size_t result_values_len,
     uint32_t *scratch, size_t scratch_len, double *output, size_t output_len);
 
+/* Covariances of rows of two operators: output[k] is the covariance of A's row a_rows[k] with B's row b_rows[k]. From
+ * 0.0, for each term a of A's row, for each term b of B's row, (weight a * weight b) * entry is added. Operators are as
+ * in operator variances, in factor order; their rows may be in any number of row pairs, also in none. The requests are,
+ * for each row pair, all columns of A's row with all columns of B's row, put in order; the two may be one operator, and
+ * a row with itself gives its variance. The limit is the default one, 10 times rows_len, and the result lists are filled
+ * as by selected entries, and need as much; output needs a place for each row pair. Weights are not checked. Refuses, in
+ * this order:
+ *   1   as selected entries does, or of either operator more than 2,048 rows or 1,048,576 columns, or more than 1,048,576
+ *       row pairs, counted by a_rows_len
+ *   2, 3   as selected entries does
+ *   4   a_ncols or b_ncols not n, or a_rows_len not b_rows_len
+ *   9   A broken as an operator of operator variances is, B broken, or a row pair outside: a_rows[k] not below the number
+ *       of A's rows, or b_rows[k] not below that of B's. Rows that no row pair names are checked too
+ *   6   as above
+ *   7   a list too short
+ * CLOSURE_TOO_LARGE leaves the result lists and the output as they were; either status carries the counts. Without row
+ * pairs the status is COMPLETE with 0 pairs.
+ *
+ * Beside the cost of selected entries, each row pair costs the terms of A's row times those of B's row, once to mark the
+ * requests and once to sum; a row pair that repeats costs that again.
+ *
+ * Of the factor with columns (1, 2) and (1), whose inverse is (5, -2; -2, 1), cell 0 with cell 1, and the sum of both
+ * with itself:
+ *   const uint32_t starts[] = {0, 2, 3}, rows[] = {0, 1, 1};
+ *   const double values[] = {1.0, 2.0, 1.0};
+ *   const uint32_t a_starts[] = {0, 1, 3}, a_columns[] = {0, 0, 1}, b_starts[] = {0, 1, 3}, b_columns[] = {1, 0, 1};
+ *   const double a_weights[] = {1.0, 1.0, 1.0}, b_weights[] = {1.0, 1.0, 1.0};
+ *   const uint32_t a_rows[] = {0, 1}, b_rows[] = {0, 1};
+ *   uint32_t result_starts[3], result_rows[3], scratch[14];
+ *   double result_values[3], output[2];
+ *   redstartgilt_selected reply = redstartgilt_selected_inverse_transformed_covariances(
+ *       2, starts, 3, rows, 3, values, 3,
+ *       2, a_starts, 3, a_columns, 3, a_weights, 3, 2, b_starts, 3, b_columns, 3, b_weights, 3, a_rows, 2, b_rows, 2,
+ *       result_starts, 3, result_rows, 3, result_values, 3, scratch, 14, output, 2);
+ * gives refusal 0, COMPLETE, and the covariances -2 and 2. */
+redstartgilt_selected redstartgilt_selected_inverse_transformed_covariances(
+    size_t n, const uint32_t *starts, size_t starts_len, const uint32_t *rows, size_t rows_len, const double *values, size_t values_len,
+    size_t a_ncols, const uint32_t *a_row_starts, size_t a_row_starts_len, const uint32_t *a_columns, size_t a_columns_len, const double *a_weights, size_t a_weights_len,
+    size_t b_ncols, const uint32_t *b_row_starts, size_t b_row_starts_len, const uint32_t *b_columns, size_t b_columns_len, const double *b_weights, size_t b_weights_len,
+    const uint32_t *a_rows, size_t a_rows_len, const uint32_t *b_rows, size_t b_rows_len,
+    uint32_t *result_starts, size_t result_starts_len, uint32_t *result_rows, size_t result_rows_len, double *result_values, size_t result_values_len,
+    uint32_t *scratch, size_t scratch_len, double *output, size_t output_len);
+
 /* Requests from a Matrix Market file. The text is the whole file, of any length:
  *   the header, which is the first line, exactly %%MatrixMarket matrix coordinate pattern symmetric
  *   any number of comment lines, each with % as its first byte

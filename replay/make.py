@@ -24,6 +24,8 @@ What the answers file holds is the Rust's answer with these changes:
 - of `least`, two zeros count as equal, and document 01's is written;
 - the marks of a diagonal list are 1 where the Rust's lookup of the diagonal finds a value; marks that are
   moved with their values go where the permutation says, and the Rust moves the values alone;
+- the Rust has no covariances of two operators: of `covar` it is asked for the entries of the requests, with the
+  default limit, and the outputs are summed here from these;
 - `route` and `finish`, which a call does not tell, are left out.
 
 The Rust has no reader of Matrix Market files. The answers of kind `mmread` are those of `read_file`
@@ -44,6 +46,7 @@ SETS = {
     "refuse": (140, 2000, 12),
     "diagorig": (60, 4000, 12),
     "opvar": (80, 4000, 12),
+    "covar": (56, 2000, 4),
     "floor": (90, 2000, 12),
     "least": (60, 2000, 12),
     "perm": (90, 2000, 12),
@@ -56,6 +59,8 @@ SETS = {
 
 FACTOR = ("n", "starts", "rows", "values")
 OPERATOR = ("ncols", "ostarts", "ocols", "oweights")
+OPERATOR_A = ("ancols", "astarts", "acols", "aweights")
+OPERATOR_B = ("bncols", "bstarts", "bcols", "bweights")
 # the lists lent for writing, by kind, each with the length that it has where the case does not give it
 ROOM, ENTRIES = 4608, 33024
 RESULT = {"lstarts": ROOM, "lrows": ENTRIES, "lvalues": ENTRIES, "lscratch": 67072}
@@ -74,6 +79,7 @@ LENT = {
     "permmarked": MARKED,
     "diagorig": {**RESULT, **OUTPUT},
     "opvar": {**RESULT, **OUTPUT},
+    "covar": {**RESULT, **OUTPUT},
     "floor": OUTPUT,
     "least": {},
     "mmread": {"lrrows": ROOM, "lrcols": ROOM},
@@ -91,13 +97,14 @@ READ = {
     "permmarked": ("perm", "input", "marks"),
     "diagorig": FACTOR + ("perm",),
     "opvar": FACTOR + OPERATOR,
+    "covar": FACTOR + OPERATOR_A + OPERATOR_B + ("arows", "brows"),
     "floor": ("floor", "scale", "input"),
     "least": ("input",),
     "mmread": ("file",),
 }
 FIELDS = {kind: (*LENT[kind], *READ[kind]) for kind in READ}
-SCALARS = ("n", "rdim", "limit", "ncols", "floor", "scale")
-VALUES = ("values", "oweights", "input", "lvalues", "lout")
+SCALARS = ("n", "rdim", "limit", "ncols", "ancols", "bncols", "floor", "scale")
+VALUES = ("values", "oweights", "aweights", "bweights", "input", "lvalues", "lout")
 BYTES = ("file",)
 MARKS = ("marks", "lmarks")
 # what the program has room for: ROOM items of a list, so many pairs and bytes, and this dimension where it lends its own lists
@@ -212,6 +219,11 @@ def value_bits(word):
     return struct.pack(">d", x).hex()
 
 
+def number_of(bits):
+    """The value of its digits."""
+    return math.nan if bits == "nan" else struct.unpack(">d", bytes.fromhex(bits))[0]
+
+
 def items(word):
     """The items that a word stands for: item*k is k of them, a..b all from a to b, either way."""
     word, _, times = word.partition("*")
@@ -298,8 +310,9 @@ def factor_refusals(f):
                 yield 3
 
 
-def operator_refusals(f, columns):
-    if not f["ostarts"] or broken(f["ostarts"], f["ocols"], f["oweights"]) or any(c >= columns for c in f["ocols"]):
+def operator_refusals(f, columns, names=OPERATOR):
+    starts, cols, weights = (f[x] for x in names[1:])
+    if not starts or broken(starts, cols, weights) or any(c >= columns for c in cols):
         yield 9
 
 
@@ -489,6 +502,25 @@ def opvar_refusals(f):
         yield 7
 
 
+def covar_refusals(f):
+    n, arows, brows = f["n"], f["arows"], f["brows"]
+    rows = {"arows": len(f["astarts"]) - 1, "brows": len(f["bstarts"]) - 1}
+    entries = max(len(f["rows"]), len(f["acols"]), len(f["bcols"]), len(arows))
+    if max(n, *rows.values()) > MOST_COLUMNS or entries > MOST_ENTRIES:
+        yield 1
+    yield from factor_refusals(f)
+    if f["ancols"] != n or f["bncols"] != n or len(arows) != len(brows):
+        yield 4
+    yield from operator_refusals(f, n, OPERATOR_A)
+    yield from operator_refusals(f, n, OPERATOR_B)
+    if any(row >= count for name, count in rows.items() for row in f[name]):
+        yield 9
+    yield from diagonal_refusals(f)
+    yield from room_refusals("covar", f, limit_of(f))
+    if room("covar", f, "lout") < len(arows):
+        yield 7
+
+
 def floor_refusals(f):
     if len(f["input"]) > MOST_ENTRIES:
         yield 1
@@ -498,6 +530,43 @@ def floor_refusals(f):
         yield 14
     if room("floor", f, "lout") < len(f["input"]):
         yield 7
+
+
+# ---- document 02: the covariances of rows of two operators
+
+
+def row_terms(f, names, row):
+    """The terms of an operator's row, (column, weight)."""
+    starts, cols, weights = (f[x] for x in names[1:])
+    return [(cols[p], weights[p]) for p in range(starts[row], starts[row + 1])]
+
+
+def covar_terms(f):
+    """The terms of each row pair: of A's row, and of B's."""
+    for a, b in zip(f["arows"], f["brows"], strict=True):
+        yield row_terms(f, OPERATOR_A, a), row_terms(f, OPERATOR_B, b)
+
+
+def covar_requests(f):
+    """Every column of A's row with every column of B's row, put in order, each pair once."""
+    return {(max(a, b), min(a, b)) for one, other in covar_terms(f) for a, _ in one for b, _ in other}
+
+
+def covar_answer(f, got):
+    """The Rust's answer to the request for entries, with the outputs where it is Complete."""
+    if got["status"] != ["Complete"]:
+        return got
+    starts, rows = ([int(w) for w in got[x][1:]] for x in ("starts", "rows"))
+    places = ((rows[p], c, p) for c in range(f["n"]) for p in range(starts[c], starts[c + 1]))
+    entry = {(r, c): number_of(got["values"][1 + p]) for r, c, p in places}
+    out = []
+    for one, other in covar_terms(f):
+        total = 0.0
+        for a, v in one:
+            for b, w in other:
+                total += (number_of(v) * number_of(w)) * entry[max(a, b), min(a, b)]
+        out.append("nan" if math.isnan(total) else struct.pack(">d", total).hex())
+    return {**got, "out": [str(len(out))] + out}
 
 
 # ---- document 02: the requests of a file
@@ -568,6 +637,7 @@ REFUSALS = {
     "permmarked": permmarked_refusals,
     "diagorig": diagorig_refusals,
     "opvar": opvar_refusals,
+    "covar": covar_refusals,
     "floor": floor_refusals,
     "least": no_refusals,
     "mmread": mmread_refusals,
@@ -631,6 +701,7 @@ TOLD = {
     "entries": DIAGNOSIS,
     "diagorig": DIAGNOSIS,
     "opvar": DIAGNOSIS,
+    "covar": DIAGNOSIS,
     "floor": ("floor", "hits"),
     "least": ("negative", "least"),
     "mmread": ("rdim", "requests"),
@@ -707,6 +778,8 @@ def expected(kind, f, answer):
     number, difference = refusal(kind, f), None
     if kind == "mmread" and not number:
         got = mmread_answer(f)
+    if kind == "covar" and not number:
+        got = covar_answer(f, got)
     reply = got.get("reply", [])
     said = 0 if reply == ["ok"] else error_number(kind, reply[-1]) if reply else number
     if said != number:
@@ -733,8 +806,14 @@ def run(program, *args, text=""):
 
 
 def asked(name, kind, f):
-    """What the Rust is asked for a case: of values with marks the values alone."""
-    return (name, "permapply", {x: f[x] for x in READ["permapply"]}) if kind == "permmarked" else (name, kind, f)
+    """What the Rust is asked for a case: of values with marks the values alone, of covariances the entries that they need."""
+    if kind == "permmarked":
+        return name, "permapply", {x: f[x] for x in READ["permapply"]}
+    if kind == "covar":
+        rows, cols = ([pair[k] for pair in sorted(covar_requests(f))] for k in (0, 1))
+        factor = {x: f[x] for x in FACTOR}
+        return name, "entries", {**factor, "rdim": f["n"], "rrows": rows, "rcols": cols, "limit": "default"}
+    return name, kind, f
 
 
 def answers(programs, cases):
@@ -851,10 +930,113 @@ def some_marked(programs, *seed):
             yield "permmarked-" + i, "permmarked", f
 
 
+# weights that a sum may take for others, or not expect
+ODD_WEIGHTS = ["nan", "inf", "-inf", "0.0", "-0.0", "1e200", "1e-300", "2^53", "-2^-1074"]
+
+
+def some_weight(chance, others):
+    """A weight of the operator at hand, a whole number, now and then an odd one."""
+    if chance.one_of(30):
+        return value_bits(chance.pick(ODD_WEIGHTS))
+    return chance.pick(others) if others and not chance.one_of(3) else value_bits(str(float(chance.below(9) - 4)))
+
+
+def some_operator(chance, n, weights):
+    """The lists of an operator of up to four rows of up to five terms, in the order of OPERATOR."""
+    starts, cols = [0], []
+    for _ in range(chance.pick((0, 1, 1, 2, 2, 2, 2, 3, 3, 3, 3, 4))):
+        cols += [chance.below(n) for _ in range(chance.below(6) if n else 0)]
+        starts.append(len(cols))
+    return [n, starts, cols, [some_weight(chance, weights) for _ in cols]]
+
+
+def some_row_pairs(chance, rows, others):
+    """Row pairs, some of them twice, all within but for a few; none where an operator has no rows."""
+    count = chance.pick((0, 1, 1, 2, 2, 3, 3, 3, 5, 8)) if rows and others else 0
+    pairs = [(chance.below(rows), chance.below(others)) for _ in range(count)]
+    if pairs and chance.one_of(4):
+        pairs.append(chance.pick(pairs))
+    if chance.one_of(15):
+        pairs.append(chance.pick(((rows, 0), (0, others), (2**32 - 1, 0), (0, 2**32 - 1))))
+    return [a for a, _ in pairs], [b for _, b in pairs]
+
+
+def spoil_covar(chance, f):
+    """One fault, or something that looks like one."""
+    which = chance.below(8)
+    if which == 0:
+        f[chance.pick(("ancols", "bncols"))] = f["n"] + (chance.pick((-1, 1)) if f["n"] else 1)
+    elif which == 1:
+        name = chance.pick(("arows", "brows"))
+        f[name] = f[name][:-1] if f[name] and chance.one_of(2) else f[name] + [0]
+    elif which == 2:
+        name = chance.pick(("acols", "bcols"))
+        f[name] = [*f[name][:-1], f["n"]]
+    elif which == 3:
+        name = chance.pick(("aweights", "bweights"))
+        f[name] = f[name][1:]
+    elif which == 4:
+        name = chance.pick(("astarts", "bstarts"))
+        f[name] = chance.pick(([], f[name][1:], f[name] + [0], [1] + f[name]))
+    elif which == 5 and f["values"]:
+        f["values"] = f["values"][:-1] + [value_bits(chance.pick(("0.0", "-1.0")))]
+    elif which == 6:
+        f["starts"] = f["starts"][:-1]
+    else:
+        f["rows"] = f["rows"][::-1]
+
+
+def some_covar(programs, *seed):
+    """Cases of covar: the factors and operators of the sets opvar and default, with a second operator, which now and then is
+    the same, and row pairs."""
+    chance = Chance(int(seed[0]) if seed else 1)
+    texts = (run(os.path.join(programs, "generate"), name, *seed) for name in ("opvar", "default"))
+    for i, kind, lines in itertools.chain.from_iterable(map(blocks, texts)):
+        f = fields(lines)
+        # operators without rows have no row pairs: a few are enough
+        if kind != "opvar" or (len(f["ostarts"]) == 1 and not chance.one_of(8)):
+            continue
+        first = [f[x] for x in OPERATOR]
+        # the first row of a star with itself may pass the limit
+        star = f["n"] > 32 and not chance.one_of(4)
+        other = list(first) if star or chance.one_of(6) else some_operator(chance, f["n"], f["oweights"])
+        one, two = (first, other) if chance.one_of(2) else (other, first)
+        case = {x: f[x] for x in FACTOR}
+        case.update(zip(OPERATOR_A + OPERATOR_B, one + two))
+        case["arows"], case["brows"] = some_row_pairs(chance, len(one[1]) - 1, len(two[1]) - 1)
+        if star:
+            case["arows"], case["brows"] = [0] + case["arows"], [0] + case["brows"]
+        for _ in range(chance.pick((0, 0, 0, 0, 0, 1, 1, 2))):
+            spoil_covar(chance, case)
+        if chance.one_of(3):
+            case.update(some_lists(chance, case))
+        yield "covar-" + i, "covar", case
+
+
+def some_lists(chance, f):
+    """Result lists, scratch and output as long as needed, a few places more, or now and then one less."""
+    n, entries = f["n"], min(10 * len(f["rows"]), triangle(f["n"]))
+    needs = {"lstarts": n + 1, "lrows": entries, "lvalues": entries, "lscratch": 2 * triangle(n) + 4 * n, "lout": len(f["arows"])}
+    lists = {}
+    for name, need in needs.items():
+        length = max(need + (-1 if chance.one_of(20) else chance.pick((0, 0, 1, 3))), 0)
+        lists[name] = [SEVENS if name in VALUES else 7777] * length
+    return lists
+
+
+def answered(programs, cases):
+    """The cases (id, kind, fields) with the Rust's answers; of refused ones it is not asked."""
+    questions = [case for case in cases if not refusal(*case[1:])]
+    said = {case[0]: answer for case, answer in zip(questions, answers(programs, questions))}
+    return [finished(*case, said.get(case[0])) for case in cases]
+
+
 def generated(programs, name, *seed):
     """Every case of a set that the program can hold."""
     if name == "mmread":
         return [finished(i, name, f, None) for i, f in some_files(*seed) if fits(name, f)]
+    if name == "covar":
+        return answered(programs, [c for c in some_covar(programs, *seed) if fits(*c[1:])])
     if name == "permmarked":
         cases = [c for c in some_marked(programs, *seed) if fits(*c[1:])]
         return [finished(*c, answer) for c, answer in zip(cases, answers(programs, cases))]

@@ -91,6 +91,28 @@ int main(void)
     }
     printf("\n");
 
+    /* Two areas: A's rows are cell 0 and the sum of both cells, B's row is three times cell 1. Their covariances. */
+    const uint32_t a_starts[] = {0, 1, 3};
+    const uint32_t a_columns[] = {0, 0, 1};
+    const double a_weights[] = {1.0, 1.0, 1.0};
+    const uint32_t b_starts[] = {0, 1};
+    const uint32_t b_columns[] = {1};
+    const double b_weights[] = {3.0};
+    const uint32_t a_rows[] = {0, 1}; /* row pairs: (0, 0) and (1, 0) */
+    const uint32_t b_rows[] = {0, 0};
+    double covariances[2];
+    reply = redstartgilt_selected_inverse_transformed_covariances(
+        2, starts, COUNT(starts), rows, COUNT(rows), values, COUNT(values),
+        2, a_starts, COUNT(a_starts), a_columns, COUNT(a_columns), a_weights, COUNT(a_weights),
+        2, b_starts, COUNT(b_starts), b_columns, COUNT(b_columns), b_weights, COUNT(b_weights),
+        a_rows, COUNT(a_rows), b_rows, COUNT(b_rows),
+        result_starts, COUNT(result_starts), result_rows, COUNT(result_rows), result_values, COUNT(result_values),
+        scratch, COUNT(scratch), covariances, COUNT(covariances));
+    if (reply.refusal != REDSTARTGILT_ACCEPTED || reply.status != REDSTARTGILT_COMPLETE)
+        return 1;
+    printf("covariances: %zu requested, %zu computed, %.17g %.17g\n",
+        reply.requested_pairs, reply.closure_pairs, covariances[0], covariances[1]);
+
     /* Requests from the bytes of a Matrix Market file, counted from 0; the end of the C text is no part of them. */
     const char file[] = "%%MatrixMarket matrix coordinate pattern symmetric\n% cells\n2 2 2\n2 1\n1 1\n";
     uint32_t read_rows[2], read_columns[2];

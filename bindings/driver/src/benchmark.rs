@@ -92,8 +92,8 @@ struct Row {
     least: f64,
 }
 
-/// Compares a case's answers, then times it both ways.
-fn row(folder: &Path, case: &Block, runs: usize) -> io::Result<Row> {
+/// Compares a case's answers, then times it by the Rust, and a call that asks for the same entries by the library.
+fn row(folder: &Path, case: &Block, call: &Call, runs: usize) -> io::Result<Row> {
     let text = case.text();
     let answer = Blocks::new(BufReader::new(&oracle(folder, &[], &text)?[..])).next()?;
     let answer = answer.ok_or_else(|| io::Error::other("the oracle has no answer"))?;
@@ -106,7 +106,7 @@ fn row(folder: &Path, case: &Block, runs: usize) -> io::Result<Row> {
         let timed = String::from_utf8_lossy(&oracle(folder, &["time", &runs.to_string()], &text)?).into_owned();
         let time = timed.trim_end().rsplit(' ').next().and_then(|x| x.parse().ok());
         rust.push(time.ok_or_else(|| io::Error::other(format!("{}: no time in {timed}", case.name)))?);
-        let mut call = lent(call_of(case));
+        let mut call = lent(call.clone());
         ours.push(median_ms(&mut call, runs));
         clearing.push(clearing_ms(&mut call, runs));
     }
@@ -119,6 +119,7 @@ fn row(folder: &Path, case: &Block, runs: usize) -> io::Result<Row> {
 pub fn benchmark(folder: &Path, runs: usize) -> io::Result<()> {
     println!("{}; medians of {runs} runs in {ROUNDS} rounds, processor time in ms\n", machine());
     rows_of_the_timing_set(folder, runs)?;
+    rows_of_covariances(folder, runs)?;
     growth(folder, runs)?;
     split(runs);
     reading::rows_of_files(runs)
@@ -152,26 +153,91 @@ pub fn machine() -> String {
         .unwrap_or_default()
 }
 
-fn rows_of_the_timing_set(folder: &Path, runs: usize) -> io::Result<()> {
-    println!("| case | Rust's route | pairs | ours | clearing | Rust | ours / Rust | clearing / Rust | target | |");
-    println!("|---|---|---|---|---|---|---|---|---|---|");
+impl Row {
+    fn put_head(what: &str) {
+        println!(
+            "| {what} | Rust's route | pairs | ours | clearing | Rust | ours / Rust | clearing / Rust | target | |"
+        );
+        println!("|---|---|---|---|---|---|---|---|---|---|");
+    }
+
+    fn put(&self, name: &str) {
+        let target = if self.route.starts_with("factor") { FACTOR_TARGET } else { CLOSURE_TARGET };
+        let met = if self.ratio <= target { "met" } else { "missed" };
+        println!(
+            "| {name} | {} | {} | {:.3} | {:.3} | {:.3} | {:.3} | {:.3} | {target} | {met} |",
+            self.route, self.closure, self.ours, self.clearing, self.rust, self.ratio, self.least
+        );
+    }
+}
+
+/// Each case of the timing set but those of the smallest grids, with its name.
+fn each_timing_case(folder: &Path, mut each: impl FnMut(&str, &Block) -> io::Result<()>) -> io::Result<()> {
     let mut generate = Command::new(folder.join("generate")).arg("timing").stdout(Stdio::piped()).spawn()?;
     let mut cases = Blocks::new(BufReader::new(generate.stdout.take().expect("piped")));
     while let Some(case) = cases.next()? {
         let name = case.name.trim_start_matches("timing:");
-        if name.starts_with("16x16") {
-            continue;
+        if !name.starts_with("16x16") {
+            each(name, &case)?;
         }
-        let row = row(folder, &case, runs)?;
-        let target = if row.route.starts_with("factor") { FACTOR_TARGET } else { CLOSURE_TARGET };
-        let met = if row.ratio <= target { "met" } else { "missed" };
-        println!(
-            "| {name} | {} | {} | {:.3} | {:.3} | {:.3} | {:.3} | {:.3} | {target} | {met} |",
-            row.route, row.closure, row.ours, row.clearing, row.rust, row.ratio, row.least
-        );
     }
     generate.wait()?;
     Ok(())
+}
+
+fn rows_of_the_timing_set(folder: &Path, runs: usize) -> io::Result<()> {
+    Row::put_head("case");
+    each_timing_case(folder, |name, case| {
+        row(folder, case, &call_of(case), runs)?.put(name);
+        Ok(())
+    })
+}
+
+/// The covariances of every block of cells with every block. The Rust has no such call: it is asked for the same entries
+/// by an operator of one row, which has the cells of all blocks, and sums as many terms.
+pub fn rows_of_covariances(folder: &Path, runs: usize) -> io::Result<()> {
+    println!();
+    Row::put_head("covariances");
+    each_timing_case(folder, |name, case| {
+        if !name.ends_with("-blocks") {
+            return Ok(());
+        }
+        let blocks = call_of(case);
+        let call = all_covariances(&blocks);
+        let mut made = lent(call.clone());
+        let expected = rules::expected(made.clone());
+        let reply = made.make();
+        if !reply.complete() || !expected.differences(&reply, &made).is_empty() {
+            return Err(io::Error::other(format!("{name}: the covariances differ")));
+        }
+        let mut joined = Block::new(&case.name, "opvar");
+        joined.put_factor(&blocks);
+        joined.put("ncols", blocks.n);
+        joined.put_numbers("ostarts", &[0, blocks.columns.len() as u32]);
+        joined.put_numbers("ocols", &blocks.columns);
+        joined.put_values("oweights", &blocks.weights);
+        let row = row(folder, &joined, &call, runs)?;
+        if row.closure != reply.closure {
+            return Err(io::Error::other(format!("{name}: the Rust computes other entries")));
+        }
+        row.put(name);
+        Ok(())
+    })
+}
+
+/// The call for the covariances of each row of an operator with each.
+fn all_covariances(call: &Call) -> Call {
+    let rows = call.row_starts.len() - 1;
+    Call {
+        function: Function::Covariances,
+        b_dimension: call.dimension,
+        b_row_starts: call.row_starts.clone(),
+        b_columns: call.columns.clone(),
+        b_weights: call.weights.clone(),
+        a_rows: List::made(rows * rows, |at| (at / rows) as u32),
+        b_rows: List::made(rows * rows, |at| (at % rows) as u32),
+        ..call.clone()
+    }
 }
 
 /// The call for the diagonal in original order of a grid.
@@ -206,7 +272,7 @@ fn growth(folder: &Path, runs: usize) -> io::Result<()> {
                 } else {
                     case.put_numbers("perm", &call.orig_to_perm);
                 }
-                let row = row(folder, &case, runs)?;
+                let row = row(folder, &case, &call_of(&case), runs)?;
                 println!(
                     "| {side}x{side} {} | {} | {} | {} | {} | {:.3} | {:.0} | {:.3} | {:.3} |",
                     if nested { "nested" } else { "natural" },

@@ -23,6 +23,29 @@ pub fn bounds() -> Vec<Call> {
             let call = sound(function, 2, &mut random);
             calls.push(Call { row_starts: long(n + 1), columns: long(0), weights: zeros(0), ..call });
         }
+        // two operators, one of them of n rows, the last of them in a row pair
+        let rows = |count: usize| List::made(count + 1, |at| u32::from(at == count));
+        let (column, weight) = (long(1), List::made(1, |_| 2.0));
+        let pair = |row: usize| List::new(&[row as u32, 0]);
+        let two = Call {
+            row_starts: rows(n),
+            columns: column.clone(),
+            weights: weight.clone(),
+            b_row_starts: rows(1),
+            b_columns: column.clone(),
+            b_weights: weight.clone(),
+            a_rows: pair(n - 1),
+            b_rows: pair(0),
+            ..sound(Function::Covariances, 2, &mut random)
+        };
+        calls.push(Call {
+            row_starts: rows(1),
+            b_row_starts: rows(n),
+            a_rows: pair(0),
+            b_rows: pair(n - 1),
+            ..two.clone()
+        });
+        calls.push(two);
         // one of two lists alone passes the bound
         calls.push(Call { orig_to_perm: long(1), ..sound(Function::Validate, n, &mut random) });
         calls.push(Call { perm_to_orig: long(1), ..sound(Function::Validate, n, &mut random) });
@@ -40,6 +63,7 @@ pub fn bounds() -> Vec<Call> {
             Function::Entries,
             Function::OriginalDiag,
             Function::OperatorVariances,
+            Function::Covariances,
             Function::FactorPattern,
         ] {
             let call = sound(function, 3, &mut random);
@@ -53,10 +77,13 @@ pub fn bounds() -> Vec<Call> {
             calls.push(Call { request_columns: long(count), ..call });
         }
         // operator terms: the row starts are those of another operator
-        for function in [Function::OperatorVariances, Function::OperatorPattern] {
+        for function in [Function::OperatorVariances, Function::OperatorPattern, Function::Covariances] {
             let call = sound(function, 3, &mut random);
             calls.push(Call { columns: long(count), weights: zeros(count), ..call });
         }
+        let call = sound(Function::Covariances, 3, &mut random);
+        calls.push(Call { b_columns: long(count), b_weights: zeros(count), ..call });
+        calls.extend(row_pairs(count));
         for function in [Function::FloorZero, Function::FloorMean, Function::Least] {
             let call = sound(function, 3, &mut random);
             calls.push(Call { input: List::made(count, |at| at as f64 - 9.0), ..call });
@@ -104,6 +131,47 @@ pub fn bounds() -> Vec<Call> {
         calls.push(Call { request_rows: words(rows), request_columns: words(columns), ..longest.clone() });
     }
     calls
+}
+
+/// Calls for covariances with so many row pairs: counted by A's list, which alone decides; in B's list alone; and so many
+/// terms in a row of A, or of B.
+fn row_pairs(count: usize) -> Vec<Call> {
+    let words = |count: usize, of: fn(usize) -> usize| List::made(count, |at| of(at) as u32);
+    let small = Call {
+        function: Function::Covariances,
+        n: 2,
+        starts: List::new(&[0, 2, 3]),
+        rows: List::new(&[0, 1, 1]),
+        values: List::new(&[1.0, 2.0, 1.0]),
+        dimension: 2,
+        row_starts: List::new(&[0, 1, 1, 3]),
+        columns: List::new(&[0, 0, 1]),
+        weights: List::new(&[1.0, 3.0, 0.5]),
+        b_dimension: 2,
+        b_row_starts: List::new(&[0, 2, 3]),
+        b_columns: List::new(&[1, 0, 1]),
+        b_weights: List::new(&[1.5, -2.0, 4.0]),
+        ..Call::default()
+    };
+    let pairs =
+        |a: usize, b: usize| Call { a_rows: words(a, |at| at % 3), b_rows: words(b, |at| at % 2), ..small.clone() };
+    let long_a = Call {
+        row_starts: List::new(&[0, count as u32]),
+        columns: words(count, |at| at % 2),
+        weights: List::made(count, |at| (at % 5) as f64 - 2.0),
+        a_rows: words(2, |_| 0),
+        b_rows: words(2, |at| at),
+        ..small.clone()
+    };
+    let long_b = Call {
+        b_row_starts: List::new(&[0, count as u32]),
+        b_columns: words(count, |at| at % 2),
+        b_weights: List::made(count, |at| (at % 5) as f64 - 2.0),
+        a_rows: words(2, |at| 2 * at),
+        b_rows: words(2, |_| 0),
+        ..small.clone()
+    };
+    vec![pairs(count, count), pairs(count, 1), pairs(0, count), pairs(1, count), long_a, long_b]
 }
 
 /// A file of so many entries, four bytes each.

@@ -12,6 +12,7 @@ pub enum Function {
     Diag,
     OriginalDiag,
     OperatorVariances,
+    Covariances,
     FactorPattern,
     OperatorPattern,
     Validate,
@@ -24,13 +25,14 @@ pub enum Function {
     ReadRequests,
 }
 
-pub const FUNCTIONS: [Function; 16] = [
+pub const FUNCTIONS: [Function; 17] = [
     Function::EntriesWithLimit,
     Function::Entries,
     Function::Get,
     Function::Diag,
     Function::OriginalDiag,
     Function::OperatorVariances,
+    Function::Covariances,
     Function::FactorPattern,
     Function::OperatorPattern,
     Function::Validate,
@@ -53,6 +55,7 @@ impl Function {
             Function::Diag => "diag",
             Function::OriginalDiag => "selected_inverse_diag_with_diagnostics",
             Function::OperatorVariances => "selected_inverse_transformed_diag",
+            Function::Covariances => "selected_inverse_transformed_covariances",
             Function::FactorPattern => "from_cholesky_factor",
             Function::OperatorPattern => "from_transformed_operator",
             Function::Validate => "validate",
@@ -70,7 +73,11 @@ impl Function {
     pub fn selects(self) -> bool {
         matches!(
             self,
-            Function::EntriesWithLimit | Function::Entries | Function::OriginalDiag | Function::OperatorVariances
+            Function::EntriesWithLimit
+                | Function::Entries
+                | Function::OriginalDiag
+                | Function::OperatorVariances
+                | Function::Covariances
         )
     }
 }
@@ -85,7 +92,7 @@ pub struct Call {
     pub starts: List<u32>,
     pub rows: List<u32>,
     pub values: List<f64>,
-    /// The requests' dimension, or the operator's columns beside a factor.
+    /// The requests' dimension, or the operator's columns beside a factor; of two operators A's.
     pub dimension: usize,
     /// Read where entries are selected, written by `read_requests`.
     pub request_rows: List<u32>,
@@ -93,9 +100,17 @@ pub struct Call {
     pub limit: usize,
     pub row: usize,
     pub column: usize,
+    /// An operator; of two operators A.
     pub row_starts: List<u32>,
     pub columns: List<u32>,
     pub weights: List<f64>,
+    /// Operator B, and the row pairs.
+    pub b_dimension: usize,
+    pub b_row_starts: List<u32>,
+    pub b_columns: List<u32>,
+    pub b_weights: List<f64>,
+    pub a_rows: List<u32>,
+    pub b_rows: List<u32>,
     pub orig_to_perm: List<u32>,
     /// Read by `validate`, written by `from_orig_to_perm`.
     pub perm_to_orig: List<u32>,
@@ -228,6 +243,10 @@ impl Call {
             Function::OperatorVariances => selected(c_call!(self redstartgilt_selected_inverse_transformed_diag ()
                 (self.n) [starts] [rows] [values] (self.dimension) [row_starts] [columns] [weights]
                 {result_starts} {result_rows} {result_values} {scratch} {output})),
+            Function::Covariances => selected(c_call!(self redstartgilt_selected_inverse_transformed_covariances ()
+                (self.n) [starts] [rows] [values] (self.dimension) [row_starts] [columns] [weights]
+                (self.b_dimension) [b_row_starts] [b_columns] [b_weights] [a_rows] [b_rows]
+                {result_starts} {result_rows} {result_values} {scratch} {output})),
             Function::FactorPattern => listed(c_call!(self redstartgilt_from_cholesky_factor ()
                 (self.n) [starts] [rows] [values] {scratch} {pair_rows} {pair_columns})),
             Function::OperatorPattern => listed(c_call!(self redstartgilt_from_transformed_operator ()
@@ -251,7 +270,7 @@ impl Call {
         }
     }
 
-    pub fn words(&self) -> [(&'static str, &List<u32>); 13] {
+    pub fn words(&self) -> [(&'static str, &List<u32>); 17] {
         [
             ("starts", &self.starts),
             ("rows", &self.rows),
@@ -259,6 +278,10 @@ impl Call {
             ("request_columns", &self.request_columns),
             ("row_starts", &self.row_starts),
             ("columns", &self.columns),
+            ("b_row_starts", &self.b_row_starts),
+            ("b_columns", &self.b_columns),
+            ("a_rows", &self.a_rows),
+            ("b_rows", &self.b_rows),
             ("orig_to_perm", &self.orig_to_perm),
             ("perm_to_orig", &self.perm_to_orig),
             ("result_starts", &self.result_starts),
@@ -273,10 +296,11 @@ impl Call {
         [("text", &self.text), ("marks", &self.marks), ("output_marks", &self.output_marks)]
     }
 
-    pub fn floats(&self) -> [(&'static str, &List<f64>); 5] {
+    pub fn floats(&self) -> [(&'static str, &List<f64>); 6] {
         [
             ("values", &self.values),
             ("weights", &self.weights),
+            ("b_weights", &self.b_weights),
             ("input", &self.input),
             ("result_values", &self.result_values),
             ("output", &self.output),
@@ -286,10 +310,11 @@ impl Call {
     /// The call in words, each list with its first items.
     pub fn told(&self) -> String {
         let scalars = format!(
-            "{}: n {} dimension {} limit {} row {} column {} scale {:016x}",
+            "{}: n {} dimension {} b_dimension {} limit {} row {} column {} scale {:016x}",
             self.function.name(),
             self.n,
             self.dimension,
+            self.b_dimension,
             self.limit,
             self.row,
             self.column,

@@ -244,6 +244,7 @@ fn compare_case(case: &Block, answer: &Block, seed: u64, random: &mut Random, ta
     }
     let more = match call.function {
         Function::Reorder => compare_marked(call, &expected, case, random, tally),
+        Function::OperatorVariances => compare_covariances(call, expected, case, random, tally),
         function if function.selects() && reply.complete() && answer.has("gets") => {
             compare_read_back(&made, case, answer, tally)
         }
@@ -357,6 +358,42 @@ fn compare_marked(call: Call, without: &Expected, case: &Block, random: &mut Ran
     tally.replied(&call, &reply);
     tally.differs(&expected.differences(&reply, &made), case, &call);
     1
+}
+
+/// Covariances over the factor and the operator of operator variances. Each row with itself asks for the same pairs, so
+/// reply, lists and outputs are as they were, the Rust's; and where the operator is sound, any row pairs, by the driver's
+/// own sums.
+fn compare_covariances(call: Call, same: Expected, case: &Block, random: &mut Random, tally: &mut Tally) -> usize {
+    let rows = call.row_starts.len().saturating_sub(1);
+    let each: Vec<u32> = (0..rows as u32).collect();
+    let small = call.n <= RULES_DIMENSION;
+    let two = |call: Call, a_rows: &[u32], b_rows: &[u32]| Call {
+        function: Function::Covariances,
+        b_dimension: call.dimension,
+        b_row_starts: call.row_starts.clone(),
+        b_columns: call.columns.clone(),
+        b_weights: call.weights.clone(),
+        a_rows: List::new(a_rows),
+        b_rows: List::new(b_rows),
+        ..call
+    };
+    let mut compared = |call: Call, expected: &Expected| {
+        let mut made = call.clone();
+        let reply = made.make();
+        tally.replied(&call, &reply);
+        tally.differs(&expected.differences(&reply, &made), case, &call);
+    };
+    let itself = two(call.clone(), &each, &each);
+    compared(itself, &Expected { after: two(same.after, &each, &each), ..same });
+    if !small || same.reply.refusal > 0 || rows == 0 {
+        return 1;
+    }
+    let count = random.below(2 * rows + 1);
+    let mut some = || (0..count).map(|_| random.below(rows) as u32).collect::<Vec<_>>();
+    let mut others = two(call, &some(), &some());
+    others.output = List::made(count, |_| random.any_value());
+    compared(others.clone(), &rules::expected(others));
+    2
 }
 
 fn pairs(case: &Block) -> Vec<(usize, usize)> {

@@ -33,6 +33,7 @@ pub fn needs(call: &Call) -> Needs {
             Function::Diag => call.starts.len().saturating_sub(1),
             Function::OriginalDiag => n,
             Function::OperatorVariances => call.row_starts.len().saturating_sub(1),
+            Function::Covariances => call.a_rows.len(),
             Function::Reorder | Function::ReorderMarked => call.orig_to_perm.len(),
             _ => call.input.len(),
         },
@@ -78,6 +79,7 @@ pub fn lend(call: &mut Call, random: &mut Random, mut length: impl FnMut(&mut Ra
         Function::Diag
         | Function::OriginalDiag
         | Function::OperatorVariances
+        | Function::Covariances
         | Function::Reorder
         | Function::ReorderMarked
         | Function::FloorZero

@@ -31,6 +31,8 @@ const USAGE: &str = "usage:
                                                    with --only of one function, named as in the header without
                                                    redstartgilt_; with --bare no guard words stand around the lists
   driver benchmark ORACLE_FOLDER [RUNS]            medians of RUNS runs, 15 where none is given
+  driver benchmark-covariances ORACLE_FOLDER [RUNS]
+                                                   the part of it that has covariances
   driver benchmark-files [RUNS]                    the part of it that reads files, which needs no oracle
   driver profile ORACLE_FOLDER CASE RUNS           one case of the benchmark alone, for a profiler
 ORACLE_FOLDER has the programs `generate` and `oracle` of bindings/oracle.";
@@ -54,7 +56,7 @@ fn main() -> ExitCode {
 
 /// The number of differences; None where the arguments are not understood.
 fn run(words: &[&str]) -> Option<std::io::Result<usize>> {
-    if let ["compare" | "benchmark" | "profile", folder, ..] = words {
+    if let ["compare" | "benchmark" | "benchmark-covariances" | "profile", folder, ..] = words {
         if let Err(error) = compare::oracle_is_there(Path::new(folder)) {
             return Some(Err(error));
         }
@@ -72,6 +74,9 @@ fn run(words: &[&str]) -> Option<std::io::Result<usize>> {
         ["malformed", rest @ ..] => malformed(rest),
         ["benchmark", folder, runs @ ..] if runs.len() < 2 => {
             Some(benchmark::benchmark(Path::new(folder), runs_of(runs)?).map(|()| 0))
+        }
+        ["benchmark-covariances", folder, runs @ ..] if runs.len() < 2 => {
+            Some(benchmark::rows_of_covariances(Path::new(folder), runs_of(runs)?).map(|()| 0))
         }
         ["benchmark-files", runs @ ..] if runs.len() < 2 => Some(reading::benchmark_files(runs_of(runs)?).map(|()| 0)),
         ["profile", folder, case, runs] => {

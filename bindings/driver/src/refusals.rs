@@ -17,6 +17,7 @@ pub fn refusal(call: &Call) -> u32 {
         Function::Diag => diagonal_list(call),
         Function::OriginalDiag => original_diagonal(call),
         Function::OperatorVariances => operator_variances(call),
+        Function::Covariances => covariances(call),
         Function::FactorPattern => factor_pattern(call),
         Function::OperatorPattern => operator_pattern(call),
         Function::Validate => validate(call),
@@ -77,6 +78,25 @@ fn operator_variances(call: &Call) -> Steps {
     diagonals(call)?;
     room(call)?;
     refuse(7, call.output.len() < rows)
+}
+
+fn covariances(call: &Call) -> Steps {
+    let a_rows = call.row_starts.len().saturating_sub(1);
+    let b_rows = call.b_row_starts.len().saturating_sub(1);
+    let outside = |list: &[u32], rows: usize| list.iter().any(|&row| row as usize >= rows);
+    refuse(1, call.n > MOST_COLUMNS || call.rows.len() > MOST_ENTRIES)?;
+    refuse(1, a_rows > MOST_COLUMNS || call.columns.len() > MOST_ENTRIES)?;
+    refuse(1, b_rows > MOST_COLUMNS || call.b_columns.len() > MOST_ENTRIES)?;
+    refuse(1, call.a_rows.len() > MOST_ENTRIES)?;
+    factor(call)?;
+    refuse(4, call.dimension != call.n || call.b_dimension != call.n || call.a_rows.len() != call.b_rows.len())?;
+    operator(call, call.n)?;
+    refuse(9, broken(&call.b_row_starts, &call.b_columns, &call.b_weights))?;
+    refuse(9, call.b_columns.iter().any(|&c| c as usize >= call.n))?;
+    refuse(9, outside(&call.a_rows, a_rows) || outside(&call.b_rows, b_rows))?;
+    diagonals(call)?;
+    room(call)?;
+    refuse(7, call.output.len() < call.a_rows.len())
 }
 
 fn factor_pattern(call: &Call) -> Steps {

@@ -1,4 +1,4 @@
-//! Document 01's rules: the closed set, the recurrence, and what each accepted call replies and leaves.
+//! The rules of documents 01 and 02: the closed set, the recurrence, and what each accepted call replies and leaves.
 //! Sets of pairs are one mark a pair, and the closed set is found in one sweep over the columns.
 
 use crate::call::{Call, Function, Reply};
@@ -6,6 +6,7 @@ use crate::expected::Expected;
 use crate::matrix_market;
 use crate::refusals::refusal;
 use redstartgilt::sys;
+use std::ops::Range;
 
 pub fn triangle(n: usize) -> usize {
     n * (n + 1) / 2
@@ -110,6 +111,13 @@ pub fn requested(call: &Call) -> Pairs {
                 }
             }
         }
+        Function::Covariances => {
+            for (a_terms, b_terms) in row_pairs(call) {
+                for a in a_terms {
+                    b_terms.clone().for_each(|b| pairs.insert(call.columns[a] as usize, call.b_columns[b] as usize));
+                }
+            }
+        }
         Function::FactorPattern => {
             let factor = Factor::kept(call);
             for column in 0..call.n {
@@ -126,6 +134,13 @@ pub fn requested(call: &Call) -> Pairs {
             .for_each(|(&r, &c)| pairs.insert(r as usize, c as usize)),
     }
     pairs
+}
+
+/// The places of the terms of A's row and of B's row, for each row pair.
+fn row_pairs(call: &Call) -> impl Iterator<Item = (Range<usize>, Range<usize>)> + '_ {
+    let terms = |starts: &[u32], row: u32| starts[row as usize] as usize..starts[row as usize + 1] as usize;
+    let pairs = call.a_rows.iter().zip(call.b_rows.iter());
+    pairs.map(move |(&a, &b)| (terms(&call.row_starts, a), terms(&call.b_row_starts, b)))
 }
 
 /// Takahashi's recurrence over a closed set, each pair's value at its place.
@@ -273,7 +288,7 @@ fn selected(mut call: Call) -> Expected {
     Expected { reply, after: call, values_filled: size, output_filled }
 }
 
-/// The output of a diagonal in original order or of an operator, and its length.
+/// The output of a diagonal in original order, of an operator or of row pairs, and its length.
 fn outputs(call: &mut Call, z: &[f64]) -> usize {
     match call.function {
         Function::OriginalDiag => {
@@ -295,6 +310,21 @@ fn outputs(call: &mut Call, z: &[f64]) -> usize {
                 call.output[at] = sum;
             }
             call.row_starts.len() - 1
+        }
+        Function::Covariances => {
+            let mut sums = Vec::new();
+            for (a_terms, b_terms) in row_pairs(call) {
+                let mut sum = 0.0;
+                for a in a_terms {
+                    for b in b_terms.clone() {
+                        let weight = call.weights[a] * call.b_weights[b];
+                        sum += weight * z[place(call.columns[a] as usize, call.b_columns[b] as usize)];
+                    }
+                }
+                sums.push(sum);
+            }
+            call.output[..sums.len()].copy_from_slice(&sums);
+            sums.len()
         }
         _ => 0,
     }

@@ -74,16 +74,39 @@ fn put_factor(call: &mut Call, random: &mut Random) {
     call.values = List::new(&columns.values);
 }
 
-fn put_operator(call: &mut Call, random: &mut Random) {
+/// Row starts, columns and weights.
+fn operator(random: &mut Random, n: usize) -> (List<u32>, List<u32>, List<f64>) {
     let (mut starts, mut columns) = (vec![0], Vec::new());
     for _ in 0..random.below(6) {
-        let terms = if call.n == 0 { 0 } else { random.below(6) };
-        columns.extend((0..terms).map(|_| random.below(call.n) as u32));
+        let terms = if n == 0 { 0 } else { random.below(6) };
+        columns.extend((0..terms).map(|_| random.below(n) as u32));
         starts.push(columns.len() as u32);
     }
-    call.row_starts = List::new(&starts);
-    call.columns = List::new(&columns);
-    call.weights = List::made(columns.len(), |_| some_value(random));
+    let weights = List::made(columns.len(), |_| some_value(random));
+    (List::new(&starts), List::new(&columns), weights)
+}
+
+fn put_operator(call: &mut Call, random: &mut Random) {
+    (call.row_starts, call.columns, call.weights) = operator(random, call.n);
+}
+
+/// Operator B, which is A in one case of five, and row pairs, some of them twice.
+fn put_other_operator(call: &mut Call, random: &mut Random) {
+    call.b_dimension = call.n;
+    (call.b_row_starts, call.b_columns, call.b_weights) = if random.chance(20) {
+        (call.row_starts.clone(), call.columns.clone(), call.weights.clone())
+    } else {
+        operator(random, call.n)
+    };
+    let (rows, others) = (call.row_starts.len() - 1, call.b_row_starts.len() - 1);
+    let count = if rows == 0 || others == 0 { 0 } else { random.below(12) };
+    call.a_rows = List::made(count, |_| random.below(rows) as u32);
+    call.b_rows = List::made(count, |_| random.below(others) as u32);
+    if call.n > 32 && count > 0 && call.row_starts[1] > 0 && call.b_row_starts[1] > 0 && random.chance(60) {
+        // what needs most
+        (call.columns[0], call.b_columns[0]) = (0, 0);
+        (call.a_rows[0], call.b_rows[0]) = (0, 0);
+    }
 }
 
 fn permutation(random: &mut Random, n: usize) -> Vec<u32> {
@@ -105,7 +128,7 @@ fn some_limit(random: &mut Random, n: usize) -> usize {
     }
 }
 
-/// A call that document 01 accepts, but for some diagonals, before its lists are lent.
+/// A call that the documents accept, but for some diagonals, before its lists are lent.
 pub fn sound(function: Function, n: usize, random: &mut Random) -> Call {
     let mut call = Call { function, n, dimension: n, ..Call::default() };
     match function {
@@ -127,6 +150,11 @@ pub fn sound(function: Function, n: usize, random: &mut Random) -> Call {
         Function::OperatorVariances => {
             put_factor(&mut call, random);
             put_operator(&mut call, random);
+        }
+        Function::Covariances => {
+            put_factor(&mut call, random);
+            put_operator(&mut call, random);
+            put_other_operator(&mut call, random);
         }
         Function::FactorPattern => put_factor(&mut call, random),
         Function::OperatorPattern => put_operator(&mut call, random),

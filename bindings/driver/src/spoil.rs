@@ -111,6 +111,23 @@ fn spoil(call: &mut Call, random: &mut Random) {
             6 => spoil_words(random, &mut call.columns, n),
             _ => spoil_values(random, &mut call.weights),
         },
+        Function::Covariances => match random.below(14) {
+            0 => call.n = some_size(random, n),
+            1 => spoil_words(random, &mut call.starts, n),
+            2 => spoil_words(random, &mut call.rows, n),
+            3 => spoil_values(random, &mut call.values),
+            4 => call.dimension = some_size(random, n),
+            5 => spoil_words(random, &mut call.row_starts, n),
+            6 => spoil_words(random, &mut call.columns, n),
+            7 => spoil_values(random, &mut call.weights),
+            8 => call.b_dimension = some_size(random, n),
+            9 => spoil_words(random, &mut call.b_row_starts, n),
+            10 => spoil_words(random, &mut call.b_columns, n),
+            11 => spoil_values(random, &mut call.b_weights),
+            // a row of about the number of rows
+            12 => spoil_words(random, &mut call.a_rows, call.row_starts.len()),
+            _ => spoil_words(random, &mut call.b_rows, call.b_row_starts.len()),
+        },
         Function::FactorPattern => match random.below(4) {
             0 => call.n = some_size(random, n),
             1 => spoil_words(random, &mut call.starts, n),

@@ -28,7 +28,8 @@ pub enum Error {
     BrokenStarts,
     /// 3: a row index of n or more, or not above the one before it in its column.
     BrokenRows,
-    /// 4: requests, a permutation, an operator or a vector of another dimension, or request lists of unequal length.
+    /// 4: requests, a permutation, an operator or a vector of another dimension, or lists of requests or of row pairs
+    /// that are of unequal length.
     DimensionMismatch,
     /// 5: a requested index of n or more.
     RequestOutOfRange,
@@ -39,7 +40,8 @@ pub enum Error {
     /// 8: a pair that is not among the selected entries; or, of the diagonal in original order, a closed set above the
     /// default limit.
     NotCovered,
-    /// 9: row starts of an operator that are not those of its rows, or a column of n or more.
+    /// 9: row starts of an operator that are not those of its rows, or a column of n or more; or a row pair that names a
+    /// row that its operator has not.
     BrokenOperator,
     /// 10: a permutation's index that is not below its length.
     IndexTooLarge,
@@ -116,7 +118,7 @@ impl Error {
         match self {
             Error::TooLarge => {
                 "too large: a dimension, a permutation or a number of operator rows above 2,048, or more than \
-                 1,048,576 stored entries, requests, operator terms or variances"
+                 1,048,576 stored entries, requests, operator terms, row pairs or variances"
             }
             Error::BrokenStarts => {
                 "broken starts: there must be n + 1 of them, from 0, never falling, to the number of rows, and as many \
@@ -138,7 +140,7 @@ impl Error {
             }
             Error::BrokenOperator => {
                 "broken operator: its row starts must go from 0, never falling, to the number of columns, with as many \
-                 weights, and its columns must be below the dimension"
+                 weights, its columns must be below the dimension, and row pairs must name its rows"
             }
             Error::IndexTooLarge => "an index of the permutation is not below its length",
             Error::DuplicateEntry => "the permutation has an index twice",

@@ -341,6 +341,83 @@ pub fn selected_inverse_transformed_diag(
     SelectedInverseDiagnostics::of_reply(reply)
 }
 
+/// Covariances of rows of two operators: fills `result` with the closed set of all columns of row `a_rows[k]` of `a` with
+/// all columns of row `b_rows[k]` of `b`, and `output` with the covariance of each such row pair.
+///
+/// Refuses with 1, 2, 3, 4, 9, 6, 7: with 1 also for more than [`MAX_ENTRIES`] row pairs, counted by `a_rows`, with 4 for
+/// row pair lists of unequal length, with 9 for a row pair outside. `ClosureTooLarge` leaves `result` and `output` as they
+/// were. A row pair costs the terms of the one row times those of the other, and costs them again where it repeats.
+///
+/// ```
+/// use redstartgilt::lent::{self, FactorLists, OperatorLists, ResultLists};
+///
+/// let factor = FactorLists { n: 2, starts: &[0, 2, 3], rows: &[0, 1, 1], values: &[1.0, 2.0, 1.0] };
+/// // Cell 0, and the sum of both.
+/// let a = OperatorLists { ncols: 2, row_starts: &[0, 1, 3], columns: &[0, 0, 1], weights: &[1.0; 3] };
+/// // Cell 1.
+/// let b = OperatorLists { ncols: 2, row_starts: &[0, 1], columns: &[1], weights: &[1.0] };
+/// let (mut starts, mut rows, mut values) = ([0; 3], [0; 3], [0.0; 3]);
+/// let (mut scratch, mut output) = ([0; 14], [0.0; 2]);
+/// let result = ResultLists { starts: &mut starts, rows: &mut rows, values: &mut values };
+/// lent::selected_inverse_transformed_covariances(
+///     factor, a, b, &[0, 1], &[0, 0], result, &mut scratch, &mut output,
+/// )?;
+/// assert_eq!(output, [-2.0, -1.0]);
+/// # Ok::<(), redstartgilt::Error>(())
+/// ```
+#[allow(clippy::too_many_arguments)]
+pub fn selected_inverse_transformed_covariances(
+    factor: FactorLists<'_>,
+    a: OperatorLists<'_>,
+    b: OperatorLists<'_>,
+    a_rows: &[u32],
+    b_rows: &[u32],
+    result: ResultLists<'_>,
+    scratch: &mut [u32],
+    output: &mut [f64],
+) -> Result<SelectedInverseDiagnostics, Error> {
+    let reply = unsafe {
+        sys::redstartgilt_selected_inverse_transformed_covariances(
+            factor.n,
+            factor.starts.as_ptr(),
+            factor.starts.len(),
+            factor.rows.as_ptr(),
+            factor.rows.len(),
+            factor.values.as_ptr(),
+            factor.values.len(),
+            a.ncols,
+            a.row_starts.as_ptr(),
+            a.row_starts.len(),
+            a.columns.as_ptr(),
+            a.columns.len(),
+            a.weights.as_ptr(),
+            a.weights.len(),
+            b.ncols,
+            b.row_starts.as_ptr(),
+            b.row_starts.len(),
+            b.columns.as_ptr(),
+            b.columns.len(),
+            b.weights.as_ptr(),
+            b.weights.len(),
+            a_rows.as_ptr(),
+            a_rows.len(),
+            b_rows.as_ptr(),
+            b_rows.len(),
+            result.starts.as_mut_ptr(),
+            result.starts.len(),
+            result.rows.as_mut_ptr(),
+            result.rows.len(),
+            result.values.as_mut_ptr(),
+            result.values.len(),
+            scratch.as_mut_ptr(),
+            scratch.len(),
+            output.as_mut_ptr(),
+            output.len(),
+        )
+    };
+    SelectedInverseDiagnostics::of_reply(reply)
+}
+
 /// Writes the requests of a Matrix Market file, counted from 0, in file order with repeats kept.
 ///
 /// What the file must be is said at [`REQUEST_FILE_HEADER`](crate::REQUEST_FILE_HEADER). Refuses with 15, 16, 17, each

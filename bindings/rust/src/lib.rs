@@ -36,6 +36,7 @@
 #![deny(missing_docs)]
 #![deny(unsafe_op_in_unsafe_fn)]
 
+mod covariances;
 mod diagnostics;
 mod error;
 mod factor;
@@ -52,6 +53,10 @@ pub mod sys;
 mod variances;
 mod workspace;
 
+pub use covariances::{
+    selected_inverse_transformed_covariances, selected_inverse_transformed_covariances_in,
+    SelectedInverseTransformedCovariances,
+};
 pub use diagnostics::{SelectedInverseDiagnostics, SelectedInverseStatus};
 pub use error::Error;
 pub use factor::{CholeskyFactor, SparseCholeskyFactor};
@@ -75,6 +80,6 @@ pub use workspace::Workspace;
 /// [`Error::TooLarge`], a request file with [`Error::MalformedFile`].
 pub const MAX_DIMENSION: usize = 2_048;
 
-/// The largest number of stored entries, requests, operator terms and variances; above it a call is refused with
+/// The largest number of stored entries, requests, operator terms, row pairs and variances; above it a call is refused with
 /// [`Error::TooLarge`], a request file with [`Error::MalformedFile`].
 pub const MAX_ENTRIES: usize = 1_048_576;

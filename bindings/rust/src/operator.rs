@@ -2,7 +2,7 @@
 
 use crate::index::word;
 use crate::lent::{self, OperatorLists};
-use crate::{Error, Permutation};
+use crate::{CholeskyFactor, Error, Permutation};
 
 /// An operator whose rows are sparse weighted sums of cells.
 ///
@@ -71,6 +71,20 @@ impl SparseRowOperator {
     }
 
     pub(crate) fn compressed(&self) -> CompressedRows {
+        self.compressed_at(|cell| cell)
+    }
+
+    /// The rows with their cells in the factor's order, unchecked: what is wrong with them is left for the call to
+    /// refuse. An operator of another dimension stays as it is.
+    pub(crate) fn compressed_for(&self, factor: &CholeskyFactor) -> CompressedRows {
+        if !factor.is_permuted() || self.ncols != factor.dimension() {
+            return self.compressed();
+        }
+        let order = factor.order();
+        self.compressed_at(|cell| order.get(cell).map_or(usize::MAX, |place| *place as usize))
+    }
+
+    fn compressed_at(&self, place: impl Fn(usize) -> usize) -> CompressedRows {
         let mut compressed = CompressedRows {
             ncols: self.ncols,
             row_starts: vec![0],
@@ -79,7 +93,7 @@ impl SparseRowOperator {
         };
         for row in &self.rows {
             for (cell, weight) in row {
-                compressed.columns.push(word(*cell));
+                compressed.columns.push(word(place(*cell)));
                 compressed.weights.push(*weight);
             }
             compressed.row_starts.push(word(compressed.columns.len()));

@@ -256,6 +256,45 @@ extern "C" {
         output_len: usize,
     ) -> redstartgilt_selected;
 
+    /// Covariances of rows of two operators.
+    pub fn redstartgilt_selected_inverse_transformed_covariances(
+        n: usize,
+        starts: *const u32,
+        starts_len: usize,
+        rows: *const u32,
+        rows_len: usize,
+        values: *const f64,
+        values_len: usize,
+        a_ncols: usize,
+        a_row_starts: *const u32,
+        a_row_starts_len: usize,
+        a_columns: *const u32,
+        a_columns_len: usize,
+        a_weights: *const f64,
+        a_weights_len: usize,
+        b_ncols: usize,
+        b_row_starts: *const u32,
+        b_row_starts_len: usize,
+        b_columns: *const u32,
+        b_columns_len: usize,
+        b_weights: *const f64,
+        b_weights_len: usize,
+        a_rows: *const u32,
+        a_rows_len: usize,
+        b_rows: *const u32,
+        b_rows_len: usize,
+        result_starts: *mut u32,
+        result_starts_len: usize,
+        result_rows: *mut u32,
+        result_rows_len: usize,
+        result_values: *mut f64,
+        result_values_len: usize,
+        scratch: *mut u32,
+        scratch_len: usize,
+        output: *mut f64,
+        output_len: usize,
+    ) -> redstartgilt_selected;
+
     /// Requests from a Matrix Market file.
     pub fn redstartgilt_read_requests(
         text: *const u8,

@@ -113,12 +113,7 @@ pub fn selected_inverse_transformed_diag_in(
     workspace: &mut Workspace,
 ) -> Result<SelectedInverseTransformedResult, Error> {
     let n = factor.dimension();
-    // An operator of another dimension cannot be permuted, and is refused as it is.
-    let compressed = if factor.is_permuted() && operator.ncols == n {
-        operator.permute_columns_to_factor(&factor.permutation())?.compressed()
-    } else {
-        operator.compressed()
-    };
+    let compressed = operator.compressed_for(factor);
     let mut values = vec![0.0; operator.nrows()];
     let (result, scratch) = workspace.lend(n, default_limit(factor.nnz()));
     let diagnostics =

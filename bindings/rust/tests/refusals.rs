@@ -3,8 +3,8 @@
 use redstartgilt::lent::{self, EntryLists, FactorLists, OperatorLists, ResultLists};
 use redstartgilt::{
     selected_inverse_diag, selected_inverse_entries, selected_inverse_entries_with_limit,
-    selected_inverse_transformed_diag, stabilize_variances, CholeskyFactor, Error, Permutation, SparseRowOperator,
-    SparseSymmetricPattern, VarianceFloor, MAX_ENTRIES,
+    selected_inverse_transformed_covariances, selected_inverse_transformed_diag, stabilize_variances, CholeskyFactor,
+    Error, Permutation, SparseRowOperator, SparseSymmetricPattern, VarianceFloor, MAX_ENTRIES,
 };
 
 fn f2() -> CholeskyFactor {
@@ -189,6 +189,66 @@ fn broken_operator() {
     }
 }
 
+/// The refusals of covariances, each beside all later ones: whichever operator they are of, and with a permutation too.
+#[test]
+fn covariances_in_order() {
+    let broken = |diagonal: f64| CholeskyFactor::from_triplets(2, &[(0, 0, 1.0), (1, 1, diagonal)]).unwrap();
+    let large = SparseRowOperator {
+        ncols: 3,
+        rows: vec![vec![(9, 1.0)]; 2_049],
+    };
+    let other = SparseRowOperator {
+        ncols: 3,
+        rows: vec![vec![(9, 1.0)]],
+    };
+    let outside = SparseRowOperator {
+        ncols: 2,
+        rows: vec![vec![(0, 1.0)], vec![(2, 1.0)]],
+    };
+    let cells = SparseRowOperator::identity(2);
+    let pair = [(0, 0)];
+    let many = vec![(9, 9); MAX_ENTRIES + 1];
+    for permuted in [false, true] {
+        let factor = |diagonal: f64| {
+            let order = Permutation::identity(2);
+            if permuted {
+                broken(diagonal).with_permutation(order).unwrap()
+            } else {
+                broken(diagonal)
+            }
+        };
+        let refused = |diagonal: f64, a: &SparseRowOperator, b: &SparseRowOperator, pairs: &[(usize, usize)]| {
+            let both = [
+                selected_inverse_transformed_covariances(&factor(diagonal), a, b, pairs),
+                selected_inverse_transformed_covariances(&factor(diagonal), b, a, pairs),
+            ];
+            both.map(|result| result.err())
+        };
+        assert_eq!(refused(0.0, &large, &outside, &pair), [Some(Error::TooLarge); 2]);
+        assert_eq!(refused(0.0, &other, &outside, &many), [Some(Error::TooLarge); 2]);
+        assert_eq!(
+            refused(0.0, &other, &outside, &pair),
+            [Some(Error::DimensionMismatch); 2]
+        );
+        // No row pair names the row with a cell outside.
+        assert_eq!(refused(0.0, &outside, &cells, &pair), [Some(Error::BrokenOperator); 2]);
+        assert_eq!(refused(1.0, &outside, &cells, &[]), [Some(Error::BrokenOperator); 2]);
+        for outside in [(2, 0), (0, 2), (usize::MAX, 0), (1 << 32, 0), (0, 1 << 32)] {
+            let pairs = [(0, 0), (1, 1), outside];
+            assert_eq!(refused(0.0, &cells, &cells, &pairs), [Some(Error::BrokenOperator); 2]);
+        }
+        assert_eq!(
+            refused(0.0, &cells, &cells, &pair),
+            [Some(Error::NonPositiveDefinite); 2]
+        );
+        assert_eq!(
+            refused(-1.0, &cells, &cells, &[]),
+            [Some(Error::NonPositiveDefinite); 2]
+        );
+        assert_eq!(refused(1.0, &cells, &cells, &pair), [None; 2]);
+    }
+}
+
 #[test]
 fn broken_permutations() {
     let from = Permutation::from_orig_to_perm;
@@ -348,6 +408,48 @@ fn lent_lists_of_unequal_length() {
     let (result, scratch, output) = lists.result();
     lent::selected_inverse_transformed_diag(F2, SUM, result, scratch, output).unwrap();
     assert_eq!(lists.output, [2.0, 7.0]);
+}
+
+#[test]
+fn lent_covariances() {
+    let enough = [3, 3, 3, 14, 2];
+    for place in 0..enough.len() {
+        let mut lengths = enough;
+        lengths[place] -= 1;
+        let mut lists = Lent::new(lengths);
+        let (result, scratch, output) = lists.result();
+        let reply =
+            lent::selected_inverse_transformed_covariances(F2, SUM, SUM, &[0, 0], &[0, 0], result, scratch, output);
+        assert_eq!(reply, Err(Error::TooShort), "{place}");
+        assert!(lists.untouched());
+    }
+    let mut lists = Lent::new([4, 4, 4, 15, 3]);
+    // Row pairs of unequal length, then a broken operator, then a row pair outside, then no diagonal.
+    let broken = OperatorLists { row_starts: &[], ..SUM };
+    let bare = FactorLists {
+        values: &[1.0, 2.0, 0.0],
+        ..F2
+    };
+    for (factor, a, b, a_rows, b_rows, error) in [
+        (bare, broken, SUM, &[0, 9][..], &[0][..], Error::DimensionMismatch),
+        (bare, SUM, broken, &[], &[0], Error::DimensionMismatch),
+        (bare, broken, SUM, &[9], &[0], Error::BrokenOperator),
+        (bare, SUM, broken, &[0], &[9], Error::BrokenOperator),
+        (bare, SUM, SUM, &[0, 1], &[0, 0], Error::BrokenOperator),
+        (bare, SUM, SUM, &[0, 0], &[0, 1], Error::BrokenOperator),
+        (bare, SUM, SUM, &[0], &[0], Error::NonPositiveDefinite),
+    ] {
+        let (result, scratch, output) = lists.result();
+        let reply =
+            lent::selected_inverse_transformed_covariances(factor, a, b, a_rows, b_rows, result, scratch, output);
+        assert_eq!(reply, Err(error));
+        assert!(lists.untouched());
+    }
+    let (result, scratch, output) = lists.result();
+    lent::selected_inverse_transformed_covariances(F2, SUM, SUM, &[0, 0], &[0, 0], result, scratch, output).unwrap();
+    assert_eq!(lists.output, [2.0, 2.0, 7.0]);
+    assert_eq!(lists.values, [5.0, -2.0, 1.0, 7.0]);
+    assert_eq!((lists.scratch[13], lists.scratch[14]), (0, 7));
 }
 
 #[test]

@@ -197,7 +197,7 @@ fn put_gets(answer: &mut String, starts: &[u32], rows: &[u32], values: &[f64], c
     put_items(answer, "gets", &items, |_, _| false, String::clone);
 }
 
-/// Entries, the diagonal in original order, and operator variances: all take a factor and fill result lists.
+/// Entries, the diagonal in original order, operator variances and covariances: all take a factor and fill result lists.
 fn selected(answer: &mut String, case: &Case<'_>) {
     let n = case.number("n");
     let (starts, rows, values) = (case.words("starts"), case.words("rows"), case.values("values"));
@@ -275,6 +275,51 @@ fn selected(answer: &mut String, case: &Case<'_>) {
                     values.len(),
                     permutation.as_ptr(),
                     permutation.len(),
+                    result_starts.as_mut_ptr(),
+                    result_starts.len(),
+                    result_rows.as_mut_ptr(),
+                    result_rows.len(),
+                    result_values.as_mut_ptr(),
+                    result_values.len(),
+                    scratch.as_mut_ptr(),
+                    scratch.len(),
+                    output.as_mut_ptr(),
+                    output.len(),
+                )
+            }
+        }
+        "covar" => {
+            let (a_row_starts, a_columns) = (case.words("astarts"), case.words("acols"));
+            let (b_row_starts, b_columns) = (case.words("bstarts"), case.words("bcols"));
+            let (a_weights, b_weights) = (case.values("aweights"), case.values("bweights"));
+            let (a_rows, b_rows) = (case.words("arows"), case.words("brows"));
+            unsafe {
+                sys::redstartgilt_selected_inverse_transformed_covariances(
+                    n,
+                    starts.as_ptr(),
+                    starts.len(),
+                    rows.as_ptr(),
+                    rows.len(),
+                    values.as_ptr(),
+                    values.len(),
+                    case.number("ancols"),
+                    a_row_starts.as_ptr(),
+                    a_row_starts.len(),
+                    a_columns.as_ptr(),
+                    a_columns.len(),
+                    a_weights.as_ptr(),
+                    a_weights.len(),
+                    case.number("bncols"),
+                    b_row_starts.as_ptr(),
+                    b_row_starts.len(),
+                    b_columns.as_ptr(),
+                    b_columns.len(),
+                    b_weights.as_ptr(),
+                    b_weights.len(),
+                    a_rows.as_ptr(),
+                    a_rows.len(),
+                    b_rows.as_ptr(),
+                    b_rows.len(),
                     result_starts.as_mut_ptr(),
                     result_starts.len(),
                     result_rows.as_mut_ptr(),
@@ -520,7 +565,7 @@ fn least(answer: &mut String, case: &Case<'_>) {
 fn answer(case: &Case<'_>) -> String {
     let mut answer = format!("{}\n", case.head);
     match case.kind {
-        "entries" | "diagorig" | "opvar" => selected(&mut answer, case),
+        "entries" | "diagorig" | "opvar" | "covar" => selected(&mut answer, case),
         "get" => {
             answer.push_str("reply ok\n");
             let (starts, rows, values) = (case.words("starts"), case.words("rows"), case.values("values"));
@@ -563,7 +608,7 @@ fn every_answer_is_that_of_the_proved_program() {
     let (stdin, stdout) = (text("stdin"), text("stdout"));
     let (cases, expected) = (cases(&stdin), cases(&stdout));
     assert_eq!(cases.len(), expected.len());
-    assert!(cases.len() >= 1_913);
+    assert!(cases.len() >= 2_423);
     for (lines, expected) in cases.iter().zip(expected) {
         let fields = lines[1..lines.len() - 1].iter().map(|line| {
             let mut words = line.split_whitespace();

@@ -2,9 +2,9 @@
 
 use redstartgilt::{
     count_and_least, selected_inverse_diag, selected_inverse_diag_with_diagnostics, selected_inverse_entries,
-    selected_inverse_entries_with_limit, selected_inverse_transformed_diag, stabilize_variances, CholeskyFactor, Error,
-    Permutation, SelectedInverseEntries, SelectedInverseStatus, SparseRowOperator, SparseSymmetricPattern,
-    VarianceFloor,
+    selected_inverse_entries_with_limit, selected_inverse_transformed_covariances, selected_inverse_transformed_diag,
+    stabilize_variances, CholeskyFactor, Error, Permutation, SelectedInverseEntries, SelectedInverseStatus,
+    SparseRowOperator, SparseSymmetricPattern, VarianceFloor,
 };
 
 fn f2() -> CholeskyFactor {
@@ -157,6 +157,144 @@ fn an_operator_row() {
     assert_eq!(result.diagnostics.closure_limit, 30);
 }
 
+fn full() -> CholeskyFactor {
+    let values = vec![1.0, 2.0, 3.0, 1.0, 4.0, 1.0];
+    CholeskyFactor::new(3, vec![0, 3, 5, 6], vec![0, 1, 2, 1, 2, 2], values).unwrap()
+}
+
+fn covariances(
+    factor: &CholeskyFactor,
+    a: &SparseRowOperator,
+    b: &SparseRowOperator,
+    row_pairs: &[(usize, usize)],
+) -> Vec<f64> {
+    let result = selected_inverse_transformed_covariances(factor, a, b, row_pairs).unwrap();
+    assert!(result.diagnostics.is_complete());
+    result.covariances.unwrap()
+}
+
+#[test]
+fn row_pairs_of_two_operators() {
+    let a = SparseRowOperator::new(2, vec![vec![(0, 1.0)], vec![(0, 1.0), (1, 1.0)]]).unwrap();
+    let b = SparseRowOperator::new(2, vec![vec![], vec![(1, 2.0)], vec![(0, 3.0), (1, -2.0)]]).unwrap();
+    let all = [(0, 0), (0, 1), (0, 2), (1, 0), (1, 1), (1, 2)];
+    assert_eq!(covariances(&f2(), &a, &b, &all), [0.0, -4.0, 19.0, 0.0, -2.0, 11.0]);
+    // A row pair that repeats has an output each time, and is requested once.
+    let result = selected_inverse_transformed_covariances(&f2(), &a, &b, &[(0, 1), (0, 1)]).unwrap();
+    assert_eq!(result.covariances, Some(vec![-4.0, -4.0]));
+    assert_eq!(result.diagnostics.requested_pairs, 1);
+    assert_eq!(result.diagnostics.closure_pairs, 2);
+    assert_eq!(result.diagnostics.closure_limit, 30);
+}
+
+#[test]
+fn no_row_pairs() {
+    let (a, none) = (
+        SparseRowOperator::identity(2),
+        SparseRowOperator::new(2, vec![]).unwrap(),
+    );
+    for (one, other) in [(&a, &a), (&a, &none), (&none, &none)] {
+        let result = selected_inverse_transformed_covariances(&f2(), one, other, &[]).unwrap();
+        assert_eq!(result.diagnostics.status, SelectedInverseStatus::Complete);
+        assert_eq!(result.diagnostics.closure_pairs, 0);
+        assert_eq!(result.covariances, Some(vec![]));
+    }
+}
+
+/// The covariance of a row with itself is its variance, bit for bit, also where it is rounded, overflows or is NaN.
+#[test]
+fn a_row_with_itself() {
+    let rows = vec![
+        vec![(0, 0.1), (1, 0.2), (2, 0.3)],
+        vec![(2, 0.3), (1, 0.2), (0, 0.1)],
+        vec![],
+        vec![(1, 1e-3), (1, 1e3)],
+        vec![(0, 1e200)],
+        vec![(0, f64::NAN), (2, 1.0)],
+        vec![(0, -0.0)],
+    ];
+    let operator = SparseRowOperator::new(3, rows).unwrap();
+    let itself = (0..operator.nrows()).map(|row| (row, row)).collect::<Vec<_>>();
+    let rounded =
+        CholeskyFactor::new(3, vec![0, 3, 4, 5], vec![0, 1, 2, 1, 2], vec![1.1, 0.7, -0.3, 0.9, 3.0]).unwrap();
+    for factor in [full(), f3(), rounded] {
+        let variances = selected_inverse_transformed_diag(&factor, &operator).unwrap();
+        let result = selected_inverse_transformed_covariances(&factor, &operator, &operator, &itself).unwrap();
+        assert_eq!(result.diagnostics, variances.diagnostics);
+        let (values, expected) = (result.covariances.unwrap(), variances.estimate.unwrap().values);
+        for (row, (value, variance)) in values.iter().zip(&expected).enumerate() {
+            let same = value.to_bits() == variance.to_bits() || (value.is_nan() && variance.is_nan());
+            assert!(same, "row {row}: {value:?} in place of {variance:?}");
+        }
+        assert_eq!(values.len(), expected.len());
+        assert!(values[5].is_nan());
+    }
+}
+
+/// On whole numbers the sums are exact, so the order of the operators does not matter.
+#[test]
+fn operators_exchanged() {
+    let a = SparseRowOperator::new(3, vec![vec![(0, 2.0), (2, -3.0)], vec![(1, 1.0), (1, 4.0), (0, -7.0)]]).unwrap();
+    let b = SparseRowOperator::new(3, vec![vec![(1, 5.0), (2, 1.0)], vec![(2, 11.0)], vec![]]).unwrap();
+    let pairs = [(0, 0), (0, 1), (1, 0), (1, 1), (1, 2)];
+    let exchanged = pairs.map(|(row, other)| (other, row));
+    for factor in [full(), f3()] {
+        assert_eq!(
+            covariances(&factor, &a, &b, &pairs),
+            covariances(&factor, &b, &a, &exchanged)
+        );
+    }
+    assert_eq!(covariances(&full(), &a, &b, &[(0, 0)]), [-153.0]);
+}
+
+/// A's terms outside, B's inside, the weights multiplied first.
+#[test]
+fn the_order_of_a_covariance() {
+    let a = SparseRowOperator::new(3, vec![vec![(0, 0.1), (1, 0.2), (2, 0.3)]]).unwrap();
+    let b = SparseRowOperator::new(3, vec![vec![(2, 0.7), (0, 1.1), (1, 0.13)]]).unwrap();
+    let one = covariances(&full(), &a, &b, &[(0, 0)])[0];
+    let other = covariances(&full(), &b, &a, &[(0, 0)])[0];
+    let inverse = selected_inverse_entries(&full(), &pattern(3, &[(0, 0)]))
+        .unwrap()
+        .inverse
+        .unwrap();
+    let summed = |a: &SparseRowOperator, b: &SparseRowOperator| {
+        let mut sum = 0.0;
+        for (cell, weight) in &a.rows[0] {
+            for (place, other) in &b.rows[0] {
+                sum += (weight * other) * inverse.get(*cell, *place).unwrap();
+            }
+        }
+        sum
+    };
+    assert_eq!(one.to_bits(), summed(&a, &b).to_bits());
+    assert_eq!(other.to_bits(), summed(&b, &a).to_bits());
+    assert_ne!(one.to_bits(), other.to_bits());
+    let large = SparseRowOperator::new(1, vec![vec![(0, 1e200)]]).unwrap();
+    assert_eq!(
+        covariances(&self::one(1e150), &large, &large, &[(0, 0)]),
+        [f64::INFINITY]
+    );
+}
+
+#[test]
+fn covariances_past_the_limit() {
+    // A full first column: (0, 0) needs every pair, (1, 0) a few.
+    let n = 60;
+    let triplets = (0..n)
+        .map(|row| (row, 0, 1.0))
+        .chain((1..n).map(|row| (row, row, 1.0)))
+        .collect::<Vec<_>>();
+    let factor = CholeskyFactor::from_triplets(n, &triplets).unwrap();
+    let cells = SparseRowOperator::identity(n);
+    let result = selected_inverse_transformed_covariances(&factor, &cells, &cells, &[(1, 0), (0, 0)]).unwrap();
+    assert_eq!(result.diagnostics.status, SelectedInverseStatus::ClosureTooLarge);
+    assert_eq!(result.diagnostics.requested_pairs, 2);
+    assert_eq!(result.diagnostics.closure_pairs, result.diagnostics.closure_limit + 1);
+    assert_eq!(result.covariances, None);
+    assert_eq!(covariances(&factor, &cells, &cells, &[(1, 0)]), [-1.0]);
+}
+
 #[test]
 fn permutations() {
     let permutation = Permutation::from_orig_to_perm(vec![2, 0, 1]).unwrap();
@@ -195,6 +333,10 @@ fn variances_in_original_order() {
     let operator = SparseRowOperator::new(3, vec![vec![(1, 2.0)]]).unwrap();
     let result = selected_inverse_transformed_diag(&factor, &operator).unwrap();
     assert_eq!(result.estimate.unwrap().values, [56.0]);
+    // Both operators are moved: cell 2 is the factor's second column.
+    let cells = SparseRowOperator::identity(3);
+    assert_eq!(covariances(&factor, &operator, &cells, &[(0, 1), (0, 2)]), [28.0, -4.0]);
+    assert_eq!(covariances(&factor, &cells, &operator, &[(1, 0), (2, 0)]), [28.0, -4.0]);
 }
 
 #[test]

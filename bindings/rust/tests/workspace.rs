@@ -3,6 +3,7 @@
 use redstartgilt::{
     selected_inverse_diag_with_diagnostics, selected_inverse_diag_with_diagnostics_in, selected_inverse_entries,
     selected_inverse_entries_in, selected_inverse_entries_with_limit, selected_inverse_entries_with_limit_in,
+    selected_inverse_transformed_covariances, selected_inverse_transformed_covariances_in,
     selected_inverse_transformed_diag, selected_inverse_transformed_diag_in, CholeskyFactor, SparseRowOperator,
     SparseSymmetricPattern, Workspace,
 };
@@ -54,6 +55,12 @@ fn a_used_workspace_gives_the_same() {
         assert_eq!(
             selected_inverse_transformed_diag_in(&factor, &operator, &mut workspace),
             selected_inverse_transformed_diag(&factor, &operator)
+        );
+        let (cells, pairs) = (SparseRowOperator::identity(n), (0..n).map(|cell| (cell, n - 1 - cell)));
+        let pairs = pairs.collect::<Vec<_>>();
+        assert_eq!(
+            selected_inverse_transformed_covariances_in(&factor, &operator, &cells, &pairs, &mut workspace),
+            selected_inverse_transformed_covariances(&factor, &operator, &cells, &pairs)
         );
     }
     // 30 columns: 31 starts, 465 rows and values, 2 * 465 + 4 * 30 words of scratch.

@@ -104,6 +104,24 @@ pub fn requests(file: &Path, dimension: usize, permutation: &Permutation) -> Res
     Ok(pattern)
 }
 
+/// The row pairs of a file, for operators of so many rows.
+pub fn row_pairs(file: &Path, rows: [usize; 2]) -> Result<Vec<(usize, usize)>, Failure> {
+    let mut pairs = Vec::new();
+    for (line, pair) in indices::<2>(file, &text_of(file)?, "two rows")? {
+        for ((row, rows), operator) in pair.into_iter().zip(rows).zip(["--operator", "--with"]) {
+            if row >= rows {
+                return Err(Failure::refused_because(
+                    format_args!("{}:{line}", file.display()),
+                    Error::BrokenOperator,
+                    format_args!("row {} of {operator} is not from 1 to {rows}", row + 1),
+                ));
+            }
+        }
+        pairs.push((pair[0], pair[1]));
+    }
+    Ok(pairs)
+}
+
 /// The permutation of a file, for a factor of this dimension.
 pub fn permutation(file: &Path, dimension: usize) -> Result<Permutation, Failure> {
     let orig_to_perm = indices::<1>(file, &text_of(file)?, "one index")?

@@ -6,8 +6,12 @@ use crate::map::{Cell, Map};
 use crate::options::Options;
 use crate::report::{self, NOT_COMPUTED};
 use crate::{cell_of, find, write_map, Found};
-use redstartgilt::{selected_inverse_transformed_diag, CholeskyFactor, Error, Permutation, SparseRowOperator};
+use redstartgilt::{
+    selected_inverse_transformed_covariances, selected_inverse_transformed_diag, CholeskyFactor, Error, Permutation,
+    SparseRowOperator,
+};
 use std::io::{self, Write};
+use std::ops::Range;
 
 /// `#` land, `.` water that nobody has sounded, `+` one sounding by lead line, `*` sounded by echo sounder.
 const CHART: [&str; 16] = [
@@ -47,8 +51,33 @@ const PLACES: [(&str, usize, usize); 7] = [
     ("bay without soundings", 8, 14),
 ];
 
-/// The basin whose mean depth is asked for: columns and rows.
-const BASIN: (std::ops::Range<usize>, std::ops::Range<usize>) = (16..22, 9..12);
+/// Columns and rows.
+type Area = (Range<usize>, Range<usize>);
+
+/// The basin whose mean depth is asked for.
+const BASIN: Area = (16..22, 9..12);
+
+/// Two dredging areas side by side, north of the fairway.
+const DREDGING: [(&str, Area); 2] = [
+    ("western dredging area", (2..8, 5..7)),
+    ("eastern dredging area", (8..14, 5..7)),
+];
+
+/// The side of a cell in metres.
+const CELL_SIDE: f64 = 10.0;
+
+/// The variances of the volumes over the two dredging areas, and their covariance.
+struct Volumes {
+    variances: [f64; 2],
+    covariance: f64,
+}
+
+impl Volumes {
+    /// The variance of the one volume less the other.
+    fn of_difference(&self) -> f64 {
+        self.variances[0] + self.variances[1] - 2.0 * self.covariance
+    }
+}
 
 pub struct Harbour {
     pub grid: Grid,
@@ -146,10 +175,7 @@ impl Harbour {
     /// The variance of the mean depth of the basin. It is asked for by itself, so it is there whatever cells are asked
     /// for.
     fn basin_mean(&self, factor: &CholeskyFactor) -> Result<f64, Error> {
-        let (columns, rows) = BASIN;
-        let basin = rows
-            .flat_map(|row| columns.clone().filter_map(move |column| self.at(column, row)))
-            .collect::<Vec<_>>();
+        let basin = self.water_of(BASIN);
         let weight = 1.0 / basin.len() as f64;
         let mean = SparseRowOperator::new(
             self.cells.len(),
@@ -158,6 +184,36 @@ impl Harbour {
         let means = selected_inverse_transformed_diag(factor, &mean)?;
         // Its closed set is within all pairs of the harbour, which are within the limit.
         Ok(means.estimate.ok_or(Error::NotCovered)?.values[0])
+    }
+
+    /// The water cells of an area.
+    fn water_of(&self, (columns, rows): Area) -> Vec<usize> {
+        rows.flat_map(|row| columns.clone().filter_map(move |column| self.at(column, row)))
+            .collect()
+    }
+
+    /// A row for each dredging area: the volume of water over it, in cubic metres.
+    fn dredging(&self) -> Result<SparseRowOperator, Error> {
+        let volume = |area: Area| {
+            let cells = self.water_of(area).into_iter();
+            cells.map(|water| (water, CELL_SIDE * CELL_SIDE)).collect()
+        };
+        SparseRowOperator::new(
+            self.cells.len(),
+            DREDGING.into_iter().map(|(_, area)| volume(area)).collect(),
+        )
+    }
+
+    /// A row with itself is a variance, so one call has all that the difference of the volumes needs.
+    fn volumes(&self, factor: &CholeskyFactor) -> Result<Volumes, Error> {
+        let areas = self.dredging()?;
+        let pairs = [(0, 0), (1, 1), (0, 1)];
+        let found = selected_inverse_transformed_covariances(factor, &areas, &areas, &pairs)?;
+        let values = found.covariances.ok_or(Error::NotCovered)?;
+        Ok(Volumes {
+            variances: [values[0], values[1]],
+            covariance: values[2],
+        })
     }
 
     fn soundings(&self, water: usize) -> &'static str {
@@ -169,7 +225,7 @@ impl Harbour {
     }
 
     /// A short table of a few places.
-    fn table(&self, output: &mut impl Write, found: &Found, basin_mean: f64) -> io::Result<()> {
+    fn table(&self, output: &mut impl Write, found: &Found, basin_mean: f64, volumes: &Volumes) -> io::Result<()> {
         writeln!(
             output,
             "A harbour of {} x {} cells, {} of them water; variances of the depth in square metres.",
@@ -204,6 +260,23 @@ impl Harbour {
             "{:<48} {:>7.3} m  {basin_mean:?}",
             "mean depth of the turning basin",
             basin_mean.sqrt()
+        )?;
+        let [west, east] = DREDGING.map(|(_, area)| self.water_of(area).len());
+        writeln!(
+            output,
+            "Two dredging areas, {west} and {east} cells of {CELL_SIDE} x {CELL_SIDE} m; volumes in cubic metres, their \
+             variances in those squared."
+        )?;
+        let mut volume =
+            |name: &str, variance: f64| writeln!(output, "{name:<48} {:>6.1} m3  {variance:?}", variance.sqrt());
+        for ((name, _), variance) in DREDGING.into_iter().zip(volumes.variances) {
+            volume(&format!("volume over the {name}"), variance)?;
+        }
+        volume("difference of the two volumes", volumes.of_difference())?;
+        writeln!(
+            output,
+            "{:<48} {:>9}  {:?}",
+            "covariance of the two volumes", "", volumes.covariance
         )
     }
 
@@ -266,14 +339,17 @@ pub fn run(output: &mut impl Write, options: &Options) -> Result<(), Failure> {
     written(if options.csv {
         harbour.csv(output, &found)
     } else {
-        harbour.table(output, &found, harbour.basin_mean(&factor).map_err(refused)?)
+        let basin_mean = harbour.basin_mean(&factor).map_err(refused)?;
+        let volumes = harbour.volumes(&factor).map_err(refused)?;
+        harbour.table(output, &found, basin_mean, &volumes)
     })
 }
 
 #[cfg(test)]
 mod tests {
-    use super::{Harbour, CHART, PLACES};
+    use super::{Harbour, CHART, DREDGING, PLACES};
     use crate::map::Cell;
+    use redstartgilt::{selected_inverse_transformed_diag, SparseRowOperator};
 
     #[test]
     fn the_chart_is_a_grid_and_its_places_are_water() {
@@ -317,6 +393,28 @@ mod tests {
                 "{water}: {found} {expected}"
             );
         }
+    }
+
+    /// The difference by its own weights, the second area's negative.
+    #[test]
+    fn the_difference_of_the_volumes() {
+        let harbour = Harbour::new();
+        for (name, (columns, rows)) in DREDGING {
+            let cells = columns.len() * rows.len();
+            assert_eq!(harbour.water_of((columns, rows)).len(), cells, "{name}");
+        }
+        let factor = harbour.factor().unwrap();
+        let volumes = harbour.volumes(&factor).unwrap();
+        assert!(volumes.covariance > 0.0);
+        let areas = harbour.dredging().unwrap();
+        let variances = selected_inverse_transformed_diag(&factor, &areas).unwrap();
+        assert_eq!(variances.estimate.unwrap().values, volumes.variances);
+        let less = areas.rows[1].iter().map(|(water, weight)| (*water, -weight));
+        let row = areas.rows[0].iter().copied().chain(less).collect();
+        let difference = SparseRowOperator::new(harbour.cells.len(), vec![row]).unwrap();
+        let expected = selected_inverse_transformed_diag(&factor, &difference).unwrap();
+        let expected = expected.estimate.unwrap().values[0];
+        assert!((volumes.of_difference() - expected).abs() <= 1e-9 * expected);
     }
 
     /// Land is land and not "not computed".

@@ -51,6 +51,16 @@ impl Failure {
         }
     }
 
+    /// The same for rows of operators, whose limit is that of the library.
+    pub fn too_many_pairs_of_rows(limit: usize) -> Self {
+        Self {
+            message: format!(
+                "ClosureTooLarge: the rows need more than {limit} entries, 10 times those of the factor, so none is given"
+            ),
+            status: TOO_MANY_PAIRS,
+        }
+    }
+
     /// The library's refusal, with the place that it is about.
     pub fn refused_at(place: impl Display, error: redstartgilt::Error) -> Self {
         Self::refused_because(place, error, error.reason())

@@ -9,6 +9,7 @@ mod lines;
 mod map;
 mod markup;
 mod matrix_market;
+mod operators;
 mod options;
 mod report;
 mod scale;
@@ -59,7 +60,7 @@ struct Found {
 }
 
 fn run_factor(output: &mut impl Write, file: &Path, options: &Options) -> Result<(), Failure> {
-    let factor = matrix_market::read(file)?.factor(file)?;
+    let factor = matrix_market::factor(file)?;
     let n = factor.dimension();
     if let Some(grid) = options.grid.filter(|grid| grid.cells() != Some(n)) {
         return Err(Failure::usage(format!(
@@ -73,6 +74,9 @@ fn run_factor(output: &mut impl Write, file: &Path, options: &Options) -> Result
             .map_err(|error| Failure::refused_at(list.display(), error))?,
         None => factor,
     };
+    if let Some(operator) = &options.operator {
+        return operators::run(output, file, &factor, operator, options);
+    }
     let found = find(file.display(), &factor, options)?;
     if let Some(grid) = options.grid {
         let name = file.file_name().unwrap_or(file.as_os_str());

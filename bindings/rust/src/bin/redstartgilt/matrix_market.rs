@@ -1,22 +1,52 @@
-//! Factors from Matrix Market coordinate files.
+//! Factors and operators from Matrix Market coordinate files.
 
 use crate::failure::Failure;
 use crate::lines::Lines;
-use redstartgilt::CholeskyFactor;
+use redstartgilt::{CholeskyFactor, Error, SparseRowOperator, MAX_DIMENSION};
 use std::path::Path;
 
-/// A file's matrix: square, its entries (row, column, value) counted from 0, by column then row, none twice.
-#[derive(Debug, Clone, PartialEq)]
-pub struct Matrix {
-    pub dimension: usize,
-    pub entries: Vec<(usize, usize, f64)>,
+/// What a file's matrix is to be.
+#[derive(Debug, Clone, Copy, PartialEq, Eq)]
+enum Kind {
+    /// Square.
+    Factor,
+    /// General, of any size.
+    Operator,
 }
 
-impl Matrix {
-    pub fn factor(&self, file: &Path) -> Result<CholeskyFactor, Failure> {
-        CholeskyFactor::from_triplets(self.dimension, &self.entries)
-            .map_err(|error| Failure::refused_at(file.display(), error))
+/// A file's matrix, its entries (row, column, value) counted from 0, by column then row, none twice.
+#[derive(Debug, Clone, PartialEq)]
+struct Matrix {
+    rows: usize,
+    columns: usize,
+    entries: Vec<(usize, usize, f64)>,
+}
+
+/// The factor of a file.
+pub fn factor(file: &Path) -> Result<CholeskyFactor, Failure> {
+    let matrix = read(file, Kind::Factor)?;
+    CholeskyFactor::from_triplets(matrix.rows, &matrix.entries)
+        .map_err(|error| Failure::refused_at(file.display(), error))
+}
+
+/// The operator of a file, for a factor of so many cells: the terms of each row by cell.
+pub fn operator(file: &Path, cells: usize) -> Result<SparseRowOperator, Failure> {
+    let matrix = read(file, Kind::Operator)?;
+    if matrix.rows <= MAX_DIMENSION && matrix.columns != cells {
+        return Err(Failure::refused_because(
+            file.display(),
+            Error::DimensionMismatch,
+            format_args!("the operator has {} columns, the factor {cells} cells", matrix.columns),
+        ));
     }
+    // More rows than are allowed are refused without lists for each of them.
+    let mut rows = vec![Vec::new(); matrix.rows.min(MAX_DIMENSION + 1)];
+    for (row, column, weight) in matrix.entries {
+        if let Some(terms) = rows.get_mut(row) {
+            terms.push((column, weight));
+        }
+    }
+    SparseRowOperator::new(matrix.columns, rows).map_err(|error| Failure::refused_at(file.display(), error))
 }
 
 /// The kinds of header that are read.
@@ -32,25 +62,25 @@ struct Entry {
     line: usize,
 }
 
-pub fn read(file: &Path) -> Result<Matrix, Failure> {
+fn read(file: &Path, kind: Kind) -> Result<Matrix, Failure> {
     let text = std::fs::read(file).map_err(|error| Failure::in_file(file, error))?;
-    parse(file, &text)
+    parse(file, &text, kind)
 }
 
 /// The matrix of a text; `file` is for messages.
-pub fn parse(file: &Path, text: &[u8]) -> Result<Matrix, Failure> {
+fn parse(file: &Path, text: &[u8], kind: Kind) -> Result<Matrix, Failure> {
     let mut lines = Lines::new(file, text);
     let Some((number, line)) = lines.next()? else {
         return Err(Failure::in_file(file, "the file is empty"));
     };
-    let header = header(file, number, line)?;
+    let header = header(file, number, line, kind)?;
     let Some((number, line)) = lines.next_filled(is_comment)? else {
         return Err(Failure::in_file(
             file,
             "the line with rows, columns and entries is missing",
         ));
     };
-    let (dimension, count) = sizes(file, number, line)?;
+    let (rows, columns, count) = sizes(file, number, line, kind)?;
     let mut entries = Vec::new();
     while let Some((number, line)) = lines.next_filled(is_comment)? {
         if entries.len() == count {
@@ -60,7 +90,7 @@ pub fn parse(file: &Path, text: &[u8]) -> Result<Matrix, Failure> {
                 format!("more entries than the {count} that the file says it has"),
             ));
         }
-        entries.push(entry(file, number, line, &header, dimension)?);
+        entries.push(entry(file, number, line, &header, [rows, columns])?);
     }
     if entries.len() < count {
         return Err(Failure::in_file(
@@ -84,7 +114,8 @@ pub fn parse(file: &Path, text: &[u8]) -> Result<Matrix, Failure> {
         }
     }
     Ok(Matrix {
-        dimension,
+        rows,
+        columns,
         entries: entries
             .iter()
             .map(|entry| (entry.row, entry.column, entry.value))
@@ -96,7 +127,7 @@ fn is_comment(line: &str) -> bool {
     line.starts_with('%')
 }
 
-fn header(file: &Path, number: usize, line: &str) -> Result<Header, Failure> {
+fn header(file: &Path, number: usize, line: &str, kind: Kind) -> Result<Header, Failure> {
     let fail = |reason: String| Err(Failure::at_line(file, number, reason));
     let words = line.split_whitespace().map(str::to_lowercase).collect::<Vec<_>>();
     let words = words.iter().map(String::as_str).collect::<Vec<_>>();
@@ -117,6 +148,7 @@ fn header(file: &Path, number: usize, line: &str) -> Result<Header, Failure> {
     };
     let lower_only = match symmetry {
         "general" => false,
+        "symmetric" if kind == Kind::Operator => return fail("an operator must be general, not symmetric".to_string()),
         "symmetric" => true,
         _ => return fail(format!("the matrix must be general or symmetric, not {symmetry}")),
     };
@@ -126,19 +158,19 @@ fn header(file: &Path, number: usize, line: &str) -> Result<Header, Failure> {
     })
 }
 
-fn sizes(file: &Path, number: usize, line: &str) -> Result<(usize, usize), Failure> {
+fn sizes(file: &Path, number: usize, line: &str, kind: Kind) -> Result<(usize, usize, usize), Failure> {
     let words = line.split_whitespace().collect::<Vec<_>>();
     let numbers = words
         .iter()
         .map(|word| word.parse().ok())
         .collect::<Option<Vec<usize>>>();
     match numbers.as_deref() {
-        Some([rows, columns, _]) if rows != columns => Err(Failure::at_line(
+        Some([rows, columns, _]) if kind == Kind::Factor && rows != columns => Err(Failure::at_line(
             file,
             number,
             format!("a factor is square, but this has {rows} rows and {columns} columns"),
         )),
-        Some([rows, _, count]) => Ok((*rows, *count)),
+        Some([rows, columns, count]) => Ok((*rows, *columns, *count)),
         _ => Err(Failure::at_line(
             file,
             number,
@@ -147,7 +179,7 @@ fn sizes(file: &Path, number: usize, line: &str) -> Result<(usize, usize), Failu
     }
 }
 
-fn entry(file: &Path, number: usize, line: &str, header: &Header, dimension: usize) -> Result<Entry, Failure> {
+fn entry(file: &Path, number: usize, line: &str, header: &Header, sizes: [usize; 2]) -> Result<Entry, Failure> {
     let fail = |reason: String| Err(Failure::at_line(file, number, reason));
     let words = line.split_whitespace().collect::<Vec<_>>();
     let [row, column, value] = words[..] else {
@@ -157,10 +189,10 @@ fn entry(file: &Path, number: usize, line: &str, header: &Header, dimension: usi
         ));
     };
     let mut places = [0; 2];
-    for (place, (name, word)) in places.iter_mut().zip([("row", row), ("column", column)]) {
+    for ((place, size), (name, word)) in places.iter_mut().zip(sizes).zip([("row", row), ("column", column)]) {
         *place = match word.parse::<usize>() {
-            Ok(index) if (1..=dimension).contains(&index) => index - 1,
-            Ok(index) => return fail(format!("{name} {index} is not from 1 to {dimension}")),
+            Ok(index) if (1..=size).contains(&index) => index - 1,
+            Ok(index) => return fail(format!("{name} {index} is not from 1 to {size}")),
             Err(_) => return fail(format!("{name} {word} is not a whole number from 1")),
         };
     }

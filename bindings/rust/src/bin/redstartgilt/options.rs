@@ -10,6 +10,7 @@ redstartgilt: variances from a sparse Cholesky factor, by a proved selected inve
 
 Usage:
   redstartgilt [OPTIONS] FACTOR
+  redstartgilt --operator FILE [--with FILE [--pairs FILE]] [--permutation FILE] [--csv] FACTOR
   redstartgilt --demo [--requests FILE] [--csv] [--svg FILE] [--html FILE]
 
 FACTOR is a Matrix Market file of a lower factor L: the header
@@ -29,6 +30,13 @@ Options:
                       without it 10 times the stored entries
   --entries           print row, column and value of every entry that was computed, by column then row, and not the
                       variances
+  --operator FILE     print the variance of weighted sums of cells, and not of the cells: a Matrix Market file like
+                      that of a factor, general, with a row for each sum and a column for each cell; an entry is the
+                      weight of its column's cell in its row's sum
+  --with FILE         a second operator: print the covariances of the rows of the first with those of the second, in
+                      place of variances; a file that is given for both has each row's variance among them
+  --pairs FILE        the row pairs whose covariances are wanted; without it all. A row of --operator and a row of
+                      --with a line
   --csv               print comma-separated values with a line of names, and no summary
   --svg FILE          write the variances as a picture; needs --grid or --demo
   --html FILE         write the variances as a page for a browser, which needs no other file and no network: the map
@@ -56,7 +64,8 @@ Exit status:
   1   a file cannot be read or written, or is malformed: the message has its name and line. A malformed Matrix Market
       file of requests is 25 to 27, one of another dimension 14
   2   bad usage
-  3   ClosureTooLarge: the requests need more pairs than the limit; without --requests, --limit and --entries it is 18
+  3   ClosureTooLarge: the requests, or the rows of operators, need more pairs than the limit; for the variances of all
+      cells without --limit and --entries it is 18
   10 + N  the library refuses with number N:
 ";
 
@@ -76,6 +85,9 @@ pub struct Options {
     pub factor: Option<PathBuf>,
     pub requests: Option<PathBuf>,
     pub permutation: Option<PathBuf>,
+    pub operator: Option<PathBuf>,
+    pub with: Option<PathBuf>,
+    pub pairs: Option<PathBuf>,
     pub limit: Option<usize>,
     pub entries: bool,
     pub csv: bool,
@@ -86,7 +98,7 @@ pub struct Options {
 
 #[derive(Debug, Clone, PartialEq)]
 pub enum Command {
-    Run(Options),
+    Run(Box<Options>),
     Help,
     Version,
 }
@@ -97,6 +109,9 @@ pub fn read(words: impl IntoIterator<Item = OsString>) -> Result<Command, Failur
         factor: None,
         requests: None,
         permutation: None,
+        operator: None,
+        with: None,
+        pairs: None,
         limit: None,
         entries: false,
         csv: false,
@@ -121,7 +136,15 @@ pub fn read(words: impl IntoIterator<Item = OsString>) -> Result<Command, Failur
         };
         let takes_value = matches!(
             name,
-            "--requests" | "--permutation" | "--limit" | "--svg" | "--html" | "--grid"
+            "--requests"
+                | "--permutation"
+                | "--operator"
+                | "--with"
+                | "--pairs"
+                | "--limit"
+                | "--svg"
+                | "--html"
+                | "--grid"
         );
         let value = match (takes_value, joined) {
             (true, Some(value)) => value,
@@ -134,6 +157,9 @@ pub fn read(words: impl IntoIterator<Item = OsString>) -> Result<Command, Failur
         let twice = match name {
             "--requests" => options.requests.replace(value.into()).is_some(),
             "--permutation" => options.permutation.replace(value.into()).is_some(),
+            "--operator" => options.operator.replace(value.into()).is_some(),
+            "--with" => options.with.replace(value.into()).is_some(),
+            "--pairs" => options.pairs.replace(value.into()).is_some(),
             "--limit" => options.limit.replace(number(&value)?).is_some(),
             "--svg" => options.svg.replace(value.into()).is_some(),
             "--html" => options.html.replace(value.into()).is_some(),
@@ -158,6 +184,7 @@ fn checked(options: Options, demo: bool) -> Result<Command, Failure> {
         let other = [
             ("a factor", options.factor.is_some()),
             ("--permutation", options.permutation.is_some()),
+            ("--operator", options.operator.is_some()),
             ("--limit", options.limit.is_some()),
             ("--entries", options.entries),
             ("--grid", options.grid.is_some()),
@@ -178,10 +205,27 @@ fn checked(options: Options, demo: bool) -> Result<Command, Failure> {
             return Err(Failure::usage("--grid needs --svg or --html"));
         }
     }
+    if options.operator.is_some() {
+        let other = [
+            ("--requests", options.requests.is_some()),
+            ("--limit", options.limit.is_some()),
+            ("--entries", options.entries),
+            ("--grid", options.grid.is_some()),
+        ];
+        if let Some((name, _)) = other.iter().find(|(_, given)| *given) {
+            return Err(Failure::usage(format!("--operator does not go with {name}")));
+        }
+    }
+    if options.with.is_some() && options.operator.is_none() {
+        return Err(Failure::usage("--with needs --operator"));
+    }
+    if options.pairs.is_some() && options.with.is_none() {
+        return Err(Failure::usage("--pairs needs --with"));
+    }
     if options.svg.is_some() && options.svg == options.html {
         return Err(Failure::usage("--svg and --html need two files"));
     }
-    Ok(Command::Run(options))
+    Ok(Command::Run(Box::new(options)))
 }
 
 fn number(value: &OsString) -> Result<usize, Failure> {

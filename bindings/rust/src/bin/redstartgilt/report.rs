@@ -69,6 +69,43 @@ pub fn variances(
     Ok(())
 }
 
+/// The variance of each row of an operator.
+pub fn row_variances(
+    output: &mut impl Write,
+    csv: bool,
+    diagnostics: &SelectedInverseDiagnostics,
+    variances: &[f64],
+) -> io::Result<()> {
+    if !csv {
+        counts(output, diagnostics)?;
+    }
+    let gap = if csv { ',' } else { ' ' };
+    writeln!(output, "row{gap}variance")?;
+    for (row, variance) in variances.iter().enumerate() {
+        writeln!(output, "{}{gap}{variance:?}", row + 1)?;
+    }
+    Ok(())
+}
+
+/// The covariance of each row pair.
+pub fn covariances(
+    output: &mut impl Write,
+    csv: bool,
+    diagnostics: &SelectedInverseDiagnostics,
+    row_pairs: &[(usize, usize)],
+    covariances: &[f64],
+) -> io::Result<()> {
+    if !csv {
+        counts(output, diagnostics)?;
+    }
+    let gap = if csv { ',' } else { ' ' };
+    writeln!(output, "row{gap}with{gap}covariance")?;
+    for ((row, with), covariance) in row_pairs.iter().zip(covariances) {
+        writeln!(output, "{}{gap}{}{gap}{covariance:?}", row + 1, with + 1)?;
+    }
+    Ok(())
+}
+
 /// Every entry (row, column, value).
 pub fn entries(
     output: &mut impl Write,
