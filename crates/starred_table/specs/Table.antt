@@ -35,7 +35,8 @@ use Rattle.selection.specs.RequestSteps.{requestSteps}
 use Rattle.columns.specs.OperatorPair.{operatorPair}
 use Rattle.selection.specs.Selection.{room, roomSteps, selectedComplete, selectedAnswer}
 use Rattle.selection.specs.Call.{selectedSteps}
-use Rattle.quadratic_form.specs.RowValue.{addTerms, addPlaces, operatorValues}
+use Rattle.quadratic_form.specs.CrossValue.{addTerms, addPlaces}
+use Rattle.quadratic_form.specs.RowValue.{operatorValues}
 use Rattle.operator_variances.specs.Transformed.{transformedSelection, transformedSteps, transformedValues}
 use Rattle.starred_table.specs.Calls.{F2, F3, NoColumns, F2-operator}
 use Rattle.selected_entry.specs.SelectedEntry.{refusedWith, looked, entryAnswer}
