@@ -10,83 +10,83 @@ use Rattle.lists.specs.Tabulate.{tabulate}
 use Rattle.refusal.specs.Steps.{verdict, refused, answered, first, each}
 use Rattle.columns.specs.Examples.{whole, F2-starts, F2-rows}
 use Rattle.columns.specs.Kept.{f0}
-use Rattle.result.specs.Lookup.{columnFaults, entrySteps, entryOf, lookup, resultSteps, diagSteps, diagonals, coverage}
+use Rattle.result.specs.Lookup.{columnFaults, searchSteps, entrySteps, entryOf, lookup, resultSteps, diagSteps, diagonals, coverage}
 
 -- F2's result has F2's starts and rows, and these values
 abbrev pub F2-inverse : List Float
 F2-inverse = whole 5 ∷ ofInt binary64 (negsuc 1) ∷ whole 1 ∷ []
 
 F2-first : lookup F2-starts F2-rows F2-inverse 0 0 ≡ answered (whole 5)
-unfolding entryOf entrySteps columnFaults first any anyIn placeFrom
+unfolding entryOf entrySteps searchSteps columnFaults first any anyIn placeFrom
 F2-first = refl
 
 F2-below : lookup F2-starts F2-rows F2-inverse 1 0 ≡ answered (ofInt binary64 (negsuc 1))
-unfolding entryOf entrySteps columnFaults first any anyIn placeFrom
+unfolding entryOf entrySteps searchSteps columnFaults first any anyIn placeFrom
 F2-below = refl
 
 F2-exchanged : lookup F2-starts F2-rows F2-inverse 0 1 ≡ answered (ofInt binary64 (negsuc 1))
-unfolding entryOf entrySteps columnFaults first any anyIn placeFrom
+unfolding entryOf entrySteps searchSteps columnFaults first any anyIn placeFrom
 F2-exchanged = refl
 
 F2-outside : lookup F2-starts F2-rows F2-inverse 2 0 ≡ refused 8
-unfolding entryOf entrySteps columnFaults first any anyIn placeFrom
+unfolding entryOf entrySteps searchSteps columnFaults first any anyIn placeFrom
 F2-outside = refl
 
 F2-diagonals : diagonals F2-starts F2-rows F2-inverse ≡ whole 5 ∷ whole 1 ∷ []
-unfolding diagonals tabulate entryOf entrySteps columnFaults first any anyIn placeFrom
+unfolding diagonals tabulate entryOf entrySteps searchSteps columnFaults first any anyIn placeFrom
 F2-diagonals = refl
 
 -- only (1, 1) is covered
 uncovered : lookup (0 ∷ 0 ∷ 1 ∷ []) (1 ∷ []) (whole 1 ∷ []) 0 0 ≡ refused 8
-unfolding entryOf entrySteps columnFaults first any anyIn placeFrom
+unfolding entryOf entrySteps searchSteps columnFaults first any anyIn placeFrom
 uncovered = refl
 
 uncovered-diagonals : diagonals (0 ∷ 0 ∷ 1 ∷ []) (1 ∷ []) (whole 1 ∷ []) ≡ f0 ∷ whole 1 ∷ []
-unfolding diagonals tabulate entryOf entrySteps columnFaults first any anyIn placeFrom
+unfolding diagonals tabulate entryOf entrySteps searchSteps columnFaults first any anyIn placeFrom
 uncovered-diagonals = refl
 
 -- its marks: the first diagonal is not covered; a stored 0.0 is covered
 uncovered-marks : coverage (0 ∷ 0 ∷ 1 ∷ []) (1 ∷ []) (whole 1 ∷ []) ≡ 0 ∷ 1 ∷ []
-unfolding coverage tabulate entryOf entrySteps columnFaults first any anyIn placeFrom
+unfolding coverage tabulate entryOf entrySteps searchSteps columnFaults first any anyIn placeFrom
 uncovered-marks = refl
 
 zero-marked : coverage (0 ∷ 1 ∷ []) (0 ∷ []) (f0 ∷ []) ≡ 1 ∷ []
-unfolding coverage tabulate entryOf entrySteps columnFaults first any anyIn placeFrom
+unfolding coverage tabulate entryOf entrySteps searchSteps columnFaults first any anyIn placeFrom
 zero-marked = refl
 
 -- no starts
 no-starts : lookup [] [] [] 0 0 ≡ refused 2
-unfolding entryOf entrySteps first
+unfolding entryOf entrySteps searchSteps first
 no-starts = refl
 
 -- one start: no column, so every index is outside
 no-columns : lookup (7 ∷ []) [] [] 0 0 ≡ refused 8
-unfolding entryOf entrySteps first
+unfolding entryOf entrySteps searchSteps first
 no-columns = refl
 
 falling : lookup (2 ∷ 0 ∷ []) (0 ∷ []) (whole 1 ∷ []) 0 0 ≡ refused 2
-unfolding entryOf entrySteps columnFaults first any anyIn placeFrom
+unfolding entryOf entrySteps searchSteps columnFaults first any anyIn placeFrom
 falling = refl
 
 past-rows : lookup (0 ∷ 2 ∷ []) (0 ∷ []) (whole 1 ∷ whole 1 ∷ []) 0 0 ≡ refused 2
-unfolding entryOf entrySteps columnFaults first any anyIn placeFrom
+unfolding entryOf entrySteps searchSteps columnFaults first any anyIn placeFrom
 past-rows = refl
 
 past-values : lookup (0 ∷ 2 ∷ []) (0 ∷ 1 ∷ []) (whole 1 ∷ []) 0 0 ≡ refused 2
-unfolding entryOf entrySteps columnFaults first any anyIn placeFrom
+unfolding entryOf entrySteps searchSteps columnFaults first any anyIn placeFrom
 past-values = refl
 
 unsorted-rows : lookup (0 ∷ 2 ∷ []) (0 ∷ 0 ∷ []) (whole 1 ∷ whole 2 ∷ []) 0 0 ≡ refused 3
-unfolding entryOf entrySteps columnFaults first any anyIn placeFrom
+unfolding entryOf entrySteps searchSteps columnFaults first any anyIn placeFrom
 unsorted-rows = refl
 
 -- a column outside comes before the columns' faults, a row outside after them
 column-outside : lookup (2 ∷ 0 ∷ []) (0 ∷ []) (whole 1 ∷ []) 1 1 ≡ refused 8
-unfolding entryOf entrySteps columnFaults first any anyIn placeFrom
+unfolding entryOf entrySteps searchSteps columnFaults first any anyIn placeFrom
 column-outside = refl
 
 row-outside : lookup (2 ∷ 0 ∷ []) (0 ∷ []) (whole 1 ∷ []) 1 0 ≡ refused 2
-unfolding entryOf entrySteps columnFaults first any anyIn placeFrom
+unfolding entryOf entrySteps searchSteps columnFaults first any anyIn placeFrom
 row-outside = refl
 
 -- a broken column before a short output, whatever the columns before it
