@@ -10,6 +10,10 @@ use Rattle.lists.specs.Tabulate.{tabulate}
 use Rattle.refusal.specs.Steps.{verdict, refused, answered, first, each}
 use Rattle.columns.specs.Examples.{whole, F2-starts, F2-rows}
 use Rattle.columns.specs.Kept.{f0}
+use Rattle.result.specs.Digits.{digitsIn, binaryDigits}
+use Rattle.result.specs.Looks.{looksIn, looks}
+use Rattle.result.specs.Counted.{entryLooks, lookupLooks}
+use Rattle.result.specs.Halving.{halvingIn, candidate, standing, halvedPlace, columnWithin, entryWithin, lookupWithin}
 use Rattle.result.specs.Lookup.{columnFaults, searchSteps, entrySteps, entryOf, lookup, resultSteps, diagSteps, diagonals, coverage}
 
 -- F2's result has F2's starts and rows, and these values
@@ -102,3 +106,70 @@ short-output = refl
 short-marks : verdict (diagSteps F2-starts F2-rows 3 2 1) ≡ refused 7
 unfolding diagSteps resultSteps each columnFaults first any anyIn
 short-marks = refl
+
+-- ---- places looked at
+-- each call looks at the first place of its own part
+absent-between : looks (1 ∷ 3 ∷ 5 ∷ []) 4 ≡ 4
+unfolding looksIn
+absent-between = refl
+
+-- the only row is looked at twice
+absent-below : looks (1 ∷ []) 0 ≡ 2
+unfolding looksIn
+absent-below = refl
+
+-- what lies below the middle has the first place in it
+absent-in-two : looks (1 ∷ 3 ∷ []) 2 ≡ 4
+unfolding looksIn
+absent-in-two = refl
+
+-- a row below the first ends nothing
+absent-below-two : looks (1 ∷ 3 ∷ []) 0 ≡ 4
+unfolding looksIn
+absent-below-two = refl
+
+at-middle : looks (1 ∷ 3 ∷ []) 3 ≡ 2
+unfolding looksIn
+at-middle = refl
+
+no-rows : looks [] 3 ≡ 0
+unfolding looksIn
+no-rows = refl
+
+digits-of-five : binaryDigits 5 ≡ 3
+unfolding digitsIn
+digits-of-five = refl
+
+-- a lookup that refuses before it searches looks at no place
+outside-unlooked : lookupLooks F2-starts F2-rows 3 2 0 ≡ 0
+unfolding entryLooks searchSteps columnFaults first any anyIn
+outside-unlooked = refl
+
+F2-below-looks : lookupLooks F2-starts F2-rows 3 0 1 ≡ 2
+unfolding entryLooks searchSteps columnFaults first any anyIn looksIn
+F2-below-looks = refl
+
+-- ---- the lookup within its lists
+-- in rows that do not ascend a row can be passed by, and another be met
+passed-by : halvedPlace (1 ∷ 8 ∷ 3 ∷ 9 ∷ []) 8 0 4 ≡ refused 8
+unfolding halvedPlace candidate standing halvingIn
+passed-by = refl
+
+met : halvedPlace (1 ∷ 8 ∷ 3 ∷ 9 ∷ []) 3 0 4 ≡ answered 2
+unfolding halvedPlace candidate standing halvingIn
+met = refl
+
+-- a run: no halving
+run-met : halvedPlace (4 ∷ 5 ∷ 6 ∷ 7 ∷ []) 6 0 4 ≡ answered 2
+unfolding halvedPlace candidate standing
+run-met = refl
+
+-- ends that look like a run's
+run-missed : halvedPlace (4 ∷ 9 ∷ 6 ∷ 7 ∷ []) 5 0 4 ≡ refused 8
+unfolding halvedPlace candidate standing
+run-missed = refl
+
+-- equal rows that the lookup refuses with 3
+within-unsorted : lookupWithin (0 ∷ 2 ∷ []) (0 ∷ 0 ∷ []) (whole 1 ∷ whole 2 ∷ []) 0 0 ≡ answered (whole 1)
+unfolding entryWithin columnWithin halvedPlace
+within-unsorted = refl

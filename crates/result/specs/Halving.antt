@@ -4,20 +4,21 @@
 use Prim.Native.Nat.{ℕ, zero, suc, _+_, _-_, _/_, _≤_, _<_, max, min}
 use native.Mathlib.Omega.{arith}
 use native.Mathlib.Nat.{le-refl}
-use native.Mathlib.Decide.{decLt, decEq}
+use native.Mathlib.Decide.{decLt}
 use mathlib.Core.Path.{_≡_, refl, sym, ap, subst, _∙_}
-use mathlib.Core.Bool.{Bool, true, false, cond, _||_, false≢true}
+use mathlib.Core.Bool.{Bool, true, false, cond, false≢true}
 use mathlib.Core.List.{List}
 use lib.Dec.{eqb, ltb, leb}
 use lib.ListN.{length}
 use lib.Ieee.{Float, nan}
-use borrow.Author.Tests.{eq-eqb, ne-eqb, lt-ltb, le-ltb, lt-leb, le-leb, eqb-true}
+use borrow.Author.Tests.{eq-eqb, ne-eqb, lt-ltb, le-ltb, lt-leb, le-leb, eqb-true, eqb-false}
+use Rattle.lists.specs.Test.{not-so}
 use Rattle.refusal.specs.Steps.{Reply, refused, answered}
 use Rattle.columns.specs.Columns.{start, row}
 use Rattle.columns.specs.Factor.{Ascends, Column}
 use Rattle.result.specs.Place.{isRow, placeIn, Stands, holds, placeIn-at, placeIn-absent, holds-stands, stands-holds}
-use Rattle.result.specs.Lookup.{dimension, valueAt, lookupOf, lookup, WellFormed}
-use Rattle.result.specs.Laws.{lookup-symmetric, lookup-place, lookup-outside}
+use Rattle.result.specs.Lookup.{dimension, valueAt, lookupOf, WellFormed}
+use Rattle.result.specs.Laws.{columnFaults-passed, entryOf-place, lookup-outside}
 
 -- of `size` places from base on: the middle one is taken for the base unless its row is above r, then the places left are halved again, at most k times
 unfoldable pub halvingIn : ℕ → List ℕ → ℕ → ℕ → ℕ → ℕ
@@ -105,13 +106,17 @@ module _ (rows : List ℕ) (r : ℕ) where
   halvingIn-inside (suc k) base size h = elim (decLt 1 size) [
     | yes a ↦
         let q : leb size 1 ≡ false = lt-leb size 1 a in
-        rw q (of (leb (row rows (base + size / 2)) r))
+        rw q (of (leb (row rows (base + size / 2)) r) (halvingIn-inside k (base + size / 2) (size - size / 2) (omega arith)) (halvingIn-inside k base (size - size / 2) (omega arith)))
     | no a ↦ let q : leb size 1 ≡ true = le-leb size 1 (omega arith) in rw q (le-refl base, omega arith)
   ]
     where
-      of : (b : Bool) → (base ≤ halvingIn k rows r (cond b (base + size / 2) base) (size - size / 2)) × (halvingIn k rows r (cond b (base + size / 2) base) (size - size / 2) < base + size)
-      of true = let i = halvingIn-inside k (base + size / 2) (size - size / 2) (omega arith) in (omega (arith, i .0), omega (arith, i .1))
-      of false = let i = halvingIn-inside k base (size - size / 2) (omega arith) in (omega (arith, i .0), omega (arith, i .1))
+      Among : ℕ → ℕ → Type 0
+      Among b m = (b ≤ halvingIn k rows r b m) × (halvingIn k rows r b m < b + m)
+
+      of : (b : Bool) → Among (base + size / 2) (size - size / 2) → Among base (size - size / 2)
+          → (base ≤ halvingIn k rows r (cond b (base + size / 2) base) (size - size / 2)) × (halvingIn k rows r (cond b (base + size / 2) base) (size - size / 2) < base + size)
+      of true i j = (omega (arith, i .0), omega (arith, i .1))
+      of false i j = (omega (arith, j .0), omega (arith, j .1))
 
   pub halving-inside : (base size : ℕ) → 0 < size → (base ≤ halving rows r base size) × (halving rows r base size < base + size)
   halving-inside base size h = halvingIn-inside size base size h
@@ -121,7 +126,23 @@ module _ (rows : List ℕ) (r : ℕ) where
   unfolding halvingIn
   halvingIn-finds zero base size p h A S = absurd (omega (arith, S .from, S .below))
   halvingIn-finds (suc k) base size p h A S = elim (decLt 1 size) [
-    | yes a ↦ let q : leb size 1 ≡ false = lt-leb size 1 a in rw q (side a (decLt r (row rows (base + size / 2))))
+    | yes a ↦
+        let q : leb size 1 ≡ false = lt-leb size 1 a in
+        rw q (elim (decLt r (row rows (base + size / 2))) [
+          | yes l ↦
+              let d = lower a l in
+              let u : leb (row rows (base + size / 2)) r ≡ false = lt-leb _ _ l in
+              rw u
+              (halvingIn-finds k base (size - size / 2) p (omega arith) (λ x y lo w hi. A x y lo w (omega arith))
+              (record { from = S .from; below = omega arith; there = S .there }))
+          | no l ↦
+              let d = upper a (omega arith) in
+              let u : leb (row rows (base + size / 2)) r ≡ true = le-leb (row rows (base + size / 2)) r (omega arith) in
+              let m : base + size / 2 + (size - size / 2) ≡ base + size = omega arith in
+              rw u
+              (halvingIn-finds k (base + size / 2) (size - size / 2) p (omega arith) (λ x y lo w hi. A x y (omega arith) w (omega (arith, m, hi)))
+              (record { from = d; below = omega (arith, m, S .below); there = S .there }))
+        ])
     | no a ↦ let q : leb size 1 ≡ true = le-leb size 1 (omega arith) in rw q (omega (arith, S .from, S .below))
   ]
     where
@@ -133,25 +154,12 @@ module _ (rows : List ℕ) (r : ℕ) where
           | no d ↦ let e : p ≡ base + size / 2 = omega arith in absurd (omega (arith, ap (row rows) e, S .there, l))
         ]
       ]
+
       upper : 1 < size → row rows (base + size / 2) ≤ r → base + size / 2 ≤ p
       upper a l = elim (decLt p (base + size / 2)) [
         | yes b ↦ absurd (omega (arith, A p (base + size / 2) (S .from) b (omega arith), S .there, l))
         | no b ↦ omega arith
       ]
-      side : 1 < size → Dec (r < row rows (base + size / 2)) → halvingIn k rows r (cond (leb (row rows (base + size / 2)) r) (base + size / 2) base) (size - size / 2) ≡ p
-      side a (yes l) =
-          let d = lower a l in
-          let q : leb (row rows (base + size / 2)) r ≡ false = lt-leb _ _ l in
-          rw q
-          (halvingIn-finds k base (size - size / 2) p (omega arith) (λ x y lo u hi. A x y lo u (omega arith))
-          (record { from = S .from; below = omega arith; there = S .there }))
-      side a (no l) =
-          let d = upper a (omega arith) in
-          let q : leb (row rows (base + size / 2)) r ≡ true = le-leb _ _ (omega arith) in
-          let m : base + size / 2 + (size - size / 2) ≡ base + size = omega arith in
-          rw q
-          (halvingIn-finds k (base + size / 2) (size - size / 2) p (omega arith) (λ x y lo u hi. A x y (omega arith) u (omega (arith, m, hi)))
-          (record { from = d; below = omega (arith, m, S .below); there = S .there }))
 
   -- ---- a place where r may stand
   pub standing-here : (p : ℕ) → row rows p ≡ r → standing rows r p ≡ answered p
@@ -161,3 +169,158 @@ module _ (rows : List ℕ) (r : ℕ) where
   pub standing-none : (p : ℕ) → (row rows p ≡ r → ⊥) → standing rows r p ≡ refused 8
   unfolding standing
   standing-none p n = rw (ne-eqb (row rows p) r n) refl
+
+  module _ (s e : ℕ) where
+    -- ---- the place of r from s to below e, case by case
+    pub halvedPlace-none : e ≤ s → halvedPlace rows r s e ≡ refused 8
+    unfolding halvedPlace
+    halvedPlace-none h = rw (le-leb e s h) refl
+
+    module _ (some : s < e) where
+      pub halvedPlace-first : row rows s ≡ r → halvedPlace rows r s e ≡ answered s
+      unfolding halvedPlace
+      halvedPlace-first h = rw (lt-leb e s some, eq-eqb (row rows s) r h) refl
+
+      pub halvedPlace-below : r < row rows s → halvedPlace rows r s e ≡ refused 8
+      unfolding halvedPlace
+      halvedPlace-below h =
+          let n : row rows s ≡ r → ⊥ = λ q. omega (arith, q, h) in
+          rw (lt-leb e s some, ne-eqb (row rows s) r n, lt-ltb r (row rows s) h) refl
+
+      module _ (n : row rows s ≡ r → ⊥) (above : row rows s ≤ r) where
+        pub halvedPlace-above : row rows (e - 1) < r → halvedPlace rows r s e ≡ refused 8
+        unfolding halvedPlace
+        halvedPlace-above h = rw (lt-leb e s some, ne-eqb (row rows s) r n, le-ltb r (row rows s) above, lt-ltb (row rows (e - 1)) r h) refl
+
+        pub halvedPlace-candidate : r ≤ row rows (e - 1) → halvedPlace rows r s e ≡ standing rows r (candidate rows r s e)
+        unfolding halvedPlace
+        halvedPlace-candidate h = rw (lt-leb e s some, ne-eqb (row rows s) r n, le-ltb r (row rows s) above, le-ltb (row rows (e - 1)) r h) refl
+
+    pub candidate-run : row rows (e - 1) - row rows s ≡ e - 1 - s → candidate rows r s e ≡ s + (r - row rows s)
+    unfolding candidate
+    candidate-run h = rw (eq-eqb _ _ h) refl
+
+    pub candidate-halving : (row rows (e - 1) - row rows s ≡ e - 1 - s → ⊥) → candidate rows r s e ≡ halving rows r s (e - s)
+    unfolding candidate
+    candidate-halving h = rw (ne-eqb _ _ h) refl
+
+-- ---- in ascending rows
+module _ (rows : List ℕ) (s e : ℕ) (A : Ascends rows s e) where
+  -- rows rise by one at least
+  rising : (p k : ℕ) → s ≤ p → p + k < e → row rows p + k ≤ row rows (p + k)
+  rising p zero h l = let q : p + 0 ≡ p = omega arith in rw q (omega arith)
+  rising p (suc k) h l =
+      let q : p + suc k ≡ suc (p + k) = omega arith in
+      omega (arith, rising p k h (omega arith), A (p + k) (p + suc k) (omega arith) (omega arith) l)
+
+  -- so that in a run each row stands at its distance from the first
+  run-there : (r : ℕ) → s < e → row rows s ≤ r → r ≤ row rows (e - 1) → row rows (e - 1) - row rows s ≡ e - 1 - s → row rows (s + (r - row rows s)) ≡ r
+  run-there r h lo hi q =
+      let k = r - row rows s in
+      let a : s + k < e = omega (arith, q) in
+      let b : row rows s + k ≤ row rows (s + k) = rising s k (le-refl s) a in
+      let j = e - 1 - (s + k) in
+      let w : s + k + j ≡ e - 1 = omega arith in
+      let d : row rows (s + k) + j ≤ row rows (s + k + j) = rising (s + k) j (omega arith) (omega (arith, w)) in
+      omega (arith, b, d, ap (row rows) w, q, lo, hi)
+
+  -- the first row is the least, the last the largest
+  least : (r p : ℕ) → Stands rows r s e p → row rows s ≤ r
+  least r p S = elim (decLt s p) [
+    | yes l ↦ omega (arith, A s p (le-refl s) l (S .below), S .there)
+    | no l ↦ let q : p ≡ s = omega (arith, S .from) in omega (arith, ap (row rows) q, S .there)
+  ]
+
+  largest : (r p : ℕ) → Stands rows r s e p → r ≤ row rows (e - 1)
+  largest r p S = elim (decLt p (e - 1)) [
+    | yes l ↦ omega (arith, A p (e - 1) (S .from) l (omega (arith, l)), S .there)
+    | no l ↦ let q : p ≡ e - 1 = omega (arith, S .below) in omega (arith, ap (row rows) q, S .there)
+  ]
+
+  nowhere : (r : ℕ) → ((p : ℕ) → Stands rows r s e p → ⊥) → placeIn rows r s e ≡ refused 8
+  nowhere r none = placeIn-absent rows r s e (not-so _ (λ h. let f = holds-stands rows r s e h in none (f .0) (f .1)))
+
+  halved : (r : ℕ) → s < e → standing rows r (halving rows r s (e - s)) ≡ placeIn rows r s e
+  halved r h = of (holds rows r s e) refl
+    where
+      of : (b : Bool) → holds rows r s e ≡ b → standing rows r (halving rows r s (e - s)) ≡ placeIn rows r s e
+      of true y =
+          let q : s + (e - s) ≡ e = omega arith in
+          let f = holds-stands rows r s e y in
+          let w : halving rows r s (e - s) ≡ f .0 =
+          halvingIn-finds rows r (e - s) s (e - s) (f .0) (le-refl _) (subst (Ascends rows s) (sym q) A) (subst (λ (k : ℕ). Stands rows r s k (f .0)) (sym q) (f .1)) in
+          rw w (standing-here rows r (f .0) (f .1 .there) ∙ sym (placeIn-at rows r s e A (f .0) (f .1)))
+      of false y =
+          let i = halving-inside rows r s (e - s) (omega arith) in
+          standing-none rows r (halving rows r s (e - s))
+          (λ q. false≢true (sym y ∙ stands-holds rows r s e _ (record { from = i .0; below = omega (arith, i .1); there = q })))
+          ∙ sym (placeIn-absent rows r s e y)
+
+  found : (r : ℕ) → s < e → row rows s ≤ r → r ≤ row rows (e - 1) → standing rows r (candidate rows r s e) ≡ placeIn rows r s e
+  found r h lo hi = of (eqb (row rows (e - 1) - row rows s) (e - 1 - s)) refl
+    where
+      of : (b : Bool) → eqb (row rows (e - 1) - row rows s) (e - 1 - s) ≡ b → standing rows r (candidate rows r s e) ≡ placeIn rows r s e
+      of true y =
+          let q = eqb-true _ _ y in
+          let t = run-there r h lo hi q in
+          rw (candidate-run rows r s e q)
+          (standing-here rows r (s + (r - row rows s)) t ∙ sym (placeIn-at rows r s e A _ (record { from = omega arith; below = omega (arith, q); there = t })))
+      of false y = rw (candidate-halving rows r s e (eqb-false _ _ y)) (halved r h)
+
+  -- the place found is the row's
+  pub halvedPlace-placeIn : (r : ℕ) → halvedPlace rows r s e ≡ placeIn rows r s e
+  halvedPlace-placeIn r = elim (decLt s e) [
+    | yes h ↦ elim (decLt r (row rows s)) [
+      | yes l ↦ halvedPlace-below rows r s e h l ∙ sym (nowhere r (λ p S. omega (arith, least r p S, l)))
+      | no l ↦ of h (omega arith) (eqb (row rows s) r) refl
+    ]
+    | no h ↦ halvedPlace-none rows r s e (omega arith) ∙ sym (nowhere r (λ p S. omega (arith, S .from, S .below)))
+  ]
+    where
+      of : s < e → row rows s ≤ r → (b : Bool) → eqb (row rows s) r ≡ b → halvedPlace rows r s e ≡ placeIn rows r s e
+      of h l true y =
+          let q = eqb-true _ _ y in
+          halvedPlace-first rows r s e h q ∙ sym (placeIn-at rows r s e A s (record { from = le-refl s; below = h; there = q }))
+      of h l false y = elim (decLt (row rows (e - 1)) r) [
+        | yes u ↦ halvedPlace-above rows r s e h (eqb-false _ _ y) l u ∙ sym (nowhere r (λ p S. omega (arith, largest r p S, u)))
+        | no u ↦ halvedPlace-candidate rows r s e h (eqb-false _ _ y) l (omega arith) ∙ found r h l (omega arith)
+      ]
+
+-- ---- the column and the lookup, case by case
+module _ (starts rows : List ℕ) (values r c : ℕ) where
+  pub columnWithin-rows : length rows < start starts (c + 1) → columnWithin starts rows values r c ≡ refused 8
+  unfolding columnWithin
+  columnWithin-rows h = rw (lt-ltb _ _ h) refl
+
+  module _ (stored : start starts (c + 1) ≤ length rows) where
+    pub columnWithin-values : values < start starts (c + 1) → columnWithin starts rows values r c ≡ refused 8
+    unfolding columnWithin
+    columnWithin-values h = rw (le-ltb _ _ stored, lt-ltb _ _ h) refl
+
+    pub columnWithin-place : start starts (c + 1) ≤ values → columnWithin starts rows values r c ≡ halvedPlace rows r (start starts c) (start starts (c + 1))
+    unfolding columnWithin
+    columnWithin-place h = rw (le-ltb _ _ stored, le-ltb _ _ h) refl
+
+module _ {A : Type 0} (blank : A) (starts rows : List ℕ) (values : List A) where
+  module _ (r c : ℕ) where
+    pub entryWithin-outside : dimension starts ≤ r → entryWithin blank starts rows values r c ≡ refused 8
+    unfolding entryWithin
+    entryWithin-outside h = rw (le-leb _ _ h) refl
+
+    pub entryWithin-inside : r < dimension starts → entryWithin blank starts rows values r c ≡ valueAt blank values (columnWithin starts rows (length values) r c)
+    unfolding entryWithin
+    entryWithin-inside h = rw (lt-leb _ _ h) refl
+
+  -- in a well-formed result it is the lookup
+  pub within-lookup : WellFormed starts rows (length values) → (row col : ℕ) → lookupWithinOf blank starts rows values row col ≡ lookupOf blank starts rows values row col
+  within-lookup W row col = elim (decLt (max row col) (dimension starts)) [
+    | yes l ↦
+        let c = min row col in
+        let o : c ≤ max row col = omega arith in
+        let C = W .column c (omega arith) in
+        entryWithin-inside (max row col) c l
+        ∙ ap (valueAt blank values)
+        (columnWithin-place starts rows (length values) (max row col) c (C .stored) (C .weighed) ∙ halvedPlace-placeIn rows (start starts c) (start starts (c + 1)) (C .ascends) (max row col))
+        ∙ sym (entryOf-place blank starts rows values (max row col) c (W .some) (omega arith) (columnFaults-passed starts rows (length values) c C) l)
+    | no l ↦ entryWithin-outside (max row col) (min row col) (omega arith) ∙ sym (lookup-outside blank starts rows values W row col (omega arith))
+  ]
