@@ -65,6 +65,12 @@ module _ {A : Type 0} (blank : A) where
 abbrev pub lookupWithin : List ℕ → List ℕ → List Float → ℕ → ℕ → Reply Float
 lookupWithin = lookupWithinOf nan
 
+refused-answered : {k p : ℕ} → refused k ≡ answered p → ⊥
+refused-answered e = let z : _≡_ {A = ℕ} 0 1 = cc in omega arith
+
+answered-same : {p q : ℕ} → answered p ≡ answered q → p ≡ q
+answered-same e = cc
+
 -- ---- halving
 module _ (rows : List ℕ) (r : ℕ) where
   -- once it can halve often enough, more change nothing
@@ -162,6 +168,14 @@ module _ (rows : List ℕ) (r : ℕ) where
       ]
 
   -- ---- a place where r may stand
+  standing-place : (p q : ℕ) → standing rows r p ≡ answered q → p ≡ q
+  unfolding standing
+  standing-place p q = of (isRow rows r p)
+    where
+      of : (b : Bool) → cond b (answered p) (refused 8) ≡ answered q → p ≡ q
+      of true e = answered-same e
+      of false e = absurd (refused-answered e)
+
   pub standing-here : (p : ℕ) → row rows p ≡ r → standing rows r p ≡ answered p
   unfolding standing
   standing-here p e = rw (eq-eqb (row rows p) r e) refl
@@ -203,6 +217,32 @@ module _ (rows : List ℕ) (r : ℕ) where
     pub candidate-halving : (row rows (e - 1) - row rows s ≡ e - 1 - s → ⊥) → candidate rows r s e ≡ halving rows r s (e - s)
     unfolding candidate
     candidate-halving h = rw (ne-eqb _ _ h) refl
+
+    candidate-inside : s < e → r ≤ row rows (e - 1) → candidate rows r s e < e
+    candidate-inside h l = of (eqb (row rows (e - 1) - row rows s) (e - 1 - s)) refl
+      where
+        of : (b : Bool) → eqb (row rows (e - 1) - row rows s) (e - 1 - s) ≡ b → candidate rows r s e < e
+        of true y = let q = eqb-true _ _ y in omega (arith, candidate-run q, q)
+        of false y = omega (arith, candidate-halving (eqb-false _ _ y), halving-inside s (e - s) (omega arith) .1)
+
+    -- a place that is found lies below e, whatever the rows are
+    pub halvedPlace-inside : (p : ℕ) → halvedPlace rows r s e ≡ answered p → p < e
+    halvedPlace-inside p f = elim (decLt s e) [
+      | no h ↦ absurd (refused-answered (sym (halvedPlace-none (omega arith)) ∙ f))
+      | yes h ↦ elim (decLt r (row rows s)) [
+        | yes l ↦ absurd (refused-answered (sym (halvedPlace-below h l) ∙ f))
+        | no l ↦ of h (omega arith) (eqb (row rows s) r) refl
+      ]
+    ]
+      where
+        of : s < e → row rows s ≤ r → (b : Bool) → eqb (row rows s) r ≡ b → p < e
+        of h l true y = omega (arith, answered-same (sym (halvedPlace-first h (eqb-true _ _ y)) ∙ f), h)
+        of h l false y = elim (decLt (row rows (e - 1)) r) [
+          | yes u ↦ absurd (refused-answered (sym (halvedPlace-above h (eqb-false _ _ y) l u) ∙ f))
+          | no u ↦
+              let w = candidate-inside h (omega arith) in
+              omega (arith, w, standing-place (candidate rows r s e) p (sym (halvedPlace-candidate h (eqb-false _ _ y) l (omega arith)) ∙ f))
+        ]
 
 -- ---- in ascending rows
 module _ (rows : List ℕ) (s e : ℕ) (A : Ascends rows s e) where
@@ -300,6 +340,16 @@ module _ (starts rows : List ℕ) (values r c : ℕ) where
     pub columnWithin-place : start starts (c + 1) ≤ values → columnWithin starts rows values r c ≡ halvedPlace rows r (start starts c) (start starts (c + 1))
     unfolding columnWithin
     columnWithin-place h = rw (le-ltb _ _ stored, le-ltb _ _ h) refl
+
+  -- a place that is found is one of the values
+  pub columnWithin-inside : (p : ℕ) → columnWithin starts rows values r c ≡ answered p → p < values
+  columnWithin-inside p f = elim (decLt (length rows) (start starts (c + 1))) [
+    | yes h ↦ absurd (refused-answered (sym (columnWithin-rows h) ∙ f))
+    | no h ↦ elim (decLt values (start starts (c + 1))) [
+      | yes l ↦ absurd (refused-answered (sym (columnWithin-values (omega arith) l) ∙ f))
+      | no l ↦ omega (arith, halvedPlace-inside rows r (start starts c) (start starts (c + 1)) p (sym (columnWithin-place (omega arith) (omega arith)) ∙ f))
+    ]
+  ]
 
 module _ {A : Type 0} (blank : A) (starts rows : List ℕ) (values : List A) where
   module _ (r c : ℕ) where
