@@ -80,7 +80,7 @@ module _ (rows : List ℕ) (r : ℕ) where
   halvingIn-enough zero (suc k) base size h l = let q : leb size 1 ≡ true = le-leb size 1 (omega arith) in rw q refl
   halvingIn-enough (suc j) zero base size h l = let q : leb size 1 ≡ true = le-leb size 1 (omega arith) in rw q refl
   halvingIn-enough (suc j) (suc k) base size h l = elim (decLt 1 size) [
-    | yes a ↦ ap (cond (leb size 1) base) (halvingIn-enough j k (cond (leb (row rows (base + size / 2)) r) (base + size / 2) base) (size - size / 2) (omega arith) (omega arith))
+    | yes a ↦ ap (cond (leb size 1) base) (halvingIn-enough j k _ (size - size / 2) (omega arith) (omega arith))
     | no a ↦ let q : leb size 1 ≡ true = le-leb size 1 (omega arith) in rw q refl
   ]
 
@@ -95,7 +95,7 @@ module _ (rows : List ℕ) (r : ℕ) where
   halving-next base zero h = absurd (omega arith)
   halving-next base (suc k) h =
       let q : leb (suc k) 1 ≡ false = lt-leb (suc k) 1 h in
-      rw q (halvingIn-enough k (suc k - suc k / 2) (cond (leb (row rows (base + suc k / 2)) r) (base + suc k / 2) base) (suc k - suc k / 2) (omega arith) (le-refl _))
+      rw q (halvingIn-enough k (suc k - suc k / 2) _ (suc k - suc k / 2) (omega arith) (le-refl _))
 
   pub halving-up : (base size : ℕ) → 1 < size → row rows (base + size / 2) ≤ r → halving rows r base size ≡ halving rows r (base + size / 2) (size - size / 2)
   halving-up base size h l =
