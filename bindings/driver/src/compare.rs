@@ -4,7 +4,7 @@
 //! nothing is held but one case and its answer. What the library must reply and leave is the Rust's answer; where
 //! document 01 refuses, it is that refusal, and how the Rust differs is counted.
 
-use crate::call::{look_up, Call, Function, Reply};
+use crate::call::{Call, Function, Reply, LOOKUPS};
 use crate::expected::Expected;
 use crate::lend::lend;
 use crate::list::List;
@@ -245,6 +245,7 @@ fn compare_case(case: &Block, answer: &Block, seed: u64, random: &mut Random, ta
     let more = match call.function {
         Function::Reorder => compare_marked(call, &expected, case, random, tally),
         Function::OperatorVariances => compare_covariances(call, expected, case, random, tally),
+        Function::Diag => compare_check(call, case, tally),
         function if function.selects() && reply.complete() && answer.has("gets") => {
             compare_read_back(&made, case, answer, tally)
         }
@@ -410,51 +411,83 @@ fn got(word: &str) -> Reply {
     }
 }
 
-/// Lookups in what a call left: the filled starts, and the rows and values as they are.
+/// The check of a result's lists, by the driver's own rules.
+fn compare_check(call: Call, case: &Block, tally: &mut Tally) -> usize {
+    let call = Call { function: Function::CheckResult, ..call };
+    let mut made = call.clone();
+    let reply = made.make();
+    tally.replied(&call, &reply);
+    tally.differs(&rules::expected(call.clone()).differences(&reply, &made), case, &call);
+    1
+}
+
+/// Lookups in what a call left, which is well formed: the filled starts, and the rows and values as they are. Each must
+/// find what the Rust's does, and look at as many places as the driver's own search.
 fn compare_read_back(made: &Call, case: &Block, answer: &Block, tally: &mut Tally) -> usize {
+    let mut call = Call {
+        function: Function::CheckResult,
+        starts: List::new(&made.result_starts[..made.n + 1]),
+        rows: made.result_rows.clone(),
+        values: made.result_values.clone(),
+        ..Call::default()
+    };
+    let before = call.clone();
+    let mut compared = |call: &mut Call, expected: Reply| {
+        let reply = call.make();
+        tally.replied(call, &reply);
+        if !expected.same(&reply) {
+            let (name, row, column) = (call.function.name(), call.row, call.column);
+            tally.differs(&[format!("{name} ({row},{column}): {reply:?} in place of {expected:?}")], case, made);
+        }
+    };
+    compared(&mut call, Reply::default());
     let pairs = pairs(case);
     let gets: Vec<Reply> = answer.items("gets").map(got).collect();
     assert_eq!(gets.len(), pairs.len(), "{}", case.name);
-    for (&(row, column), expected) in pairs.iter().zip(&gets) {
-        let reply = look_up(&made.result_starts[..made.n + 1], &made.result_rows, &made.result_values, row, column);
-        let lookup = Call { function: Function::Get, row, column, ..Call::default() };
-        tally.replied(&lookup, &reply);
-        if !expected.same(&reply) {
-            tally.differs(&[format!("lookup ({row},{column}): {reply:?} in place of {expected:?}")], case, made);
+    for (&(row, column), &expected) in pairs.iter().zip(&gets) {
+        for function in LOOKUPS {
+            (call.function, call.row, call.column) = (function, row, column);
+            let looks = if function == Function::GetCounted { rules::looks(&call) } else { 0 };
+            compared(&mut call, Reply { looks, ..expected });
         }
     }
-    pairs.len()
+    tally.differs(&Expected::untouched(Reply::default(), before).differences(&Reply::default(), &call), case, made);
+    1 + LOOKUPS.len() * pairs.len()
 }
 
 /// The lookups of a `get` case. Document 01 decides where the Rust's columns cannot hold the lists, or are searched as
-/// they are.
+/// they are. In a well-formed result, the lookup without checks must find what the Rust's does.
 fn compare_lookups(mut call: Call, case: &Block, answer: &Block, seed: u64, tally: &mut Tally) -> usize {
     let pairs = pairs(case);
     let fed = answer.field("reply") == "ok";
     let gets: Vec<Reply> = answer.items("gets").map(got).collect();
+    let well_formed = refusal(&Call { function: Function::CheckResult, ..call.clone() }) == 0;
     for (at, &(row, column)) in pairs.iter().enumerate() {
-        (call.row, call.column) = (row, column);
-        let mut made = call.clone();
-        let reply = made.make();
-        tally.replied(&call, &reply);
-        let expected = rules::expected(call.clone());
-        tally.differs(&expected.differences(&reply, &made), case, &call);
-        if !fed {
-            tally.intended(
-                format!("get: document 01 gives {}, the Rust: {}", expected.reply.refusal, answer.field("reply")),
-                case,
-                seed,
-            );
-        } else if !expected.reply.same(&gets[at]) {
-            let rust = if gets[at].refusal == 8 { "none" } else { "a value" };
-            let what = format!("get: document 01 gives {}, the Rust {rust}", expected.reply.refusal);
+        for function in LOOKUPS {
+            (call.function, call.row, call.column) = (function, row, column);
+            let mut made = call.clone();
+            let reply = made.make();
+            tally.replied(&call, &reply);
+            let expected = rules::expected(call.clone());
+            tally.differs(&expected.differences(&reply, &made), case, &call);
+            let found = Reply { looks: 0, ..expected.reply };
+            let number = found.refusal;
+            if fed && found.same(&gets[at]) || (function == Function::GetWellFormed && !well_formed) {
+                continue;
+            }
+            let rust = match fed {
+                false => format!(": {}", answer.field("reply")),
+                true if gets[at].refusal == 8 => " none".to_string(),
+                true => " a value".to_string(),
+            };
+            let what = format!("{}: document 01 gives {number}, the Rust{rust}", function.name());
             // only where document 01 refuses may the Rust say another thing
-            if expected.reply.refusal > 0 {
+            if !fed || (number > 0 && function != Function::GetWellFormed) {
                 tally.intended(what, case, seed);
             } else {
                 tally.differs(&[what], case, &call);
             }
         }
     }
-    pairs.len()
+    LOOKUPS.len() * pairs.len() + compare_check(call, case, tally)
 }
