@@ -245,7 +245,10 @@ fn compare_case(case: &Block, answer: &Block, seed: u64, random: &mut Random, ta
     let more = match call.function {
         Function::Reorder => compare_marked(call, &expected, case, random, tally),
         Function::OperatorVariances => compare_covariances(call, expected, case, random, tally),
-        Function::Diag => compare_check(call, case, tally),
+        Function::Diag => {
+            compare_by_rules(Call { function: Function::CheckResult, ..call }, case, tally);
+            1
+        }
         function if function.selects() && reply.complete() && answer.has("gets") => {
             compare_read_back(&made, case, answer, tally)
         }
@@ -411,14 +414,14 @@ fn got(word: &str) -> Reply {
     }
 }
 
-/// The check of a result's lists, by the driver's own rules.
-fn compare_check(call: Call, case: &Block, tally: &mut Tally) -> usize {
-    let call = Call { function: Function::CheckResult, ..call };
+/// Makes a call, which must do as the driver's own rules say; the reply that they give.
+fn compare_by_rules(call: Call, case: &Block, tally: &mut Tally) -> Reply {
     let mut made = call.clone();
     let reply = made.make();
     tally.replied(&call, &reply);
-    tally.differs(&rules::expected(call.clone()).differences(&reply, &made), case, &call);
-    1
+    let expected = rules::expected(call.clone());
+    tally.differs(&expected.differences(&reply, &made), case, &call);
+    expected.reply
 }
 
 /// Lookups in what a call left, which is well formed: the filled starts, and the rows and values as they are. Each must
@@ -455,39 +458,40 @@ fn compare_read_back(made: &Call, case: &Block, answer: &Block, tally: &mut Tall
     1 + LOOKUPS.len() * pairs.len()
 }
 
-/// The lookups of a `get` case. Document 01 decides where the Rust's columns cannot hold the lists, or are searched as
-/// they are. In a well-formed result, the lookup without checks must find what the Rust's does.
+/// The lookups of a `get` case, and the check of its lists. Document 01 decides where the Rust's columns cannot hold the
+/// lists, or are searched as they are. Where the lists are well formed, the lookup without checks must find what the Rust
+/// does.
 fn compare_lookups(mut call: Call, case: &Block, answer: &Block, seed: u64, tally: &mut Tally) -> usize {
     let pairs = pairs(case);
     let fed = answer.field("reply") == "ok";
     let gets: Vec<Reply> = answer.items("gets").map(got).collect();
-    let well_formed = refusal(&Call { function: Function::CheckResult, ..call.clone() }) == 0;
+    let check = Call { function: Function::CheckResult, ..call.clone() };
+    let well_formed = compare_by_rules(check, case, tally).refusal == 0;
     for (at, &(row, column)) in pairs.iter().enumerate() {
-        for function in LOOKUPS {
-            (call.function, call.row, call.column) = (function, row, column);
-            let mut made = call.clone();
-            let reply = made.make();
-            tally.replied(&call, &reply);
-            let expected = rules::expected(call.clone());
-            tally.differs(&expected.differences(&reply, &made), case, &call);
-            let found = Reply { looks: 0, ..expected.reply };
-            let number = found.refusal;
-            if fed && found.same(&gets[at]) || (function == Function::GetWellFormed && !well_formed) {
-                continue;
-            }
-            let rust = match fed {
-                false => format!(": {}", answer.field("reply")),
-                true if gets[at].refusal == 8 => " none".to_string(),
-                true => " a value".to_string(),
-            };
-            let what = format!("{}: document 01 gives {number}, the Rust{rust}", function.name());
+        (call.row, call.column) = (row, column);
+        let [expected, _, unchecked] =
+            LOOKUPS.map(|function| compare_by_rules(Call { function, ..call.clone() }, case, tally));
+        if !fed {
+            tally.intended(
+                format!("get: document 01 gives {}, the Rust: {}", expected.refusal, answer.field("reply")),
+                case,
+                seed,
+            );
+            continue;
+        }
+        let rust = if gets[at].refusal == 8 { "none" } else { "a value" };
+        if !expected.same(&gets[at]) {
+            let what = format!("get: document 01 gives {}, the Rust {rust}", expected.refusal);
             // only where document 01 refuses may the Rust say another thing
-            if !fed || (number > 0 && function != Function::GetWellFormed) {
+            if expected.refusal > 0 {
                 tally.intended(what, case, seed);
             } else {
                 tally.differs(&[what], case, &call);
             }
         }
+        if well_formed && !unchecked.same(&gets[at]) {
+            tally.differs(&[format!("get_well_formed gives {}, the Rust {rust}", unchecked.refusal)], case, &call);
+        }
     }
-    LOOKUPS.len() * pairs.len() + compare_check(call, case, tally)
+    1 + LOOKUPS.len() * pairs.len()
 }
