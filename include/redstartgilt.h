@@ -137,10 +137,10 @@ uint32_t redstartgilt_check_result(
     const uint32_t *starts, size_t starts_len, const uint32_t *rows, size_t rows_len, const double *values, size_t values_len);
 
 /* The lookup in a result that is known to be well formed: redstartgilt_check_result has accepted it, or a call of this
- * library has filled it, and nothing else has written to its lists since. Refusal and value are then those of
- * redstartgilt_get, bit for bit, but the column is not checked: of its rows the first is read; unless that is the one
- * sought, the last; and then the row's own place where they are one run of consecutive numbers, otherwise about log2 of
- * them. Refuses with 8 alone, where the pair is absent or outside; the value is then 0.0. Writes nothing.
+ * library has filled it, and nothing else has written to its lists since; they are lent as above. Refusal and value are
+ * then those of redstartgilt_get, bit for bit, but the column is not checked: of its rows the first is read; unless that
+ * is the one sought, the last; and then the row's own place where they are one run of consecutive numbers, otherwise
+ * about log2 of them. Refuses with 8 alone, where the pair is absent or outside; the value is then 0.0. Writes nothing.
  *
  * On any other lists it ends, stays inside them and always gives the same answer, but does not tell that they are broken:
  * a value that it gives stands in that column beside that row, and 8 may also mean that there are no starts, that the
