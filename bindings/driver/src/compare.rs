@@ -459,8 +459,7 @@ fn compare_read_back(made: &Call, case: &Block, answer: &Block, tally: &mut Tall
 }
 
 /// The lookups of a `get` case, and the check of its lists. Document 01 decides where the Rust's columns cannot hold the
-/// lists, or are searched as they are. Where the lists are well formed, the lookup without checks must find what the Rust
-/// does.
+/// lists, or are searched as they are. In well-formed lists the lookup without checks must reply as `get`.
 fn compare_lookups(mut call: Call, case: &Block, answer: &Block, seed: u64, tally: &mut Tally) -> usize {
     let pairs = pairs(case);
     let fed = answer.field("reply") == "ok";
@@ -471,16 +470,17 @@ fn compare_lookups(mut call: Call, case: &Block, answer: &Block, seed: u64, tall
         (call.row, call.column) = (row, column);
         let [expected, _, unchecked] =
             LOOKUPS.map(|function| compare_by_rules(Call { function, ..call.clone() }, case, tally));
+        if well_formed && !unchecked.same(&expected) {
+            tally.differs(&[format!("get {expected:?}, get_well_formed {unchecked:?}")], case, &call);
+        }
         if !fed {
             tally.intended(
                 format!("get: document 01 gives {}, the Rust: {}", expected.refusal, answer.field("reply")),
                 case,
                 seed,
             );
-            continue;
-        }
-        let rust = if gets[at].refusal == 8 { "none" } else { "a value" };
-        if !expected.same(&gets[at]) {
+        } else if !expected.same(&gets[at]) {
+            let rust = if gets[at].refusal == 8 { "none" } else { "a value" };
             let what = format!("get: document 01 gives {}, the Rust {rust}", expected.refusal);
             // only where document 01 refuses may the Rust say another thing
             if expected.refusal > 0 {
@@ -488,9 +488,6 @@ fn compare_lookups(mut call: Call, case: &Block, answer: &Block, seed: u64, tall
             } else {
                 tally.differs(&[what], case, &call);
             }
-        }
-        if well_formed && !unchecked.same(&gets[at]) {
-            tally.differs(&[format!("get_well_formed gives {}, the Rust {rust}", unchecked.refusal)], case, &call);
         }
     }
     1 + LOOKUPS.len() * pairs.len()
