@@ -1,0 +1,3 @@
+-- Levels of pairs in words of scratch, and their queue.
+pub mod Levels
+pub mod Closing

@@ -1,0 +1,48 @@
+// Levels of pairs, one word for each, column by column, and behind them a queue of the pairs that have one.
+ghost use Prim.Native.Nat.{_≤_};
+ghost use Rattle.pairs.specs.Pair.{ordered};
+ghost use Rattle.levels.specs.Levels.{InsertLevel, Raised};
+use marked_pairs::PACKING;
+use marked_pairs::column_place;
+use scratch::pair_total;
+
+// Gives the pair (r, c), in order, the level and puts it at the queue's end, unless it has one; returns how many have one.
+fn insert_ordered_level(
+    n: usize,
+    r: usize,
+    c: usize,
+    level: u32,
+    count: usize,
+    scratch: &mut [u32],
+) -> usize
+    requires { ⌜ (c ≤ r) × InsertLevel n r c level (now scratch) count ⌝ }
+    ensures { λ m. ⌜ Raised n level (ordered r c) (now (scratch .entry)) count (now (scratch .exit)) m ⌝ }
+{
+    let p = column_place(n, r, c);
+    if scratch[p] != 0 {
+        return count;
+    }
+    scratch[p] = level;
+    let end = pair_total(n) + count;
+    let w = r * PACKING + c;
+    scratch[end] = w as u32;
+    count + 1
+}
+
+// The same for a pair in either order.
+pub fn insert_level(
+    n: usize,
+    a: usize,
+    b: usize,
+    level: u32,
+    count: usize,
+    scratch: &mut [u32],
+) -> usize
+    requires { ⌜ InsertLevel n a b level (now scratch) count ⌝ }
+    ensures { λ m. ⌜ Raised n level (ordered a b) (now (scratch .entry)) count (now (scratch .exit)) m ⌝ }
+{
+    if a < b {
+        return insert_ordered_level(n, b, a, level, count, scratch);
+    }
+    insert_ordered_level(n, a, b, level, count, scratch)
+}
