@@ -3,23 +3,13 @@ ghost use mathlib.Core.Path.{_≡_};
 ghost use mathlib.Core.Bool.{true};
 ghost use Prim.Native.Nat.{_<_};
 ghost use lib.ListN.{length};
-ghost use Rattle.columns.specs.Kept.{nonzero, keptBelow};
+ghost use Rattle.columns.specs.Kept.{nonzero};
 ghost use Rattle.columns.specs.Factor.{Factor, Column};
 ghost use Rattle.closure.specs.Nested.{Stop, StopInput, StopFound};
 ghost use Rattle.closure.specs.Covered.{FirstKept, PlaceInput, Place, CoveredInput, Covered};
 use kept_entries::diagonal::first_from;
+use kept_entries::kept_below;
 use words::at;
-
-// Whether the entry at q is kept below the diagonal of column c.
-fn kept_below(c: usize, q: usize, rows: &[u32], values: &[f64]) -> bool
-    requires { ⌜ (q < length (now rows)) × (q < length (now values)) ⌝ }
-    ensures { λ r. ⌜ r ≡ keptBelow (now (rows .entry)) (nonzero (now (values .entry))) c q ⌝ }
-{
-    if at(rows, q) <= c {
-        return false;
-    }
-    values[q] != 0.0
-}
 
 // The first place from s to e kept below the diagonal of column c, e if none.
 fn first_descendant(c: usize, s: usize, e: usize, rows: &[u32], values: &[f64]) -> usize

@@ -1,17 +1,28 @@
-// How many entries of a factor that passes 1, 2 and 3 are kept.
+// The kept entries of a factor that passes 1, 2 and 3, and how many they are.
 pub mod diagonal;
 pub mod diagonal_check;
 
 ghost use mathlib.Core.Path.{_≡_};
-ghost use Prim.Native.Nat.{_≤_};
+ghost use Prim.Native.Nat.{_≤_, _<_};
 ghost use lib.ListN.{length};
 ghost use Rattle.lists.specs.Test.{any, anyIn};
 ghost use Rattle.lists.specs.Select.{tally};
 ghost use Rattle.columns.specs.Factor.{Factor, Column};
-ghost use Rattle.columns.specs.Kept.{nonzero, kept, factorPairs};
+ghost use Rattle.columns.specs.Kept.{nonzero, kept, keptBelow, factorPairs};
 ghost use Rattle.kept_entries.specs.Above.{aboveAt, hasAbove};
 use diagonal::first_from;
 use words::at;
+
+// Whether the entry at q is kept below the diagonal of column c.
+pub fn kept_below(c: usize, q: usize, rows: &[u32], values: &[f64]) -> bool
+    requires { ⌜ (q < length (now rows)) × (q < length (now values)) ⌝ }
+    ensures { λ r. ⌜ r ≡ keptBelow (now (rows .entry)) (nonzero (now (values .entry))) c q ⌝ }
+{
+    if at(rows, q) <= c {
+        return false;
+    }
+    values[q] != 0.0
+}
 
 // How many values from s to e are not 0.0. The loop has one exit, so that it is compiled to vector instructions.
 fn nonzero_between(values: &[f64], s: usize, e: usize) -> usize

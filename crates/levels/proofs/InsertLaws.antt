@@ -184,11 +184,17 @@ module _ (n r c level : ℕ) (h : c ≤ r) (l : r < n) where
           ∙ drop-set-lt (pairTotal n + pairTotal n) s place level (omega (arith, below));
     }
 
--- cleared words hold no level
-pub levels-none : (n : ℕ) (s₀ s : List ℕ) → pairTotal n + pairTotal n ≤ length s₀ → s ≡ cleared (pairTotal n) s₀
-    → Levelled n s 0 × ((r c : ℕ) → c ≤ r → r < n → levelWord n s r c ≡ 0) × (length s ≡ length s₀) × (drop (pairTotal n + pairTotal n) s ≡ drop (pairTotal n + pairTotal n) s₀)
-levels-none n s₀ s room z = (
-  record {
+-- words without a level, made of the words s₀
+pub record NoLevels (n : ℕ) (s₀ s : List ℕ) : Type 0 where
+  pub levels : Levelled n s 0
+  pub words : (r c : ℕ) → c ≤ r → r < n → levelWord n s r c ≡ 0
+  pub long : length s ≡ length s₀
+  pub later : drop (pairTotal n + pairTotal n) s ≡ drop (pairTotal n + pairTotal n) s₀
+
+-- cleared words have none
+pub levels-none : (n : ℕ) (s₀ s : List ℕ) → pairTotal n + pairTotal n ≤ length s₀ → s ≡ cleared (pairTotal n) s₀ → NoLevels n s₀ s
+levels-none n s₀ s room z = record {
+  levels = record {
     room = omega (arith, long);
     size =
         sym
@@ -196,11 +202,11 @@ levels-none n s₀ s room z = (
         ∙ sumTo-zero _ (pairTotal n) (λ q l. ap (λ (w : ℕ). bit (ltb 0 w)) (clear q l)));
     queued = λ j l. absurd (not-suc-le-zero l);
     found = λ r c h l t. absurd (omega (arith, t, clear (columnPlace n r c) (columnPlace-below n r c h l)));
-  },
-  λ r c h l. clear (columnPlace n r c) (columnPlace-below n r c h l),
-  long,
-  ap (drop (pairTotal n + pairTotal n)) z ∙ filled-later (λ _. 0) (pairTotal n) (pairTotal n + pairTotal n) s₀ (omega arith),
-)
+  };
+  words = λ r c h l. clear (columnPlace n r c) (columnPlace-below n r c h l);
+  long = long;
+  later = ap (drop (pairTotal n + pairTotal n)) z ∙ filled-later (λ _. 0) (pairTotal n) (pairTotal n + pairTotal n) s₀ (omega arith);
+}
   where
     long : length s ≡ length s₀
     long = ap length z ∙ filled-length (λ _. 0) (pairTotal n) s₀ (omega arith)

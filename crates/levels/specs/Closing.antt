@@ -16,6 +16,7 @@ use Rattle.columns.specs.Kept.{keptBelow, pattern}
 use Rattle.columns.specs.Factor.{Factor}
 use Rattle.closed_set.specs.ClosedSet.{descends, descends-at, descends-found, reach, member, Pattern, Ranged, Needed, needed-range}
 use Rattle.closed_set.specs.FactorPattern.{entry-descends, descends-entry}
+use Rattle.closed_set.specs.Requests.{Requests}
 use Rattle.chains.specs.Distance.{Leads, distance, reach-needed, reach-distance, distance-request}
 use Rattle.chains.specs.Levels.{levelAt, After, reach-level, level-last, levelAt-own, levelAt-stays, levelAt-new}
 use Rattle.marked_pairs.specs.MarkedPairs.{packing, packed, rowOf, columnOf}
@@ -34,6 +35,16 @@ pub record ClosePair (n : ℕ) (starts rows : List ℕ) (values r c level : ℕ)
   pub small : n ≤ maxDimension
   pub factor : Factor n starts rows values
   pub ordered : c ≤ r
+  pub inside : r < n
+  pub positive : 0 < level
+  pub levels : Levelled n s count
+
+-- an entry of a factor's column c, a pair of that column, the level of its dependency, and the words that it is inserted into
+pub record CloseEntry (n : ℕ) (rows : List ℕ) (values r c p level : ℕ) (s : List ℕ) (count : ℕ) : Type 0 where
+  pub small : n ≤ maxDimension
+  pub stored : p < length rows
+  pub weighed : p < values
+  pub row-inside : row rows p < n
   pub inside : r < n
   pub positive : 0 < level
   pub levels : Levelled n s count
@@ -61,12 +72,16 @@ pub record AtLevel (n : ℕ) (desc : ℕ → List ℕ) (req : ℕ → ℕ → Bo
   pub own : (j : ℕ) → lo ≤ j → j < hi → levelWord n s (rowOf (levelQueue n s j)) (columnOf (levelQueue n s j)) ≡ suc k
   pub all : (r c : ℕ) → c ≤ r → r < n → levelWord n s r c ≡ suc k → (j : ℕ) × (lo ≤ j) × (j < hi) × (levelQueue n s j ≡ packed r c)
 
--- a factor and requests whose levels are found
-pub record CloseLevels (n : ℕ) (starts rows : List ℕ) (values : ℕ) (nz : ℕ → Bool) (req : ℕ → ℕ → Bool) (s : List ℕ) (count : ℕ) : Type 0 where
+-- requests, and words for the levels of their pairs
+pub record MarkLevels (n : ℕ) (rs cs s : List ℕ) : Type 0 where
   pub small : n ≤ maxDimension
+  pub requests : Requests n rs cs
+  pub room : pairTotal n + pairTotal n ≤ length s
+
+-- a factor and requests, and words for the levels of the pairs of their closed set
+pub record LevelPairs (n : ℕ) (starts rows : List ℕ) (values : ℕ) (rs cs s : List ℕ) : Type 0 where
   pub factor : Factor n starts rows values
-  pub ranged : Ranged n req
-  pub one : AtLevel n (pattern starts rows nz) req 0 s 0 count
+  pub marks : MarkLevels n rs cs s
 
 -- every pair of the closed set has a level, 1 more than its distance from the requested pairs, and no other pair has one
 pub record AllLevels (n : ℕ) (desc : ℕ → List ℕ) (req : ℕ → ℕ → Bool) (s₀ s : List ℕ) : Type 0 where
@@ -198,6 +213,7 @@ module _ (n : ℕ) (desc : ℕ → List ℕ) (req : ℕ → ℕ → Bool) (P : P
           where
             none : levelWord n s x y ≡ 0
             none = A .words x y h l ∙ levelAt-none n desc req k x y e
+
             go : (b : Bool) → anyIn (test x y) lo hi ≡ b → raised (suc (suc k)) (λ r c. anyIn (test r c) lo hi) (levelWord n s) x y ≡ levelAt n desc req (suc k) x y
             go true t =
                 raised-in (suc (suc k)) (levelWord n s) x y (λ r c. anyIn (test r c) lo hi) none t

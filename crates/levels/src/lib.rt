@@ -1,4 +1,6 @@
 // Levels of pairs, one word for each, column by column, and behind them a queue of the pairs that have one.
+pub mod closing;
+
 ghost use Prim.Native.Nat.{_≤_};
 ghost use Rattle.pairs.specs.Pair.{ordered};
 ghost use Rattle.levels.specs.Levels.{InsertLevel, Raised};

@@ -1,7 +1,7 @@
 use borrow.Author.Tests.{le-ltb, lt-ltb}
 use borrow.Author.Needs.{needs}
-use Rattle.closure.proofs.stops.kept_below.Statement.{statement}
-use Rattle.closure.proofs.stops.kept_below.Tie as tie
+use Rattle.kept_entries.proofs.kept_below.Statement.{statement}
+use Rattle.kept_entries.proofs.kept_below.Tie as tie
 
 at-requires : tie.Need-at-requires
 at-requires c κs = search needs
