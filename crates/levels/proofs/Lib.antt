@@ -1,1 +1,2 @@
 pub mod InsertLaws
+pub mod BackLaws

@@ -1,4 +1,5 @@
 // Levels of pairs, one word for each, column by column, and behind them a queue of the pairs that have one.
+pub mod chain;
 pub mod closing;
 
 ghost use Prim.Native.Nat.{_≤_};

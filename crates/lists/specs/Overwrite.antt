@@ -74,6 +74,19 @@ module _ {A : Type 0} where
       set-past (take a old) (overwrite new (drop a old)) a (length new) x (length-take-le a old (omega arith))
       ∙ ap (λ (l : List A). take a old ++ l) (overwrite-more new (drop a old) x (simp length-drop (omega arith)))
 
+  -- one more place, before the others
+  pub splice-before : (a : ℕ) (new old : List A) (x : A) → a < length old → set (splice (suc a) new old) a x ≡ splice a (x ∷ new) old
+  unfolding splice overwrite
+  splice-before zero new [] x h = absurd (omega arith)
+  splice-before zero new (y ∷ old) x h = refl
+  splice-before (suc a) new [] x h = absurd (omega arith)
+  splice-before (suc a) new (y ∷ old) x h = ap (λ (l : List A). y ∷ l) (splice-before a new old x (omega arith))
+
+  -- from the first place on
+  pub splice-first : (new old : List A) → splice 0 new old ≡ overwrite new old
+  unfolding splice
+  splice-first new old = refl
+
   pub splice-length : (a : ℕ) (new old : List A) → a + length new ≤ length old → length (splice a new old) ≡ length old
   unfolding splice
   splice-length a new old h =

@@ -50,7 +50,6 @@ words-cleared : (d : tie.After-clear Inv-loop μ-loop) →
     cleared (d .before .pair-total .result) (now (a .scratch)) ≡ cleared (pairTotal (a .n)) (now (a .scratch))
 words-cleared d = let a = d .before .before .before .before .before .before .args in ap (λ (m : ℕ). cleared m (now (a .scratch))) (d .before .pair-total .ensures .0)
 
-
 pair-total-requires : tie.Need-pair-total-requires Inv-loop μ-loop
 pair-total-requires c κs = search needs
 
