@@ -14,7 +14,7 @@ use Rattle.columns.specs.Kept.{keptBelow, pattern}
 use Rattle.columns.specs.Factor.{Factor, FirstFrom, factor-column}
 use Rattle.closed_set.specs.ClosedSet.{descends}
 use Rattle.closed_set.specs.FactorPattern.{entry-descends, descends-entry}
-use Rattle.chains.specs.Least.{least, least-is, least-none}
+use Rattle.chains.specs.Least.{least, least-most, least-is, least-none}
 use Rattle.levels.specs.Back.{aboveAt, besideAt, backColumn, backRow}
 
 module _ {n : ℕ} {starts rows : List ℕ} {values : ℕ} (nz : ℕ → Bool) (F : Factor n starts rows values) (j d p : ℕ) (h : j < n)
@@ -71,3 +71,16 @@ module _ (desc : ℕ → List ℕ) (W : ℕ → ℕ → ℕ) (level r c : ℕ) w
   back-none none e =
       let q : backColumn desc W level r c ≡ c = least-none either c (λ i m. any-below either c i none m) in
       (sym (ap (λ (b : Bool). cond b c r) (ap (aboveAt desc W level r c) q ∙ e)), sym q)
+
+  back-most : backColumn desc W level r c ≤ c
+  unfolding backColumn
+  back-most = least-most either c
+
+  -- it is in order, and its row not past r
+  pub back-range : c ≤ r → (backColumn desc W level r c ≤ backRow desc W level r c) × (backRow desc W level r c ≤ r)
+  unfolding backRow
+  back-range h = go (aboveAt desc W level r c (backColumn desc W level r c)) back-most
+    where
+      go : (b : Bool) → backColumn desc W level r c ≤ c → (backColumn desc W level r c ≤ cond b c r) × (cond b c r ≤ r)
+      go true l = (omega arith, omega arith)
+      go false l = (omega arith, omega arith)

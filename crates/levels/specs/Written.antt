@@ -26,5 +26,6 @@ pub record BackInput (n : ℕ) (starts rows : List ℕ) (values r c : ℕ) (s : 
 pub record WriteInput (n : ℕ) (starts rows : List ℕ) (values r c level : ℕ) (s : List ℕ) (rowsRoom columnsRoom : ℕ) : Type 0 where
   pub back : BackInput n starts rows values r c s
   pub positive : 0 < level
+  pub short : level ≤ 2 * n + 1
   pub rows-room : level ≤ rowsRoom
   pub columns-room : level ≤ columnsRoom

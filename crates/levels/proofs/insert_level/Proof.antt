@@ -1,15 +1,8 @@
 use borrow.Author.Needs.{needs}
-use native.Mathlib.Omega.{arith}
-use Prim.Native.Nat.{ℕ, _≤_, _<_, _-_, _+_}
-use mathlib.Core.Path.{_≡_, refl, ap, sym, _∙_}
-use lib.ListN.{length, getD}
 use Rattle.levels.specs.Levels.{raised-cong}
 use Rattle.levels.proofs.InsertLaws.{ordered-turned}
 use Rattle.levels.proofs.insert_level.Statement.{statement}
 use Rattle.levels.proofs.insert_level.Tie as tie
-use Rattle.levels.proofs.insert_level.Reads as reads
-use Rattle.levels.proofs.insert_level.Lts as lts
-use Rattle.levels.proofs.insert_ordered_level.Reads as insert-ordered-level-reads
 
 -- src/lib.rt:45:9
 insert-ordered-level-requires : tie.Need-insert-ordered-level-requires

@@ -1,7 +1,7 @@
 use borrow.Author.Needs.{needs}
 use native.Mathlib.Omega.{arith}
-use Prim.Native.Nat.{ℕ, _≤_, _<_, _-_, _+_}
-use mathlib.Core.Path.{_≡_, refl, ap, sym, _∙_}
+use Prim.Native.Nat.{ℕ, _<_, _+_}
+use mathlib.Core.Path.{_≡_, ap, sym, _∙_}
 use lib.ListN.{length, getD}
 use denote.Ref.{now}
 use lib.ListN.{set, length-set}
@@ -13,10 +13,6 @@ use Rattle.levels.specs.Levels.{levelWord, Raised}
 use Rattle.levels.proofs.InsertLaws.{insert-old, insert-new, end-room}
 use Rattle.levels.proofs.insert_ordered_level.Statement.{statement}
 use Rattle.levels.proofs.insert_ordered_level.Tie as tie
-use Rattle.levels.proofs.insert_ordered_level.Reads as reads
-use Rattle.levels.proofs.insert_ordered_level.Lts as lts
-use Rattle.marked_pairs.proofs.column_place.Reads as column-place-reads
-use Rattle.scratch.proofs.pair_total.Reads as pair-total-reads
 
 positive : {w : ℕ} → (w ≡ 0 → ⊥) → 0 < w
 positive h = omega arith

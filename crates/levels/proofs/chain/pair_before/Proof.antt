@@ -1,63 +1,99 @@
 use borrow.Author.Needs.{needs}
 use native.Mathlib.Omega.{arith}
-use Prim.Native.Nat.{ℕ, _≤_, _<_, _-_, _+_}
-use mathlib.Core.Path.{_≡_, refl, ap, sym, _∙_}
-use lib.ListN.{length, getD}
+use Prim.Native.Nat.{ℕ, _≤_, _-_}
+use mathlib.Core.Path.{_≡_, ap₂, sym, subst, _∙_}
+use mathlib.Core.Bool.{false, _||_}
+use Rattle.lists.specs.Test.{any, any-none, any-more}
+use Rattle.columns.specs.Kept.{nonzero, pattern}
+use Rattle.levels.specs.Levels.{levelWord}
+use Rattle.levels.proofs.BackLaws.{either, back-above, back-beside, back-none}
 use Rattle.levels.proofs.chain.pair_before.Statement.{statement}
 use Rattle.levels.proofs.chain.pair_before.Tie as tie
-use Rattle.levels.proofs.chain.pair_before.Reads as reads
-use Rattle.levels.proofs.chain.pair_before.Lts as lts
-use Rattle.levels.proofs.chain.leads.Reads as leads-reads
 
 abbrev Inv-loop : tie.InvT-loop
-Inv-loop n starts rows values r c level scratch j₀ j = ?
+Inv-loop n starts rows values r c level scratch j₀ j =
+    (j ≤ c) × (any (either (pattern starts rows (nonzero values)) (levelWord n scratch) level r c) j ≡ false)
 
 abbrev μ-loop : tie.MeasureT-loop
-μ-loop n starts rows values r c level scratch j₀ j = ?
+μ-loop n starts rows values r c level scratch j₀ j = c - j
 
--- src/chain.rt:79:5
 loop-holds : tie.Need-loop-holds Inv-loop μ-loop
-loop-holds c = search needs
+loop-holds c =
+    (omega arith, any-none _)
 
--- src/chain.rt:80:12
 leads-requires : tie.Need-leads-requires Inv-loop μ-loop
-leads-requires c κs = search needs
+leads-requires c κs =
+    let q = c .before in
+    let B = q .before .before .before .before .before .pre in
+    record { small = B .small; factor = B .factor; room = B .room; ordered = omega (arith, B .ordered, c .loop-test .taken); inside = omega (arith, B .ordered, B .inside) }
 
--- src/chain.rt:81:13
 returns : tie.Need-returns Inv-loop μ-loop
-returns c = search needs
+returns c =
+    let q = c .before .before .before in
+    let s = q .before .before .before .before .before in
+    let a = s .args in
+    let desc = pattern (a .starts .now) (a .rows .now) (nonzero (a .values .now)) in
+    let W = levelWord (a .n) (a .scratch .now) in
+    back-above desc W (a .level) (a .r) (a .c) (q .loop .j) (q .loop .inv .0) (q .loop .inv .1) (sym (c .before .leads .ensures) ∙ c .if1 .taken)
 
--- src/chain.rt:83:12
 leads-requires-2 : tie.Need-leads-requires-2 Inv-loop μ-loop
-leads-requires-2 c κs = search needs
+leads-requires-2 c κs =
+    let q = c .before .before .before in
+    let B = q .before .before .before .before .before .pre in
+    record { small = B .small; factor = B .factor; room = B .room; ordered = omega (arith, B .ordered, c .before .before .loop-test .taken); inside = omega (arith, B .ordered, B .inside) }
 
--- src/chain.rt:84:13
 returns-2 : tie.Need-returns-2 Inv-loop μ-loop
-returns-2 c = search needs
+returns-2 c =
+    let q = c .before .before .before .before .before in
+    let s = q .before .before .before .before .before in
+    let a = s .args in
+    let desc = pattern (a .starts .now) (a .rows .now) (nonzero (a .values .now)) in
+    let W = levelWord (a .n) (a .scratch .now) in
+    let e = c .before .before in
+    back-beside desc W (a .level) (a .r) (a .c) (q .loop .j) (q .loop .inv .0) (q .loop .inv .1) (sym (e .before .leads .ensures) ∙ e .if1 .left) (sym (c .before .leads2 .ensures) ∙ c .if2 .taken)
 
--- src/chain.rt:86:9
 add-j : tie.Need-add-j Inv-loop μ-loop
 add-j c = search needs
 
--- src/chain.rt:79:5
 loop-less : tie.Need-loop-less Inv-loop μ-loop
 loop-less c = search needs
 
--- src/chain.rt:79:5
 loop-again : tie.Need-loop-again Inv-loop μ-loop
-loop-again c = search needs
+loop-again c =
+    let q = c .before .before .before .before .before in
+    let s = q .before .before .before .before .before in
+    let a = s .args in
+    let desc = pattern (a .starts .now) (a .rows .now) (nonzero (a .values .now)) in
+    let W = levelWord (a .n) (a .scratch .now) in
+    let e = c .before .before in
+    let t : either desc W (a .level) (a .r) (a .c) (q .loop .j) ≡ false = ap₂ _||_ (sym (e .before .leads .ensures) ∙ e .if1 .left) (sym (c .before .leads2 .ensures) ∙ c .if2 .left) in
+    (omega (arith, e .before .before .loop-test .taken), any-more (either desc W (a .level) (a .r) (a .c)) (q .loop .j) (q .loop .inv .1) t)
 
--- src/chain.rt:88:8
 leads-requires-3 : tie.Need-leads-requires-3 Inv-loop μ-loop
-leads-requires-3 c κs = search needs
+leads-requires-3 c κs =
+    let q = c .before in
+    let B = q .before .before .before .before .before .pre in
+    record { small = B .small; factor = B .factor; room = B .room; ordered = omega (arith, B .ordered, c .before .loop .inv .0); inside = omega (arith, B .ordered, B .inside) }
 
--- src/chain.rt:89:9
 returns-3 : tie.Need-returns-3 Inv-loop μ-loop
-returns-3 c = search needs
+returns-3 c =
+    let q = c .before .before .before in
+    let s = q .before .before .before .before .before in
+    let a = s .args in
+    let desc = pattern (a .starts .now) (a .rows .now) (nonzero (a .values .now)) in
+    let W = levelWord (a .n) (a .scratch .now) in
+    let e : q .loop .j ≡ a .c = omega (arith, c .before .before .loop-test .left, q .loop .inv .0) in
+    back-above desc W (a .level) (a .r) (a .c) (a .c) (omega arith) (subst (λ (k : ℕ). any (either desc W (a .level) (a .r) (a .c)) k ≡ false) e (q .loop .inv .1)) (sym (c .before .leads3 .ensures) ∙ c .if3 .taken)
 
--- src/chain.rt:64:1
 returns-4 : tie.Need-returns-4 Inv-loop μ-loop
-returns-4 c = search needs
+returns-4 c =
+    let q = c .before .before .before in
+    let s = q .before .before .before .before .before in
+    let a = s .args in
+    let desc = pattern (a .starts .now) (a .rows .now) (nonzero (a .values .now)) in
+    let W = levelWord (a .n) (a .scratch .now) in
+    let e : q .loop .j ≡ a .c = omega (arith, c .before .before .loop-test .left, q .loop .inv .0) in
+    back-none desc W (a .level) (a .r) (a .c) (subst (λ (k : ℕ). any (either desc W (a .level) (a .r) (a .c)) k ≡ false) e (q .loop .inv .1)) (sym (c .before .leads3 .ensures) ∙ c .if3 .left)
 
 pub pair-before-spec : {M : Type 1} → statement M
 pair-before-spec =

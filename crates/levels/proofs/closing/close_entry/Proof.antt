@@ -1,8 +1,6 @@
 use borrow.Author.Needs.{needs}
-use native.Mathlib.Omega.{arith}
-use Prim.Native.Nat.{ℕ, _≤_, _<_, _-_, _+_}
-use mathlib.Core.Path.{_≡_, refl, ap, sym, _∙_}
-use lib.ListN.{length, getD}
+use Prim.Native.Nat.{ℕ}
+use mathlib.Core.Path.{ap, sym, _∙_}
 use denote.Ref.{now}
 use mathlib.Core.Bool.{Bool, _&&_}
 use Rattle.pairs.specs.Pair.{ordered}
@@ -10,11 +8,6 @@ use Rattle.columns.specs.Columns.{row}
 use Rattle.levels.specs.Levels.{raised-none, raised-cong}
 use Rattle.levels.proofs.closing.close_entry.Statement.{statement}
 use Rattle.levels.proofs.closing.close_entry.Tie as tie
-use Rattle.levels.proofs.closing.close_entry.Reads as reads
-use Rattle.levels.proofs.closing.close_entry.Lts as lts
-use Rattle.kept_entries.proofs.kept_below.Reads as kept-below-reads
-use Rattle.levels.proofs.insert_level.Reads as insert-level-reads
-use Rattle.words.proofs.at.Reads as at-reads
 
 kept-below-requires : tie.Need-kept-below-requires
 kept-below-requires c κs = search needs

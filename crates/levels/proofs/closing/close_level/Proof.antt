@@ -1,22 +1,16 @@
 use borrow.Author.Needs.{needs}
 use native.Mathlib.Omega.{arith}
-use Prim.Native.Nat.{ℕ, _≤_, _<_, _-_, _+_}
+use Prim.Native.Nat.{ℕ, _≤_, _-_, _+_}
 use mathlib.Core.Path.{_≡_, ap, sym, subst, _∙_}
-use lib.ListN.{length, getD}
+use lib.ListN.{getD}
 use denote.Ref.{now}
 use Rattle.lists.specs.Test.{anyIn, anyIn-none}
-use Rattle.pairs.specs.Pair.{pairTotal, pairTotal-small}
+use Rattle.pairs.specs.Pair.{pairTotal-small}
 use Rattle.columns.specs.Kept.{nonzero, pattern}
-use Rattle.marked_pairs.specs.MarkedPairs.{rowOf, columnOf}
 use Rattle.levels.specs.Levels.{levelQueue, QueuedLevel, Raised, raised-none, raised-next, raised-cong, levelled-most}
 use Rattle.levels.specs.Closing.{wordDepends}
 use Rattle.levels.proofs.closing.close_level.Statement.{statement}
 use Rattle.levels.proofs.closing.close_level.Tie as tie
-use Rattle.levels.proofs.closing.close_level.Reads as reads
-use Rattle.levels.proofs.closing.close_level.Lts as lts
-use Rattle.levels.proofs.closing.close_pair.Reads as close-pair-reads
-use Rattle.scratch.proofs.pair_total.Reads as pair-total-reads
-use Rattle.words.proofs.at.Reads as at-reads
 
 abbrev Inv-loop : tie.InvT-loop
 Inv-loop n starts rows values lo hi level scratch₀ start count₀ j₀ scratch count j =

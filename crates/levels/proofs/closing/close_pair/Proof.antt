@@ -1,8 +1,8 @@
 use borrow.Author.Needs.{needs}
 use native.Mathlib.Omega.{arith}
 use Prim.Native.Nat.{ℕ, _≤_, _<_, _-_, _+_}
-use mathlib.Core.Path.{_≡_, ap, ap₂, sym, _∙_}
-use lib.ListN.{length, getD}
+use mathlib.Core.Path.{_≡_, ap₂, _∙_}
+use lib.ListN.{length}
 use denote.Ref.{now}
 use mathlib.Core.Bool.{Bool, _&&_}
 use mathlib.Core.List.{List}
@@ -16,10 +16,6 @@ use Rattle.levels.specs.Levels.{Raised, raised-none, raised-next, raised
 use Rattle.levels.specs.Closing.{column-depends}
 use Rattle.levels.proofs.closing.close_pair.Statement.{statement}
 use Rattle.levels.proofs.closing.close_pair.Tie as tie
-use Rattle.levels.proofs.closing.close_pair.Reads as reads
-use Rattle.levels.proofs.closing.close_pair.Lts as lts
-use Rattle.levels.proofs.closing.close_entry.Reads as close-entry-reads
-use Rattle.words.proofs.at.Reads as at-reads
 
 -- (x, y) is the dependency that the entry at p gives (r, c)
 abbrev entryDepends : List ℕ → List Float → ℕ → ℕ → ℕ → ℕ → ℕ → Bool

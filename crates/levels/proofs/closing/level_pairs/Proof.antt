@@ -1,8 +1,8 @@
 use borrow.Author.Needs.{needs}
 use native.Mathlib.Omega.{arith}
-use Prim.Native.Nat.{ℕ, suc, _≤_, _<_, _-_, _+_}
-use mathlib.Core.Path.{_≡_, refl, sym, subst, _∙_}
-use lib.ListN.{length, getD}
+use Prim.Native.Nat.{ℕ, suc, _≤_, _-_, _+_}
+use mathlib.Core.Path.{_≡_, refl, subst, _∙_}
+use lib.ListN.{length}
 use denote.Ref.{now}
 use lib.ListN.{drop}
 use mathlib.Core.Bool.{Bool}
@@ -18,10 +18,6 @@ use Rattle.levels.specs.Levels.{levelQueue, Raised, levelled-most}
 use Rattle.levels.specs.Closing.{AtLevel, wordDepends, one-level, level-next, level-end}
 use Rattle.levels.proofs.closing.level_pairs.Statement.{statement}
 use Rattle.levels.proofs.closing.level_pairs.Tie as tie
-use Rattle.levels.proofs.closing.level_pairs.Reads as reads
-use Rattle.levels.proofs.closing.level_pairs.Lts as lts
-use Rattle.levels.proofs.closing.close_level.Reads as close-level-reads
-use Rattle.levels.proofs.closing.mark_levels.Reads as mark-levels-reads
 
 -- one level further, the level given in other words
 next-level : {n : ℕ} (desc : ℕ → List ℕ) (req : ℕ → ℕ → Bool) → Pattern n desc → Ranged n req → n ≤ maxDimension

@@ -1,7 +1,7 @@
 use borrow.Author.Needs.{needs}
 use native.Mathlib.Omega.{arith}
-use Prim.Native.Nat.{ℕ, _≤_, _<_, _-_, _+_}
-use mathlib.Core.Path.{_≡_, refl, ap, sym, _∙_}
+use Prim.Native.Nat.{ℕ, _≤_, _-_}
+use mathlib.Core.Path.{_≡_, refl, ap, _∙_}
 use lib.ListN.{length, getD}
 use denote.Ref.{now}
 use mathlib.Core.List.{List}
@@ -12,16 +12,10 @@ use Rattle.lists.specs.Test.{any, any-none}
 use Rattle.lists.specs.Overwrite.{cleared}
 use Rattle.pairs.specs.Pair.{pairTotal, ordered}
 use Rattle.closed_set.specs.Requests.{requested}
-use Rattle.levels.specs.Levels.{levelWord, raised, Raised, raised-none, raised-more, raised-cong, raised-in, raised-out}
+use Rattle.levels.specs.Levels.{raised, Raised, raised-none, raised-more, raised-cong}
 use Rattle.levels.proofs.InsertLaws.{levels-none}
 use Rattle.levels.proofs.closing.mark_levels.Statement.{statement}
 use Rattle.levels.proofs.closing.mark_levels.Tie as tie
-use Rattle.levels.proofs.closing.mark_levels.Reads as reads
-use Rattle.levels.proofs.closing.mark_levels.Lts as lts
-use Rattle.levels.proofs.insert_level.Reads as insert-level-reads
-use Rattle.scratch.proofs.pair_total.Reads as pair-total-reads
-use Rattle.words.proofs.at.Reads as at-reads
-use Rattle.words.proofs.clear.Reads as clear-reads
 
 -- the pairs of the first i requests
 abbrev before : List ℕ → List ℕ → ℕ → ℕ → ℕ → Bool
