@@ -59,6 +59,10 @@ typedef struct {
 /* The reply of a lookup: a refusal, or the value. */
 typedef struct { uint32_t refusal; double value; } redstartgilt_entry;
 
+/* The reply of a lookup that counts: a refusal, or the value; and how many places of the column its search looked at,
+ * also where the pair is absent. */
+typedef struct { uint32_t refusal; double value; size_t looks; } redstartgilt_counted_entry;
+
 /* The reply of a pattern list: a refusal, or the number of pairs written. */
 typedef struct { uint32_t refusal; size_t pairs; } redstartgilt_pairs;
 
@@ -111,8 +115,37 @@ redstartgilt_selected redstartgilt_selected_inverse_entries(
  * the n + 1 filled starts; rows and values may be longer than filled. Refuses with 2 where there are no starts, then
  * with 8 where the lesser index is outside; then, of the column looked in, with 2 for starts that fall or pass rows or
  * values and with 3 for a row not above the one before it; then with 8 where the pair is absent or outside. The value
- * is 0.0 on a refusal. Writes nothing. */
+ * is 0.0 on a refusal. Writes nothing. To find 3 it reads every row of the column; redstartgilt_get_well_formed does not. */
 redstartgilt_entry redstartgilt_get(
+    const uint32_t *starts, size_t starts_len, const uint32_t *rows, size_t rows_len, const double *values, size_t values_len,
+    size_t row, size_t column);
+
+/* The same lookup, with a count: refusal and value are those of redstartgilt_get, at the same cost, and looks is how many
+ * places the search in the column looks at, repeats included. The search looks at the first place of its part and,
+ * unless the row stands there, at place m/2, rounded down, of its m; then it goes on in what lies below that place, the
+ * first among it, or above. So looks is 1 where the row stands first in its column, as a diagonal of a filled result
+ * does, and never more than twice the binary digits of the column's number of rows. An absent row has its looks too;
+ * looks is 0 where the search is not reached, which is on 2, on 3 and for an index outside. */
+redstartgilt_counted_entry redstartgilt_get_counted(
+    const uint32_t *starts, size_t starts_len, const uint32_t *rows, size_t rows_len, const double *values, size_t values_len,
+    size_t row, size_t column);
+
+/* Whether a result is well formed, so that the call below may be used on it. Refuses with 2 where there are no starts;
+ * then, column by column, with 2 for starts that fall or pass rows or values and with 3 for a row not above the one
+ * before it; the first column at fault decides. It reads every start and every row once. Writes nothing. */
+uint32_t redstartgilt_check_result(
+    const uint32_t *starts, size_t starts_len, const uint32_t *rows, size_t rows_len, const double *values, size_t values_len);
+
+/* The lookup in a result that is known to be well formed: redstartgilt_check_result has accepted it, or a call of this
+ * library has filled it, and nothing else has written to its lists since; they are lent as above. Refusal and value are
+ * then those of redstartgilt_get, bit for bit, but the column is not checked: of its rows the first is read; unless that
+ * is the one sought, the last; and then the row's own place where they are one run of consecutive numbers, otherwise
+ * about log2 of them. Refuses with 8 alone, where the pair is absent or outside; the value is then 0.0. Writes nothing.
+ *
+ * On any other lists it ends, stays inside them and always gives the same answer, but does not tell that they are broken:
+ * a value that it gives stands in that column beside that row, and 8 may also mean that there are no starts, that the
+ * column's starts fall or pass rows or values, or that the search has passed the row by. */
+redstartgilt_entry redstartgilt_get_well_formed(
     const uint32_t *starts, size_t starts_len, const uint32_t *rows, size_t rows_len, const double *values, size_t values_len,
     size_t row, size_t column);
 

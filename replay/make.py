@@ -29,7 +29,9 @@ What the answers file holds is the Rust's answer with these changes:
 - `route` and `finish`, which a call does not tell, are left out.
 
 The Rust has no reader of Matrix Market files. The answers of kind `mmread` are those of `read_file`
-below, which follows document 02's text, and the files of the set `mmread` are made here too.
+below, which follows document 02's text, and the files of the set `mmread` are made here too. Nor does it
+count the places that a search looks at: of kind `search` places and looks are those of `search` below,
+and the columns of the set are made here.
 """
 import collections, itertools, math, os, random, re, struct, subprocess, sys
 
@@ -42,6 +44,7 @@ SETS = {
     "exact": (80, 3000, 12),
     "grid": (24, 60000, 6),
     "lookup": (100, 3000, 12),
+    "search": (60, 1500, 12),
     "default": (60, 6000, 12),
     "refuse": (140, 2000, 12),
     "diagorig": (60, 4000, 12),
@@ -70,6 +73,7 @@ PATTERN = {"lscratch": ENTRIES, "lprows": ENTRIES, "lpcols": ENTRIES}
 LENT = {
     "entries": RESULT,
     "get": {},
+    "search": {},
     "diag": MARKED,
     "patfactor": PATTERN,
     "patoperator": PATTERN,
@@ -88,6 +92,7 @@ LENT = {
 READ = {
     "entries": FACTOR + ("rdim", "rrows", "rcols", "limit", "prows", "pcols"),
     "get": FACTOR[1:] + ("prows", "pcols"),
+    "search": ("rows", "sought"),
     "diag": FACTOR[1:],
     "patfactor": FACTOR,
     "patoperator": OPERATOR,
@@ -532,6 +537,34 @@ def floor_refusals(f):
         yield 7
 
 
+# ---- document 02: the search in a column
+
+
+def search(rows, sought):
+    """The place of a row, None where it is absent, and how many places are looked at; what is left is from low to below high."""
+    low, high, looks = 0, len(rows), 0
+    while low < high:
+        middle = low + (high - low) // 2
+        for place in (low, middle):
+            looks += 1
+            if rows[place] == sought:
+                return place, looks
+        low, high = (low, middle) if sought < rows[middle] else (middle + 1, high)
+    return None, looks
+
+
+def searches(f):
+    assert all(a < b for a, b in zip(f["rows"], f["rows"][1:]))
+    return [search(f["rows"], row) for row in f["sought"]]
+
+
+def search_answer(f):
+    found = searches(f)
+    places = ["none" if place is None else str(place) for place, _ in found]
+    looks = [str(count) for _, count in found]
+    return ["reply ok"] + [" ".join([name, str(len(found))] + words) for name, words in (("places", places), ("looks", looks))]
+
+
 # ---- document 02: the covariances of rows of two operators
 
 
@@ -628,6 +661,7 @@ def no_refusals(f):
 REFUSALS = {
     "entries": entries_refusals,
     "get": no_refusals,
+    "search": no_refusals,
     "diag": diag_refusals,
     "patfactor": patfactor_refusals,
     "patoperator": patoperator_refusals,
@@ -775,6 +809,8 @@ def expected(kind, f, answer):
     got = {x.split()[0]: x.split()[1:] for x in answer or []}
     if kind == "get":
         return get_answer(f, got)
+    if kind == "search":
+        return search_answer(f), None
     number, difference = refusal(kind, f), None
     if kind == "mmread" and not number:
         got = mmread_answer(f)
@@ -916,6 +952,42 @@ def some_files(seed=1):
         yield "mmread-%d" % k, f
 
 
+# how many columns the set search has
+COLUMNS = 1000
+
+
+def some_rows(chance):
+    """The rows of a column: one after the other, with small gaps, or with gaps of any size; some of them to the largest number."""
+    count = chance.pick((0, 1, 2, 3, 4, 5, 6, 7, 8, 9, 15, 16, 17, 31, 32, 33, chance.below(130)))
+    gap = chance.pick((1, 1, 2, 3, 9, 2**32 // (count + 2)))
+    rows, row = [], chance.pick((0, 0, 1, chance.below(50)))
+    for _ in range(count):
+        rows.append(row)
+        row += 1 + chance.below(gap)
+    more = 2**32 - row if chance.one_of(10) else 0
+    return [row + more for row in rows]
+
+
+def some_sought(chance, rows):
+    """Rows of a column, those beside them, and any."""
+    for _ in range(chance.pick((1, 2, 4, 8, 12))):
+        row = chance.pick(rows) if rows and not chance.one_of(8) else chance.pick((0, 2**32 - 1, chance.below(2**32)))
+        beside = chance.pick((-1, 1)) if chance.one_of(3) else 0
+        yield min(max(row + beside, 0), 2**32 - 1)
+
+
+def some_searches(seed=1):
+    """Cases of search; every third seeks each row of its column."""
+    chance = Chance(int(seed))
+    for k in range(COLUMNS):
+        rows = some_rows(chance)
+        yield "search-%d" % k, {"rows": rows, "sought": rows if k % 3 == 2 else list(some_sought(chance, rows))}
+
+
+# the sets that are made here, of the kind of the same name, of which the Rust is not asked
+MADE = {"mmread": some_files, "search": some_searches}
+
+
 def some_marked(programs, *seed):
     """Cases of permmarked: those of the set perm that apply a permutation, with marks, most of them as many as elements."""
     chance = Chance(int(seed[0]) if seed else 1)
@@ -1033,8 +1105,8 @@ def answered(programs, cases):
 
 def generated(programs, name, *seed):
     """Every case of a set that the program can hold."""
-    if name == "mmread":
-        return [finished(i, name, f, None) for i, f in some_files(*seed) if fits(name, f)]
+    if name in MADE:
+        return [finished(i, name, f, None) for i, f in MADE[name](*seed) if fits(name, f)]
     if name == "covar":
         return answered(programs, [c for c in some_covar(programs, *seed) if fits(*c[1:])])
     if name == "permmarked":
@@ -1059,12 +1131,15 @@ def given(programs):
         f, expect = readable_fields(lines)
         assert name not in names and fits(kind, f), name
         names.add(name)
-        number = [0 if is_value(x) else x for x in lookups(f)] if kind == "get" else [refusal(kind, f)]
+        if kind == "search":
+            number = [looks for _, looks in searches(f)]
+        else:
+            number = [0 if is_value(x) else x for x in lookups(f)] if kind == "get" else [refusal(kind, f)]
         assert number == expect, "%s: expects %s, document 01 gives %s" % (name, expect, number)
         lent = [x in f for x in LENT[kind]]
         assert all(lent) or not any(lent) or kind == "diag", name
         cases.append((name, kind, f))
-        if kind != "mmread" and (kind == "get" or number[0] in (0, 8)):
+        if kind not in MADE and (kind == "get" or number[0] in (0, 8)):
             questioned.append((name, kind, f))
     said = {c[0]: answer for c, answer in zip(questioned, answers(programs, questioned))}
     return [finished(*c, said.get(c[0])) for c in cases]

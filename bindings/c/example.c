@@ -52,8 +52,29 @@ int main(void)
         result_starts, COUNT(result_starts), result_rows, COUNT(result_rows), result_values, COUNT(result_values), 2, 0);
     printf("lookup (2, 0): refusal %u\n", (unsigned)entry.refusal);
 
+    /* A diagonal stands first in its column, and is found at the first look. */
+    for (size_t row = 0; row < 2; row++) {
+        redstartgilt_counted_entry counted = redstartgilt_get_counted(
+            result_starts, COUNT(result_starts), result_rows, COUNT(result_rows), result_values, COUNT(result_values),
+            row, 0);
+        printf("lookup (%zu, 0): refusal %u, %.17g, looks %zu\n",
+            row, (unsigned)counted.refusal, counted.value, counted.looks);
+    }
+
+    /* Lists that the library has filled are well formed; those from elsewhere are checked once, before all lookups. */
+    entry = redstartgilt_get_well_formed(
+        result_starts, COUNT(result_starts), result_rows, COUNT(result_rows), result_values, COUNT(result_values), 0, 1);
+    printf("lookup (0, 1) in a well-formed result: refusal %u, %.17g\n", (unsigned)entry.refusal, entry.value);
+    const uint32_t falling_rows[] = {1, 0, 1};
+    uint32_t refusal = redstartgilt_check_result(
+        result_starts, COUNT(result_starts), result_rows, COUNT(result_rows), result_values, COUNT(result_values));
+    printf("result: refusal %u", (unsigned)refusal);
+    refusal = redstartgilt_check_result(
+        result_starts, COUNT(result_starts), falling_rows, COUNT(falling_rows), result_values, COUNT(result_values));
+    printf(", with falling rows: refusal %u\n", (unsigned)refusal);
+
     /* The marks tell a cell that was not computed from one of variance 0. */
-    uint32_t refusal = redstartgilt_diag(
+    refusal = redstartgilt_diag(
         result_starts, COUNT(result_starts), result_rows, COUNT(result_rows), result_values, COUNT(result_values),
         diagonal, COUNT(diagonal), marks, COUNT(marks));
     redstartgilt_least least = redstartgilt_count_and_least(diagonal, COUNT(diagonal));

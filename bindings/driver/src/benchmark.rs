@@ -11,6 +11,7 @@ use crate::compare::{call_of, differences};
 use crate::grid::grid;
 use crate::lend::lend;
 use crate::list::List;
+use crate::lookups;
 use crate::random::Random;
 use crate::reading;
 use crate::rules;
@@ -122,6 +123,7 @@ pub fn benchmark(folder: &Path, runs: usize) -> io::Result<()> {
     rows_of_covariances(folder, runs)?;
     growth(folder, runs)?;
     split(runs);
+    lookups::rows_of_lookups(runs)?;
     reading::rows_of_files(runs)
 }
 

@@ -9,6 +9,9 @@ pub enum Function {
     Entries,
     #[default]
     Get,
+    GetCounted,
+    CheckResult,
+    GetWellFormed,
     Diag,
     OriginalDiag,
     OperatorVariances,
@@ -25,10 +28,13 @@ pub enum Function {
     ReadRequests,
 }
 
-pub const FUNCTIONS: [Function; 17] = [
+pub const FUNCTIONS: [Function; 20] = [
     Function::EntriesWithLimit,
     Function::Entries,
     Function::Get,
+    Function::GetCounted,
+    Function::CheckResult,
+    Function::GetWellFormed,
     Function::Diag,
     Function::OriginalDiag,
     Function::OperatorVariances,
@@ -52,6 +58,9 @@ impl Function {
             Function::EntriesWithLimit => "selected_inverse_entries_with_limit",
             Function::Entries => "selected_inverse_entries",
             Function::Get => "get",
+            Function::GetCounted => "get_counted",
+            Function::CheckResult => "check_result",
+            Function::GetWellFormed => "get_well_formed",
             Function::Diag => "diag",
             Function::OriginalDiag => "selected_inverse_diag_with_diagnostics",
             Function::OperatorVariances => "selected_inverse_transformed_diag",
@@ -80,7 +89,15 @@ impl Function {
                 | Function::Covariances
         )
     }
+
+    /// Whether it reads a result.
+    pub fn reads_result(self) -> bool {
+        self == Function::Diag || self == Function::CheckResult || LOOKUPS.contains(&self)
+    }
 }
+
+/// The functions that look up a pair.
+pub const LOOKUPS: [Function; 3] = [Function::Get, Function::GetCounted, Function::GetWellFormed];
 
 /// A function reads and writes some of these; the others are empty.
 #[derive(Clone, Default)]
@@ -132,7 +149,7 @@ pub struct Call {
     pub output_marks: List<u8>,
 }
 
-/// The fields of a function's reply; those that it has not, and all but the refusal where there is one, are 0.
+/// The fields of a function's reply; those that it has not, and all but refusal and looks where it refuses, are 0.
 #[derive(Clone, Copy, Debug, Default)]
 pub struct Reply {
     pub refusal: u32,
@@ -143,6 +160,7 @@ pub struct Reply {
     pub limit: usize,
     pub ratio: f64,
     pub value: f64,
+    pub looks: usize,
     pub pairs: usize,
     pub floor: f64,
     pub hits: usize,
@@ -165,7 +183,7 @@ impl Reply {
     pub fn same(&self, other: &Self) -> bool {
         let numbers = |r: &Self| {
             let counts = [r.requested, r.closure, r.factor, r.limit, r.pairs, r.hits, r.negative];
-            (r.refusal, r.status, counts, [r.dimension, r.requests])
+            (r.refusal, r.status, counts, [r.dimension, r.requests, r.looks])
         };
         let values = |r: &Self| {
             [r.ratio, r.value, r.floor, r.least].map(|x| if x.is_nan() { f64::NAN.to_bits() } else { x.to_bits() })
@@ -199,11 +217,12 @@ fn floored(r: sys::redstartgilt_floored) -> Reply {
     Reply { refusal: r.refusal, floor: r.floor, hits: r.floor_hits, ..Reply::default() }
 }
 
-/// The entry at a pair of a result, by the library.
-pub fn look_up(starts: &[u32], rows: &[u32], values: &[f64], row: usize, column: usize) -> Reply {
-    let (s, r, v) = ((starts.as_ptr(), starts.len()), (rows.as_ptr(), rows.len()), (values.as_ptr(), values.len()));
-    let entry = unsafe { sys::redstartgilt_get(s.0, s.1, r.0, r.1, v.0, v.1, row, column) };
-    Reply { refusal: entry.refusal, value: entry.value, ..Reply::default() }
+fn found(r: sys::redstartgilt_entry) -> Reply {
+    Reply { refusal: r.refusal, value: r.value, ..Reply::default() }
+}
+
+fn counted(r: sys::redstartgilt_counted_entry) -> Reply {
+    Reply { refusal: r.refusal, value: r.value, looks: r.looks, ..Reply::default() }
 }
 
 /// Calls a function of the C interface with arguments in a row: `(n)` as it is, `[rows]` a list's pointer and length,
@@ -224,6 +243,11 @@ macro_rules! c_call {
 }
 
 impl Call {
+    /// Row and column, exchanged if row < column.
+    pub fn ordered(&self) -> (usize, usize) {
+        (self.row.max(self.column), self.row.min(self.column))
+    }
+
     /// Makes the call.
     #[rustfmt::skip]
     pub fn make(&mut self) -> Reply {
@@ -234,7 +258,13 @@ impl Call {
             Function::Entries => selected(c_call!(self redstartgilt_selected_inverse_entries ()
                 (self.n) [starts] [rows] [values] (self.dimension) [request_rows] [request_columns]
                 {result_starts} {result_rows} {result_values} {scratch})),
-            Function::Get => look_up(&self.starts, &self.rows, &self.values, self.row, self.column),
+            Function::Get => found(c_call!(self redstartgilt_get ()
+                [starts] [rows] [values] (self.row) (self.column))),
+            Function::GetCounted => counted(c_call!(self redstartgilt_get_counted ()
+                [starts] [rows] [values] (self.row) (self.column))),
+            Function::CheckResult => Reply::refused(c_call!(self redstartgilt_check_result () [starts] [rows] [values])),
+            Function::GetWellFormed => found(c_call!(self redstartgilt_get_well_formed ()
+                [starts] [rows] [values] (self.row) (self.column))),
             Function::Diag => Reply::refused(c_call!(self redstartgilt_diag ()
                 [starts] [rows] [values] {output} {output_marks})),
             Function::OriginalDiag => selected(c_call!(self redstartgilt_selected_inverse_diag_with_diagnostics ()

@@ -4,7 +4,7 @@
 //! nothing is held but one case and its answer. What the library must reply and leave is the Rust's answer; where
 //! document 01 refuses, it is that refusal, and how the Rust differs is counted.
 
-use crate::call::{look_up, Call, Function, Reply};
+use crate::call::{Call, Function, Reply, LOOKUPS};
 use crate::expected::Expected;
 use crate::lend::lend;
 use crate::list::List;
@@ -245,6 +245,10 @@ fn compare_case(case: &Block, answer: &Block, seed: u64, random: &mut Random, ta
     let more = match call.function {
         Function::Reorder => compare_marked(call, &expected, case, random, tally),
         Function::OperatorVariances => compare_covariances(call, expected, case, random, tally),
+        Function::Diag => {
+            compare_by_rules(Call { function: Function::CheckResult, ..call }, case, tally);
+            1
+        }
         function if function.selects() && reply.complete() && answer.has("gets") => {
             compare_read_back(&made, case, answer, tally)
         }
@@ -410,51 +414,81 @@ fn got(word: &str) -> Reply {
     }
 }
 
-/// Lookups in what a call left: the filled starts, and the rows and values as they are.
+/// Makes a call, which must do as the driver's own rules say; the reply that they give.
+fn compare_by_rules(call: Call, case: &Block, tally: &mut Tally) -> Reply {
+    let mut made = call.clone();
+    let reply = made.make();
+    tally.replied(&call, &reply);
+    let expected = rules::expected(call.clone());
+    tally.differs(&expected.differences(&reply, &made), case, &call);
+    expected.reply
+}
+
+/// Lookups in what a call left, which is well formed: the filled starts, and the rows and values as they are. Each must
+/// find what the Rust's does, and look at as many places as the driver's own search.
 fn compare_read_back(made: &Call, case: &Block, answer: &Block, tally: &mut Tally) -> usize {
+    let mut call = Call {
+        function: Function::CheckResult,
+        starts: List::new(&made.result_starts[..made.n + 1]),
+        rows: made.result_rows.clone(),
+        values: made.result_values.clone(),
+        ..Call::default()
+    };
+    let before = call.clone();
+    let mut compared = |call: &mut Call, expected: Reply| {
+        let reply = call.make();
+        tally.replied(call, &reply);
+        if !expected.same(&reply) {
+            let (name, row, column) = (call.function.name(), call.row, call.column);
+            tally.differs(&[format!("{name} ({row},{column}): {reply:?} in place of {expected:?}")], case, made);
+        }
+    };
+    compared(&mut call, Reply::default());
     let pairs = pairs(case);
     let gets: Vec<Reply> = answer.items("gets").map(got).collect();
     assert_eq!(gets.len(), pairs.len(), "{}", case.name);
-    for (&(row, column), expected) in pairs.iter().zip(&gets) {
-        let reply = look_up(&made.result_starts[..made.n + 1], &made.result_rows, &made.result_values, row, column);
-        let lookup = Call { function: Function::Get, row, column, ..Call::default() };
-        tally.replied(&lookup, &reply);
-        if !expected.same(&reply) {
-            tally.differs(&[format!("lookup ({row},{column}): {reply:?} in place of {expected:?}")], case, made);
+    for (&(row, column), &expected) in pairs.iter().zip(&gets) {
+        for function in LOOKUPS {
+            (call.function, call.row, call.column) = (function, row, column);
+            let looks = if function == Function::GetCounted { rules::looks(&call) } else { 0 };
+            compared(&mut call, Reply { looks, ..expected });
         }
     }
-    pairs.len()
+    tally.differs(&Expected::untouched(Reply::default(), before).differences(&Reply::default(), &call), case, made);
+    1 + LOOKUPS.len() * pairs.len()
 }
 
-/// The lookups of a `get` case. Document 01 decides where the Rust's columns cannot hold the lists, or are searched as
-/// they are.
+/// The lookups of a `get` case, and the check of its lists. Document 01 decides where the Rust's columns cannot hold the
+/// lists, or are searched as they are. In well-formed lists the lookup without checks must reply as `get`.
 fn compare_lookups(mut call: Call, case: &Block, answer: &Block, seed: u64, tally: &mut Tally) -> usize {
     let pairs = pairs(case);
     let fed = answer.field("reply") == "ok";
     let gets: Vec<Reply> = answer.items("gets").map(got).collect();
+    let check = Call { function: Function::CheckResult, ..call.clone() };
+    let well_formed = compare_by_rules(check, case, tally).refusal == 0;
     for (at, &(row, column)) in pairs.iter().enumerate() {
         (call.row, call.column) = (row, column);
-        let mut made = call.clone();
-        let reply = made.make();
-        tally.replied(&call, &reply);
-        let expected = rules::expected(call.clone());
-        tally.differs(&expected.differences(&reply, &made), case, &call);
+        let [expected, _, unchecked] =
+            LOOKUPS.map(|function| compare_by_rules(Call { function, ..call.clone() }, case, tally));
+        if well_formed && !unchecked.same(&expected) {
+            tally.differs(&[format!("get {expected:?}, get_well_formed {unchecked:?}")], case, &call);
+        }
         if !fed {
             tally.intended(
-                format!("get: document 01 gives {}, the Rust: {}", expected.reply.refusal, answer.field("reply")),
+                format!("get: document 01 gives {}, the Rust: {}", expected.refusal, answer.field("reply")),
                 case,
                 seed,
             );
-        } else if !expected.reply.same(&gets[at]) {
+        } else if !expected.same(&gets[at]) {
             let rust = if gets[at].refusal == 8 { "none" } else { "a value" };
-            let what = format!("get: document 01 gives {}, the Rust {rust}", expected.reply.refusal);
+            let what = format!("get: document 01 gives {}, the Rust {rust}", expected.refusal);
             // only where document 01 refuses may the Rust say another thing
-            if expected.reply.refusal > 0 {
+            if expected.refusal > 0 {
                 tally.intended(what, case, seed);
             } else {
                 tally.differs(&[what], case, &call);
             }
         }
     }
-    pairs.len()
+    1 + LOOKUPS.len() * pairs.len()
 }

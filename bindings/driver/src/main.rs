@@ -9,6 +9,7 @@ mod files;
 mod grid;
 mod lend;
 mod list;
+mod lookups;
 mod malformed;
 mod matrix_market;
 mod random;
@@ -33,6 +34,7 @@ const USAGE: &str = "usage:
   driver benchmark ORACLE_FOLDER [RUNS]            medians of RUNS runs, 15 where none is given
   driver benchmark-covariances ORACLE_FOLDER [RUNS]
                                                    the part of it that has covariances
+  driver benchmark-lookups [RUNS]                  the part of it that looks up entries, which needs no oracle
   driver benchmark-files [RUNS]                    the part of it that reads files, which needs no oracle
   driver profile ORACLE_FOLDER CASE RUNS           one case of the benchmark alone, for a profiler
 ORACLE_FOLDER has the programs `generate` and `oracle` of bindings/oracle.";
@@ -77,6 +79,9 @@ fn run(words: &[&str]) -> Option<std::io::Result<usize>> {
         }
         ["benchmark-covariances", folder, runs @ ..] if runs.len() < 2 => {
             Some(benchmark::rows_of_covariances(Path::new(folder), runs_of(runs)?).map(|()| 0))
+        }
+        ["benchmark-lookups", runs @ ..] if runs.len() < 2 => {
+            Some(lookups::benchmark_lookups(runs_of(runs)?).map(|()| 0))
         }
         ["benchmark-files", runs @ ..] if runs.len() < 2 => Some(reading::benchmark_files(runs_of(runs)?).map(|()| 0)),
         ["profile", folder, case, runs] => {

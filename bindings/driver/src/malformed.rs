@@ -1,8 +1,8 @@
 //! `malformed`: random calls of every function, most of them with something wrong.
 //!
 //! A call is made from its seed and number alone: sound lists first, then some of them are spoilt, then lists of any
-//! length and contents are lent. Reply, every list and every guard word afterwards must be what document 01, or of files
-//! and covariances document 02, gives.
+//! length and contents are lent. Reply, every list and every guard word afterwards must be what document 01, or of files,
+//! covariances and counted lookups document 02, gives; of lookups in well-formed results, what the header says.
 
 use crate::bounds::bounds;
 use crate::call::{Call, Function, Reply, FUNCTIONS};

@@ -7,13 +7,15 @@ use crate::rules::{self, triangle, Factor};
 pub const MOST_COLUMNS: usize = 2_048;
 pub const MOST_ENTRIES: usize = 1_048_576;
 
-type Steps = Result<(), u32>;
+pub type Steps = Result<(), u32>;
 
 /// The refusal's number, 0 for none.
 pub fn refusal(call: &Call) -> u32 {
     let steps = match call.function {
         Function::EntriesWithLimit | Function::Entries => entries(call),
-        Function::Get => lookup(call),
+        Function::Get | Function::GetCounted => lookup(call),
+        Function::CheckResult => result(call),
+        Function::GetWellFormed => refuse(8, rules::searched(call).is_none()),
         Function::Diag => diagonal_list(call),
         Function::OriginalDiag => original_diagonal(call),
         Function::OperatorVariances => operator_variances(call),
@@ -118,21 +120,31 @@ fn pattern_room(call: &Call) -> Steps {
     refuse(7, call.pair_rows.len() < pairs || call.pair_columns.len() < pairs)
 }
 
-fn lookup(call: &Call) -> Steps {
-    let (row, column) = (call.row.max(call.column), call.row.min(call.column));
+/// The lookup's steps before it searches its column.
+pub fn before_search(call: &Call) -> Steps {
+    let (row, column) = call.ordered();
     refuse(2, call.starts.is_empty())?;
     let n = call.starts.len() - 1;
     refuse(8, column >= n)?;
     result_column(call, column)?;
-    refuse(8, row >= n || rules::found(call, row, column).is_none())
+    refuse(8, row >= n)
+}
+
+fn lookup(call: &Call) -> Steps {
+    let (row, column) = call.ordered();
+    before_search(call)?;
+    refuse(8, rules::found(call, row, column).is_none())
+}
+
+/// The lookup's 2 and 3 of every column.
+fn result(call: &Call) -> Steps {
+    refuse(2, call.starts.is_empty())?;
+    (0..call.starts.len() - 1).try_for_each(|column| result_column(call, column))
 }
 
 fn diagonal_list(call: &Call) -> Steps {
-    refuse(2, call.starts.is_empty())?;
+    result(call)?;
     let n = call.starts.len() - 1;
-    for column in 0..n {
-        result_column(call, column)?;
-    }
     refuse(7, call.output.len() < n || call.output_marks.len() < n)
 }
 

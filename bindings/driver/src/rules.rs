@@ -4,8 +4,9 @@
 use crate::call::{Call, Function, Reply};
 use crate::expected::Expected;
 use crate::matrix_market;
-use crate::refusals::refusal;
+use crate::refusals::{before_search, refusal};
 use redstartgilt::sys;
+use std::cmp::Ordering::{Equal, Greater, Less};
 use std::ops::Range;
 
 pub fn triangle(n: usize) -> usize {
@@ -172,14 +173,74 @@ pub fn found(call: &Call, row: usize, column: usize) -> Option<f64> {
     places.find(|&p| call.rows[p] as usize == row).map(|p| call.values[p])
 }
 
+/// How many places document 02's search looks at in a part of a column.
+fn looks_in(part: &[u32], row: u32) -> usize {
+    let middle = part.len() / 2;
+    match part.first() {
+        None => 0,
+        Some(&first) if first == row => 1,
+        _ => match row.cmp(&part[middle]) {
+            Equal => 2,
+            Less => 2 + looks_in(&part[..middle], row),
+            Greater => 2 + looks_in(&part[middle + 1..], row),
+        },
+    }
+}
+
+/// How many places a lookup looks at, 0 where it does not search.
+pub fn looks(call: &Call) -> usize {
+    if before_search(call).is_err() {
+        return 0;
+    }
+    let (row, column) = call.ordered();
+    looks_in(&call.rows[call.starts[column] as usize..call.starts[column + 1] as usize], row as u32)
+}
+
+/// The place that halving leaves of a part that is not empty: from its middle on where the row there is not above the one
+/// sought, otherwise as many places from its front.
+fn halved(part: &[u32], row: u32) -> usize {
+    let half = part.len() / 2;
+    if half == 0 {
+        0
+    } else if part[half] <= row {
+        half + halved(&part[half..], row)
+    } else {
+        halved(&part[..part.len() - half], row)
+    }
+}
+
+/// What the lookup in well-formed results finds in any lists.
+pub fn searched(call: &Call) -> Option<f64> {
+    let (row, column) = call.ordered();
+    if row >= call.starts.len().saturating_sub(1) {
+        return None;
+    }
+    let places = call.starts[column] as usize..call.starts[column + 1] as usize;
+    if places.is_empty() || places.end > call.rows.len() || places.end > call.values.len() {
+        return None;
+    }
+    let (part, row) = (&call.rows[places.clone()], row as u32);
+    let (first, last) = (part[0], part[part.len() - 1]);
+    let at = if first == row {
+        0
+    } else if row < first || row > last {
+        return None;
+    } else if (last - first) as usize == part.len() - 1 {
+        (row - first) as usize
+    } else {
+        halved(part, row)
+    };
+    (part[at] == row).then(|| call.values[places.start + at])
+}
+
 /// What a call must reply and leave.
 pub fn expected(call: Call) -> Expected {
     let number = refusal(&call);
-    if number > 0 {
-        refused(number, call)
-    } else {
-        accepted(call)
+    let mut expected = if number > 0 { refused(number, call) } else { accepted(call) };
+    if expected.after.function == Function::GetCounted {
+        expected.reply.looks = looks(&expected.after);
     }
+    expected
 }
 
 /// What a refused call leaves: the marks of a scratch that is long enough end 0 in pattern lists, and after 8.
@@ -199,8 +260,13 @@ pub fn refused(number: u32, mut call: Call) -> Expected {
 fn accepted(mut call: Call) -> Expected {
     match call.function {
         function if function.selects() => selected(call),
-        Function::Get => {
-            let value = found(&call, call.row.max(call.column), call.row.min(call.column)).unwrap_or(0.0);
+        Function::Get | Function::GetCounted => {
+            let (row, column) = call.ordered();
+            let value = found(&call, row, column).expect("not refused");
+            Expected::untouched(Reply { value, ..Reply::default() }, call)
+        }
+        Function::GetWellFormed => {
+            let value = searched(&call).expect("not refused");
             Expected::untouched(Reply { value, ..Reply::default() }, call)
         }
         Function::Diag => {

@@ -74,6 +74,22 @@ fn put_factor(call: &mut Call, random: &mut Random) {
     call.values = List::new(&columns.values);
 }
 
+/// A result, and the column to look in: the lists of a factor; or, where n is large, one long column of some density,
+/// the others empty.
+fn put_result(call: &mut Call, random: &mut Random) -> usize {
+    let n = call.n;
+    if n <= 64 || random.chance(10) {
+        put_factor(call, random);
+        return random.below(n.max(1));
+    }
+    let (column, percent) = (random.below(n), random.pick(&[1, 10, 50, 90, 100]));
+    let rows: Vec<u32> = (column as u32..n as u32).filter(|_| random.chance(percent)).collect();
+    call.starts = List::made(n + 1, |at| if at > column { rows.len() as u32 } else { 0 });
+    call.rows = List::new(&rows);
+    call.values = List::made(rows.len(), |_| some_value(random));
+    column
+}
+
 /// Row starts, columns and weights.
 fn operator(random: &mut Random, n: usize) -> (List<u32>, List<u32>, List<f64>) {
     let (mut starts, mut columns) = (vec![0], Vec::new());
@@ -158,15 +174,17 @@ pub fn sound(function: Function, n: usize, random: &mut Random) -> Call {
         }
         Function::FactorPattern => put_factor(&mut call, random),
         Function::OperatorPattern => put_operator(&mut call, random),
-        Function::Get | Function::Diag => {
-            put_factor(&mut call, random);
+        Function::Get | Function::GetCounted | Function::CheckResult | Function::GetWellFormed | Function::Diag => {
+            let column = put_result(&mut call, random);
             call.row = random.below(n + 2);
-            call.column = random.below(n + 2);
-            if n > 0 && random.chance(60) {
+            call.column = if random.chance(80) { column } else { random.below(n + 2) };
+            if call.column < n && random.chance(75) {
                 // a stored entry
-                call.column = random.below(n);
                 let (start, end) = (call.starts[call.column] as usize, call.starts[call.column + 1] as usize);
                 call.row = if start < end { call.rows[start + random.below(end - start)] as usize } else { call.row };
+            }
+            if random.chance(30) {
+                (call.row, call.column) = (call.column, call.row);
             }
         }
         Function::Validate => {

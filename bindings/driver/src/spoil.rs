@@ -140,13 +140,20 @@ fn spoil(call: &mut Call, random: &mut Random) {
             2 => spoil_words(random, &mut call.columns, n),
             _ => spoil_values(random, &mut call.weights),
         },
-        Function::Get | Function::Diag => match random.below(5) {
-            0 => call.row = some_size(random, n),
-            1 => call.column = some_size(random, n),
-            2 => spoil_words(random, &mut call.starts, n),
-            3 => spoil_words(random, &mut call.rows, n),
-            _ => spoil_values(random, &mut call.values),
-        },
+        Function::Get | Function::GetCounted | Function::CheckResult | Function::GetWellFormed | Function::Diag => {
+            match random.below(6) {
+                0 => call.row = some_size(random, n),
+                1 => call.column = some_size(random, n),
+                2 => spoil_words(random, &mut call.starts, n),
+                3 => spoil_words(random, &mut call.rows, n),
+                4 => spoil_values(random, &mut call.values),
+                _ => call.rows.edit(|rows| {
+                    // in any order from one place to another: the ends of a run may stay
+                    let (a, b) = (random.below(rows.len() + 1), random.below(rows.len() + 1));
+                    random.shuffle(&mut rows[a.min(b)..a.max(b)]);
+                }),
+            }
+        }
         Function::Validate | Function::Inverse => {
             let first = call.function == Function::Inverse || random.chance(50);
             spoil_words(random, if first { &mut call.orig_to_perm } else { &mut call.perm_to_orig }, n)
@@ -187,8 +194,9 @@ pub fn random_call(function: Function, random: &mut Random) -> Call {
         0 => random.pick(&[MOST_COLUMNS - 1, MOST_COLUMNS, MOST_COLUMNS, MOST_COLUMNS + 1]),
         1..=59 => random.below(65),
         60..=99 => 40 + random.below(25),
-        // a file is short whatever its size
+        // a file is short whatever its size, and so is a result of one column
         100..=999 if function == Function::ReadRequests => random.below(MOST_COLUMNS + 2),
+        100..=499 if function.reads_result() => random.below(600),
         _ => random.below(13),
     };
     let mut call = sound(function, n, random);

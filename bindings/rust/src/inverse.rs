@@ -20,12 +20,32 @@ impl SparseSelectedInverse {
     }
 
     /// The entry at a pair, which may be in either order; `None` for a pair that is not in the closed set.
+    #[inline]
     pub fn get(&self, row: usize, column: usize) -> Option<f64> {
-        match lent::get(self.lists(), row, column) {
+        // Nothing but the library has written to these lists.
+        lent::get_well_formed(self.lists(), row, column)
+    }
+
+    /// What [`get`](Self::get) gives, and how many places of the column a search that counts them looks at for it:
+    /// [`lent::get_counted`], which checks the column first and so takes longer.
+    ///
+    /// ```
+    /// use redstartgilt::{selected_inverse_entries, CholeskyFactor, SparseSymmetricPattern};
+    ///
+    /// let factor = CholeskyFactor::new(2, vec![0, 2, 3], vec![0, 1, 1], vec![1.0, 2.0, 1.0])?;
+    /// let inverse = selected_inverse_entries(&factor, &SparseSymmetricPattern::diagonal(2))?.inverse.unwrap();
+    /// assert_eq!(inverse.get_counted(0, 0), (Some(5.0), 1));
+    /// assert_eq!(inverse.get_counted(0, 1), (Some(-2.0), 2));
+    /// # Ok::<(), redstartgilt::Error>(())
+    /// ```
+    pub fn get_counted(&self, row: usize, column: usize) -> (Option<f64>, usize) {
+        let found = lent::get_counted(self.lists(), row, column);
+        let value = match found.entry {
             Ok(value) => Some(value),
             Err(Error::NotCovered) => None,
             Err(error) => panic!("entries that a call has filled: {error}"),
-        }
+        };
+        (value, found.looks)
     }
 
     /// The diagonal: the variance of each cell, in the factor's order; `None` for a cell that is not in the closed set.
@@ -94,6 +114,7 @@ impl SparseSelectedInverse {
     }
 
     /// The entries' lists, in the layout of a factor.
+    #[inline]
     pub fn lists(&self) -> EntryLists<'_> {
         EntryLists {
             starts: &self.starts,

@@ -143,13 +143,13 @@ fn sys_numbers() -> BTreeSet<String> {
 #[test]
 fn functions() {
     assert_eq!(sys_functions(), header_functions());
-    assert_eq!(sys_functions().len(), 17);
+    assert_eq!(sys_functions().len(), 20);
 }
 
 #[test]
 fn structs() {
     assert_eq!(sys_structs(), header_structs());
-    assert_eq!(sys_structs().len(), 6);
+    assert_eq!(sys_structs().len(), 7);
 }
 
 #[test]

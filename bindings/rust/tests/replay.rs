@@ -2,7 +2,7 @@
 //! crates/replay/stdout. The text form is in replay/README.md.
 
 use redstartgilt::sys;
-use std::collections::HashMap;
+use std::collections::{BTreeSet, HashMap};
 use std::fmt::Write;
 use std::path::PathBuf;
 
@@ -378,6 +378,43 @@ fn selected(answer: &mut String, case: &Case<'_>) {
     }
 }
 
+/// The search, by lookups in column 0 of a result. It does nothing with rows but compare them, so their order among all
+/// rows of the case takes the place of rows too large for a dimension; the value of each entry is its place.
+fn searches(answer: &mut String, case: &Case<'_>) {
+    let (rows, sought) = (case.words("rows"), case.words("sought"));
+    let numbers = rows.iter().chain(&sought).copied().collect::<BTreeSet<_>>();
+    let ranks = numbers.iter().zip(0..).map(|(number, rank)| (*number, rank));
+    let ranks = ranks.collect::<HashMap<u32, u32>>();
+    let rows = rows.iter().map(|row| ranks[row]).collect::<Vec<_>>();
+    let mut starts = vec![rows.len() as u32; numbers.len() + 1];
+    starts[0] = 0;
+    let values = (0..rows.len()).map(|place| place as f64).collect::<Vec<_>>();
+    let (mut places, mut looks) = (Vec::new(), Vec::new());
+    for row in &sought {
+        let reply = unsafe {
+            sys::redstartgilt_get_counted(
+                starts.as_ptr(),
+                starts.len(),
+                rows.as_ptr(),
+                rows.len(),
+                values.as_ptr(),
+                values.len(),
+                ranks[row] as usize,
+                0,
+            )
+        };
+        places.push(match reply.refusal {
+            0 => reply.value.to_string(),
+            8 => "none".to_string(),
+            number => panic!("refusal {number}"),
+        });
+        looks.push(reply.looks);
+    }
+    answer.push_str("reply ok\n");
+    put_items(answer, "places", &places, |_, _| false, String::clone);
+    put_items(answer, "looks", &looks, |_, _| false, usize::to_string);
+}
+
 fn diagonals(answer: &mut String, case: &Case<'_>) {
     let (starts, rows, values) = (case.words("starts"), case.words("rows"), case.values("values"));
     let mut output = case.lent_values("lout", 4_608);
@@ -571,6 +608,7 @@ fn answer(case: &Case<'_>) -> String {
             let (starts, rows, values) = (case.words("starts"), case.words("rows"), case.values("values"));
             put_gets(&mut answer, &starts, &rows, &values, case);
         }
+        "search" => searches(&mut answer, case),
         "diag" => diagonals(&mut answer, case),
         "mmread" => request_files(&mut answer, case),
         "patfactor" | "patoperator" => patterns(&mut answer, case),
@@ -608,7 +646,7 @@ fn every_answer_is_that_of_the_proved_program() {
     let (stdin, stdout) = (text("stdin"), text("stdout"));
     let (cases, expected) = (cases(&stdin), cases(&stdout));
     assert_eq!(cases.len(), expected.len());
-    assert!(cases.len() >= 2_423);
+    assert!(cases.len() >= 2_533);
     for (lines, expected) in cases.iter().zip(expected) {
         let fields = lines[1..lines.len() - 1].iter().map(|line| {
             let mut words = line.split_whitespace();

@@ -12,6 +12,7 @@ use Rattle.floor.specs.declared.StabilizedVariance.{StabilizedVariance}
 use Rattle.least.specs.declared.CountAndLeast.{CountAndLeast}
 use Rattle.c_replies.specs.declared.SelectedNumbers.{SelectedNumbers}
 use Rattle.c_replies.specs.declared.EntryNumbers.{EntryNumbers}
+use Rattle.c_replies.specs.declared.CountedNumbers.{CountedNumbers}
 use Rattle.c_replies.specs.declared.PairNumbers.{PairNumbers}
 use Rattle.c_replies.specs.declared.RequestsNumbers.{RequestsNumbers}
 use Rattle.c_replies.specs.declared.FloorNumbers.{FloorNumbers}
@@ -47,6 +48,10 @@ selectedNumbers (refused k) = record {
 abbrev pub entryNumbers : Reply Float → EntryNumbers
 entryNumbers (answered z) = record { refusal = 0; value = z }
 entryNumbers (refused k) = record { refusal = k; value = f0 }
+
+-- a lookup that counts the places it looks at
+abbrev pub countedNumbers : Reply Float → ℕ → CountedNumbers
+countedNumbers reply looks = record { refusal = entryNumbers reply .refusal; value = entryNumbers reply .value; looks = looks }
 
 -- a pattern list: how many pairs were listed
 abbrev pub pairNumbers : Reply ℕ → PairNumbers

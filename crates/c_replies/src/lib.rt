@@ -5,12 +5,13 @@ ghost use Rattle.lookup.specs.Reply.{entryReply};
 ghost use Rattle.pattern_lists.specs.ListedMarks.{listReply};
 ghost use Rattle.floor.specs.Floor.{stabilizedReply};
 ghost use Rattle.requests_reader.specs.Reader.{readReply};
-ghost use Rattle.c_replies.specs.Numbers.{statusNumber, selectedNumbers, entryNumbers, pairNumbers, requestsNumbers, floorNumbers, leastNumbers};
+ghost use Rattle.c_replies.specs.Numbers.{statusNumber, selectedNumbers, entryNumbers, countedNumbers, pairNumbers, requestsNumbers, floorNumbers, leastNumbers};
 use diagnostics::Selected;
 use diagnostics::SelectedInverseDiagnostics;
 use diagnostics::SelectedInverseStatus;
 use floor::Stabilized;
 use least::CountAndLeast;
+use lookup::ordered::CountedEntry;
 use lookup::ordered::Entry;
 use pattern_lists::listed::PatternPairs;
 use requests_reader::ReadRequests;
@@ -33,6 +34,14 @@ pub struct SelectedNumbers {
 pub struct EntryNumbers {
     pub refusal: u32,
     pub value: f64,
+}
+
+// The answer of a lookup that counts the places it looks at.
+#[repr(C)]
+pub struct CountedNumbers {
+    pub refusal: u32,
+    pub value: f64,
+    pub looks: usize,
 }
 
 // The answer of a pattern list.
@@ -115,6 +124,18 @@ pub fn entry_numbers(entry: Entry) -> EntryNumbers
             refusal: refusal_number(why),
             value: 0.0,
         },
+    }
+}
+
+pub fn counted_numbers(found: CountedEntry) -> CountedNumbers
+    ensures { λ r. ⌜ r ≡ countedNumbers (entryReply (found .entry)) (found .looks) ⌝ }
+{
+    let entry = found.entry;
+    let numbers = entry_numbers(entry);
+    CountedNumbers {
+        refusal: numbers.refusal,
+        value: numbers.value,
+        looks: found.looks,
     }
 }
 

@@ -9,6 +9,7 @@ use super::float_value;
 use super::number_of;
 use super::skip_blanks;
 use super::skip_word;
+use words::order::smaller;
 
 // How many items were put, and the place after the list.
 pub struct Listed {
@@ -32,12 +33,6 @@ fn narrow_byte(x: u64) -> u8
         return x as u8;
     }
     255
-}
-
-fn least(a: usize, b: usize) -> usize
-    ensures { λ r. ⌜ r ≡ min a b ⌝ }
-{
-    if a < b { a } else { b }
 }
 
 // The place after `count` items from p on.
@@ -111,7 +106,7 @@ pub fn read_words(text: &[u8], p: usize, list: &mut [u32]) -> Listed
     let at = skip_blanks(text, p);
     let items = decimal(text, at) as usize;
     let first = skip_word(text, at);
-    let count = least(items, list.len());
+    let count = smaller(items, list.len());
     let next = put_words(text, first, count, list);
     Listed {
         count: count,
@@ -126,7 +121,7 @@ pub fn read_bytes(text: &[u8], p: usize, hex: bool, list: &mut [u8]) -> Listed
     let at = skip_blanks(text, p);
     let items = decimal(text, at) as usize;
     let first = skip_word(text, at);
-    let count = least(items, list.len());
+    let count = smaller(items, list.len());
     let next = put_bytes(text, first, count, hex, list);
     Listed {
         count: count,
@@ -141,7 +136,7 @@ pub fn read_values(text: &[u8], p: usize, list: &mut [f64]) -> Listed
     let at = skip_blanks(text, p);
     let items = decimal(text, at) as usize;
     let first = skip_word(text, at);
-    let count = least(items, list.len());
+    let count = smaller(items, list.len());
     let next = put_values(text, first, count, list);
     Listed {
         count: count,

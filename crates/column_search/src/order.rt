@@ -4,18 +4,12 @@ ghost use Prim.Native.Nat.{_+_, _≤_};
 ghost use lib.ListN.{length};
 ghost use Rattle.lists.specs.Test.{anyIn};
 ghost use Rattle.columns.specs.Columns.{notAbove};
+use words::order::descents;
 
 // Whether a row between s and e is not above the one before it, the first left out.
-pub fn not_rising(rows: &[u32], s: usize, e: usize) -> bool
+pub fn not_rising(rows: &[u32], s: usize, e: u32) -> bool
     requires { ⌜ (s ≤ e) × (e ≤ length (now rows)) ⌝ }
     ensures { λ r. ⌜ r ≡ anyIn (notAbove (now (rows .entry))) (s + 1) e ⌝ }
 {
-    let mut p = s + 1;
-    while p < e {
-        if rows[p] <= rows[p - 1] {
-            return true;
-        }
-        p += 1;
-    }
-    false
+    0 < descents(rows, s, e)
 }

@@ -26,7 +26,7 @@ pub fn check_column(starts: &[u32], rows: &[u32], values: usize, c: usize) -> Ch
     if values < e {
         return Checked::Refused(Refusal::BrokenStarts);
     }
-    if not_rising(rows, s, e) {
+    if not_rising(rows, s, starts[c + 1]) {
         return Checked::Refused(Refusal::BrokenRows);
     }
     Checked::Accepted

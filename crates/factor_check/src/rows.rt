@@ -13,24 +13,7 @@ ghost use Rattle.columns.specs.Factor.{Starts};
 use refusal::Checked;
 use refusal::Refusal;
 use words::at;
-
-// How many rows below e are not above the one before them, the first left out.
-// The loop has one exit and a 32-bit count, so that it is compiled to vector instructions on four rows.
-fn descents(rows: &[u32], e: u32) -> usize
-    requires { ⌜ e ≤ length (now rows) ⌝ }
-    ensures { λ r. ⌜ r ≡ tally (notAbove (now (rows .entry))) 1 e ⌝ }
-{
-    let end = e as usize;
-    let mut count: u32 = 0;
-    let mut p = 1;
-    while p < end {
-        if rows[p] <= rows[p - 1] {
-            count += 1;
-        }
-        p += 1;
-    }
-    count as usize
-}
+use words::order::descents;
 
 // 1 where the column from s to e has a first row that is not above the row stored before it, else 0.
 // That is what the descents below e have besides those below s and the column's own.
@@ -69,7 +52,7 @@ fn column_unsorted(n: usize, starts: &[u32], rows: &[u32]) -> bool
     requires { ⌜ Starts n (now starts) (now rows) ⌝ }
     ensures { λ r. ⌜ r ≡ any (unsorted (now (starts .entry)) (now (rows .entry))) n ⌝ }
 {
-    start_descents(n, starts, rows) < descents(rows, starts[n])
+    start_descents(n, starts, rows) < descents(rows, 0, starts[n])
 }
 
 // Whether the row before e is n or more.

@@ -8,8 +8,11 @@ use mathlib.Core.Path.{_≡_, refl, sym, ap, ap₂, subst, _∙_}
 use mathlib.Core.Bool.{Bool, true, false}
 use mathlib.Core.List.{List, [], _∷_, _++_, map, append-nil, append-assoc}
 use mathlib.Core.Logic.{⊎-elim}
+use lib.Dec.{ltb}
 use lib.ListN.{length, getD, length-append, List·getD-append}
 use lib.Seq.{getD-append-seam}
+use borrow.Author.Tests.{ltb-true, lt-ltb}
+use Rattle.lists.specs.Test.{anyIn, anyIn-found, anyIn-hit, same-truth}
 use Rattle.lists.specs.Sum.{bit, sumTo, sumTo-mono}
 
 -- one number, if it passes
@@ -194,6 +197,22 @@ module _ (test : ℕ → Bool) where
       let q : s + (k - s) ≡ k = omega arith in
       let f = hold s (e - s) (k - s) (omega arith) (ap test q ∙ t) in
       (f .0, f .1, f .2 ∙ q)
+
+-- a test holds of a number exactly if it counts one
+pub anyIn-tally : (test : ℕ → Bool) (s e : ℕ) → anyIn test s e ≡ ltb 0 (tally test s e)
+anyIn-tally test s e = same-truth (anyIn test s e) (ltb 0 (tally test s e)) there back
+  where
+    there : anyIn test s e ≡ true → ltb 0 (tally test s e) ≡ true
+    there h =
+        let f = anyIn-found test s e h in
+        let g = select-holds test s e (f .0) (f .1) (f .2) (f .3) in
+        lt-ltb 0 (tally test s e) (omega (arith, g .1))
+
+    back : ltb 0 (tally test s e) ≡ true → anyIn test s e ≡ true
+    back h =
+        let l : 0 < tally test s e = ltb-true _ _ h in
+        let u = select-at test s e 0 (omega (arith, tally-most test s e)) l in
+        anyIn-hit test s e _ (u .from) (u .below) (u .passes)
 
 picked-cong : (f g : ℕ → Bool) (s k : ℕ) → ((i : ℕ) → i < k → f (s + i) ≡ g (s + i)) → picked f s k ≡ picked g s k
 unfolding picked

@@ -1,5 +1,7 @@
 -- What a lookup's answer says: a value, or a refusal's number.
 -- Assumes nothing.
+use Prim.Native.Nat.{ℕ, _<_}
+use mathlib.Core.Path.{_≡_}
 use lib.Ieee.{Float}
 use Rattle.refusal.specs.Steps.{Reply, refused, answered}
 use Rattle.refusal.specs.Refusal.{refusalNumber}
@@ -10,3 +12,7 @@ use Rattle.lookup.specs.declared.ordered.Entry.the-variants.{Value, Refu
 abbrev pub entryReply : Entry → Reply Float
 entryReply (Value v) = answered v
 entryReply (Refused why) = refused (refusalNumber why)
+
+-- a place that is found is one of so many values
+pub record Placed (found : Reply ℕ) (values : ℕ) : Type 0 where
+  pub below : (p : ℕ) → found ≡ answered p → p < values

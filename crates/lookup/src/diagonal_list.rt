@@ -22,7 +22,9 @@ fn diagonal(starts: &[u32], rows: &[u32], values: &[f64], c: usize) -> MarkedDia
     ensures { λ d. ⌜ d .value ≡ diagonalOf nan f0 (now (starts .entry)) (now (rows .entry)) (now (values .entry)) c ⌝ }
     ensures { λ d. ⌜ d .mark ≡ markOf nan (now (starts .entry)) (now (rows .entry)) (now (values .entry)) c ⌝ }
 {
-    match column_value(starts, rows, values, c, c) {
+    let found = column_value(starts, rows, values, c, c);
+    let entry = found.entry;
+    match entry {
         Entry::Value(d) => MarkedDiagonal { value: d, mark: 1 },
         Entry::Refused(_) => MarkedDiagonal {
             value: 0.0,

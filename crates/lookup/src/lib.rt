@@ -1,29 +1,46 @@
 // The lookup in a selected-inverse result and its diagonal list, after `SparseSelectedInverse::get` and `diag` of uncertainty.rs.
 pub mod diagonal_list;
 pub mod ordered;
+pub mod well_formed;
 
 ghost use mathlib.Core.Path.{_≡_};
 ghost use lib.ListN.{length};
 ghost use Rattle.lists.specs.Overwrite.{overwrite};
 ghost use Rattle.refusal.specs.Steps.{verdict, after};
 ghost use Rattle.refusal.specs.Refusal.{replyOf};
+ghost use Rattle.result.specs.Counted.{lookupLooks};
 ghost use Rattle.result.specs.Lookup.{lookup, diagSteps, diagonals, coverage};
 ghost use Rattle.lookup.specs.Reply.{entryReply};
 use column_search::result_check::check_result;
 use diagonal_list::write_diagonals;
+use ordered::CountedEntry;
 use ordered::Entry;
 use ordered::get_ordered;
 use refusal::Checked;
 use refusal::Refusal;
 
-// The entry at a row and a column, exchanged if row < column.
-pub fn get(starts: &[u32], rows: &[u32], values: &[f64], row: usize, col: usize) -> Entry
-    ensures { λ found. ⌜ entryReply found ≡ lookup (now (starts .entry)) (now (rows .entry)) (now (values .entry)) row col ⌝ }
+// The entry at a row and a column, exchanged if row < column, and how many places the column search looked at.
+pub fn get_counted(
+    starts: &[u32],
+    rows: &[u32],
+    values: &[f64],
+    row: usize,
+    col: usize,
+) -> CountedEntry
+    ensures { λ found. ⌜ entryReply (found .entry) ≡ lookup (now (starts .entry)) (now (rows .entry)) (now (values .entry)) row col ⌝ }
+    ensures { λ found. ⌜ found .looks ≡ lookupLooks (now (starts .entry)) (now (rows .entry)) (length (now (values .entry))) row col ⌝ }
 {
     if row < col {
         return get_ordered(starts, rows, values, col, row);
     }
     get_ordered(starts, rows, values, row, col)
+}
+
+// The entry alone.
+pub fn get(starts: &[u32], rows: &[u32], values: &[f64], row: usize, col: usize) -> Entry
+    ensures { λ found. ⌜ entryReply found ≡ lookup (now (starts .entry)) (now (rows .entry)) (now (values .entry)) row col ⌝ }
+{
+    get_counted(starts, rows, values, row, col).entry
 }
 
 // The diagonal list and its marks, 1 where the lookup finds the pair and 0 where it does not, written to the front of the outputs.

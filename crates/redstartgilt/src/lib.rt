@@ -7,7 +7,9 @@ ghost use Rattle.lists.specs.Overwrite.{overwrite};
 ghost use Rattle.refusal.specs.Steps.{verdict, first, after};
 ghost use Rattle.columns.specs.Columns.{factorSteps};
 ghost use Rattle.columns.specs.Kept.{nonzero, keptPair};
-ghost use Rattle.result.specs.Lookup.{lookup, diagSteps, diagonals, coverage};
+ghost use Rattle.result.specs.Lookup.{lookup, resultSteps, diagSteps, diagonals, coverage};
+ghost use Rattle.result.specs.Counted.{lookupLooks};
+ghost use Rattle.result.specs.Halving.{lookupWithin};
 ghost use Rattle.factor_order.specs.Permutation.{validateSteps, invertSteps, permuteSteps, markedSteps, inverseOf, reordered};
 ghost use Rattle.columns.specs.OperatorPair.{operatorPair};
 ghost use Rattle.pattern_lists.specs.PatternLists.{PatternLists};
@@ -27,20 +29,24 @@ ghost use Rattle.operator_variances.specs.Transformed.{transformedCall, Transfo
 ghost use Rattle.covariances.specs.Covariances.{operator, covarianceCall, Covariances};
 ghost use Rattle.pattern_lists.specs.ListedMarks.{listReply};
 ghost use Rattle.verdicts.specs.Number.{replyNumber};
-ghost use Rattle.c_replies.specs.Numbers.{selectedNumbers, entryNumbers, pairNumbers, requestsNumbers, floorNumbers, leastNumbers, Shows};
+ghost use Rattle.c_replies.specs.Numbers.{selectedNumbers, entryNumbers, countedNumbers, pairNumbers, requestsNumbers, floorNumbers, leastNumbers, Shows};
+use c_replies::CountedNumbers;
 use c_replies::EntryNumbers;
 use c_replies::FloorNumbers;
 use c_replies::LeastNumbers;
 use c_replies::PairNumbers;
 use c_replies::RequestsNumbers;
 use c_replies::SelectedNumbers;
+use c_replies::counted_numbers;
 use c_replies::entry_numbers;
 use c_replies::floor_numbers;
 use c_replies::least_numbers;
 use c_replies::pair_numbers;
 use c_replies::requests_numbers;
 use c_replies::selected_numbers;
+use column_search::result_check::check_result;
 use floor::variance_floor::VarianceFloor;
+use lookup::well_formed::get_well_formed;
 use verdicts::checked_number;
 
 // Selected entries with a limit.
@@ -253,6 +259,43 @@ pub extern "C" fn redstartgilt_get(
     ensures { λ r. ⌜ r ≡ entryNumbers (lookup (now (starts .entry)) (now (rows .entry)) (now (values .entry)) row column) ⌝ }
 {
     entry_numbers(lookup::get(starts, rows, values, row, column))
+}
+
+// The same, and how many places the column search looked at.
+#[no_mangle]
+pub extern "C" fn redstartgilt_get_counted(
+    starts: &[u32],
+    rows: &[u32],
+    values: &[f64],
+    row: usize,
+    column: usize,
+) -> CountedNumbers
+    ensures { λ r. ⌜ r ≡ countedNumbers (lookup (now (starts .entry)) (now (rows .entry)) (now (values .entry)) row column)
+        (lookupLooks (now (starts .entry)) (now (rows .entry)) (length (now (values .entry))) row column) ⌝ }
+{
+    counted_numbers(lookup::get_counted(starts, rows, values, row, column))
+}
+
+// Whether a result is well formed.
+#[no_mangle]
+pub extern "C" fn redstartgilt_check_result(starts: &[u32], rows: &[u32], values: &[f64]) -> u32
+    ensures { λ r. ⌜ r ≡ replyNumber (verdict (resultSteps (now (starts .entry)) (now (rows .entry)) (length (now (values .entry))))) ⌝ }
+{
+    checked_number(check_result(starts, rows, values.len()))
+}
+
+// A lookup in a result that is known to be well formed.
+#[no_mangle]
+pub extern "C" fn redstartgilt_get_well_formed(
+    starts: &[u32],
+    rows: &[u32],
+    values: &[f64],
+    row: usize,
+    column: usize,
+) -> EntryNumbers
+    ensures { λ r. ⌜ r ≡ entryNumbers (lookupWithin (now (starts .entry)) (now (rows .entry)) (now (values .entry)) row column) ⌝ }
+{
+    entry_numbers(get_well_formed(starts, rows, values, row, column))
 }
 
 // The diagonal list of a result, and the marks of the diagonals that it covers.

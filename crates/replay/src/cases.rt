@@ -9,6 +9,7 @@ use super::permutations::application;
 use super::permutations::inversion;
 use super::permutations::marked_application;
 use super::permutations::validation;
+use super::searches::searches;
 use answer_text::put;
 use answer_text::put_part;
 use case_text::begins;
@@ -36,6 +37,8 @@ fn call(text: &[u8], kind: usize, p: usize) {
         lookups(text, p);
     } else if begins(text, kind, b"diag\n") {
         diagonals(text, p);
+    } else if begins(text, kind, b"search\n") {
+        searches(text, p);
     } else if begins(text, kind, b"mmread\n") {
         reading(text, p);
     } else if begins(text, kind, b"pat") {

@@ -5,6 +5,7 @@ mod floors;
 mod lookups;
 mod patterns;
 mod permutations;
+mod searches;
 
 fn read(text: &mut [u8]) {
     let k = io::read_full(0, text);

@@ -19,7 +19,7 @@ use Rattle.columns.specs.Columns.{start, row, notAbove}
 use Rattle.columns.specs.Factor.{Column, above-ascends}
 use Rattle.columns.specs.Kept.{f0}
 use Rattle.result.specs.Place.{placeOf, placeIn, Stands, placeIn-absent, placeIn-at, placeIn-stands, holds-stands}
-use Rattle.result.specs.Lookup.{dimension, noStarts, columnFaults, absentStep, entrySteps, resultSteps, diagSteps}
+use Rattle.result.specs.Lookup.{dimension, noStarts, columnFaults, absentStep, searchSteps, entrySteps, resultSteps, diagSteps}
 use Rattle.result.specs.Lookup.{entryOf, valueAt, finds, lookupOf, diagonalOf, markOf, diagonals, entryPlace, WellFormed}
 
 -- ---- 2 and 3 pass exactly if the columns are well formed
@@ -80,6 +80,40 @@ module _ (starts rows : List ℕ) (values : ℕ) where
       first-skip 2 _ tt (noStarts-none starts (W .some))
       (passed-each (columnFaults starts rows values) (dimension starts) (λ c l. columnFaults-passed starts rows values c (W .column c l)))
 
+-- ---- what the lookup refuses before it searches: no starts, a column outside, a broken column, a row outside
+module _ {A : Type 0} (starts rows : List ℕ) (values r c : ℕ) (a : A) where
+  pub search-none : length starts ≡ 0 → first (searchSteps starts rows values r c) a ≡ refused 2
+  unfolding searchSteps
+  search-none e = first-hit 2 _ _ (eq-eqb _ _ e)
+
+  module _ (some : 0 < length starts) where
+    pub search-outside : dimension starts ≤ c → first (searchSteps starts rows values r c) a ≡ refused 8
+    unfolding searchSteps
+    search-outside out = first-skip 2 _ _ (noStarts-none starts some) (first-hit 8 _ _ (le-leb _ _ out))
+
+    module _ (inside : c < dimension starts) where
+      pub search-broken : (k : ℕ) → verdict (columnFaults starts rows values c) ≡ refused k → first (searchSteps starts rows values r c) a ≡ refused k
+      unfolding searchSteps
+      search-broken k e =
+          first-skip 2 _ _ (noStarts-none starts some)
+          (first-skip 8 _ _ (lt-leb _ _ inside) (append-refused (columnFaults starts rows values c) _ k _ e))
+
+      module _ (passed : Passed (columnFaults starts rows values c)) where
+        pub search-row : dimension starts ≤ r → first (searchSteps starts rows values r c) a ≡ refused 8
+        unfolding searchSteps
+        search-row out =
+            first-skip 2 _ _ (noStarts-none starts some)
+            (first-skip 8 _ _ (lt-leb _ _ inside)
+            (append-passed (columnFaults starts rows values c) _ _ passed ∙ first-hit 8 _ _ (le-leb _ _ out)))
+
+        -- none of these
+        pub search-passed : r < dimension starts → first (searchSteps starts rows values r c) a ≡ answered a
+        unfolding searchSteps
+        search-passed below =
+            first-skip 2 _ _ (noStarts-none starts some)
+            (first-skip 8 _ _ (lt-leb _ _ inside)
+            (append-passed (columnFaults starts rows values c) _ _ passed ∙ first-skip 8 _ _ (lt-leb _ _ below) (first-end a)))
+
 -- the rows alone
 pub column-rows : {rows : List ℕ} {values s e : ℕ} → Column rows values s e → Column rows (length rows) s e
 column-rows C = record { ordered = C .ordered; stored = C .stored; weighed = C .stored; ascends = C .ascends }
@@ -122,36 +156,28 @@ module _ {A : Type 0} (blank : A) (starts rows : List ℕ) (values : List A) whe
   module _ (r c : ℕ) where
     pub entryOf-none : length starts ≡ 0 → entryOf blank starts rows values r c ≡ refused 2
     unfolding entryOf entrySteps
-    entryOf-none e = first-hit 2 _ _ (eq-eqb _ _ e)
+    entryOf-none e = append-refused (searchSteps starts rows (length values) r c) _ 2 _ (search-none starts rows (length values) r c tt e)
 
     pub entryOf-outside : 0 < length starts → dimension starts ≤ c → entryOf blank starts rows values r c ≡ refused 8
     unfolding entryOf entrySteps
-    entryOf-outside some out = first-skip 2 _ _ (noStarts-none starts some) (first-hit 8 _ _ (le-leb _ _ out))
+    entryOf-outside some out = append-refused (searchSteps starts rows (length values) r c) _ 8 _ (search-outside starts rows (length values) r c tt some out)
 
     module _ (some : 0 < length starts) (inside : c < dimension starts) where
       pub entryOf-broken : (k : ℕ) → verdict (columnFaults starts rows (length values) c) ≡ refused k → entryOf blank starts rows values r c ≡ refused k
       unfolding entryOf entrySteps
-      entryOf-broken k e =
-          first-skip 2 _ _ (noStarts-none starts some)
-          (first-skip 8 _ _ (lt-leb _ _ inside) (append-refused (columnFaults starts rows (length values) c) _ k _ e))
+      entryOf-broken k e = append-refused (searchSteps starts rows (length values) r c) _ k _ (search-broken starts rows (length values) r c tt some inside k e)
 
       pub entryOf-row : Passed (columnFaults starts rows (length values) c) → dimension starts ≤ r → entryOf blank starts rows values r c ≡ refused 8
       unfolding entryOf entrySteps
-      entryOf-row passed out =
-          first-skip 2 _ _ (noStarts-none starts some)
-          (first-skip 8 _ _ (lt-leb _ _ inside)
-          (append-passed (columnFaults starts rows (length values) c) _ _ passed ∙ first-hit 8 _ _ (le-leb _ _ out)))
+      entryOf-row passed out = append-refused (searchSteps starts rows (length values) r c) _ 8 _ (search-row starts rows (length values) r c tt some inside passed out)
 
       -- else the place decides
       pub entryOf-place : Passed (columnFaults starts rows (length values) c) → r < dimension starts
           → entryOf blank starts rows values r c ≡ valueAt blank values (placeIn rows r (start starts c) (start starts (c + 1)))
       unfolding entryOf entrySteps placeIn
       entryOf-place passed below =
-          first-skip 2 _ _ (noStarts-none starts some)
-          (first-skip 8 _ _ (lt-leb _ _ inside)
-          (append-passed (columnFaults starts rows (length values) c) _ _ passed
-          ∙ first-skip 8 _ _ (lt-leb _ _ below)
-          (first-value blank values (absentStep starts rows r c ∷ []) (placeOf rows r (start starts c) (start starts (c + 1))))))
+          append-passed (searchSteps starts rows (length values) r c) _ _ (search-passed starts rows (length values) r c tt some inside passed below)
+          ∙ first-value blank values (absentStep starts rows r c ∷ []) (placeOf rows r (start starts c) (start starts (c + 1)))
 
   module _ (W : WellFormed starts rows (length values)) where
     module _ (r c : ℕ) (order : c ≤ r) (inside : r < dimension starts) where

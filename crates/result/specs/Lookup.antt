@@ -35,15 +35,18 @@ columnFaults starts rows values c =
 abbrev pub absentStep : List ℕ → List ℕ → ℕ → ℕ → Step
 absentStep starts rows r c = (8, not (holds rows r (start starts c) (start starts (c + 1))))
 
--- what the lookup of row r and column c refuses, r at least c
-unfoldable pub entrySteps : List ℕ → List ℕ → ℕ → ℕ → ℕ → List Step
-entrySteps starts rows values r c =
+-- what the lookup of row r and column c refuses before it searches, r at least c
+unfoldable pub searchSteps : List ℕ → List ℕ → ℕ → ℕ → ℕ → List Step
+searchSteps starts rows values r c =
     noStarts starts
     ∷ (8, leb (dimension starts) c)
     ∷ columnFaults starts rows values c
     ++ (8, leb (dimension starts) r)
-    ∷ absentStep starts rows r c
     ∷ []
+
+-- all that it refuses
+unfoldable pub entrySteps : List ℕ → List ℕ → ℕ → ℕ → ℕ → List Step
+entrySteps starts rows values r c = searchSteps starts rows values r c ++ absentStep starts rows r c ∷ []
 
 -- a reply that is an answer
 abbrev pub finds : {A : Type 0} → Reply A → Bool

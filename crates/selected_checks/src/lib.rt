@@ -21,18 +21,10 @@ use requests::check_requests;
 use scratch::pair_total;
 use scratch::scratch_words;
 use verdicts::first_of;
+use words::order::smaller;
 
 // How many times the stored entries the default limit is.
 const LIMIT_FACTOR: usize = 10;
-
-fn least(a: usize, b: usize) -> usize
-    ensures { λ r. ⌜ r ≡ min a b ⌝ }
-{
-    if a < b {
-        return a;
-    }
-    b
-}
 
 // Step 7.
 fn check_room(
@@ -47,7 +39,7 @@ fn check_room(
     ensures { λ r. ⌜ replyOf r ≡ verdict (roomSteps n limit (room «result_starts» «result_rows» «result_values» scratch)) ⌝ }
 {
     let total = pair_total(n);
-    let most = least(limit, total);
+    let most = smaller(limit, total);
     if result_starts < n + 1 {
         return Checked::Refused(Refusal::TooShort);
     }

@@ -1,6 +1,7 @@
 // Lists of 32-bit words: a word as an index, and clearing.
 pub mod bit_words;
 pub mod index;
+pub mod order;
 
 ghost use mathlib.Core.Path.{_≡_};
 ghost use Prim.Native.Nat.{_<_, _≤_};

@@ -19,17 +19,17 @@ enough : (a k m : ℕ) → k ≡ m → k ≤ a → ltb a m ≡ false
 enough a k m e h = le-ltb a m (subst (λ (j : ℕ). j ≤ a) e h)
 
 -- T and min(limit, T), as the code has them
-total : (c : tie.After-least) → c .before .pair-total .result ≡ pairTotal (c .before .before .args .n)
+total : (c : tie.After-smaller) → c .before .pair-total .result ≡ pairTotal (c .before .before .args .n)
 total c = c .before .pair-total .ensures .0
 
-most : (c : tie.After-least) → c .least .result ≡ min (c .before .before .args .limit) (pairTotal (c .before .before .args .n))
-most c = c .least .ensures ∙ ap (min (c .before .before .args .limit)) (total c)
+most : (c : tie.After-smaller) → c .smaller .result ≡ min (c .before .before .args .limit) (pairTotal (c .before .before .args .n))
+most c = c .smaller .ensures ∙ ap (min (c .before .before .args .limit)) (total c)
 
 pair-total-requires : tie.Need-pair-total-requires
 pair-total-requires c κs = search needs
 
-least-requires : tie.Need-least-requires
-least-requires c κs = search needs
+smaller-requires : tie.Need-smaller-requires
+smaller-requires c κs = search needs
 
 add-if1 : tie.Need-add-if1
 add-if1 c = omega (arith, c .before .before .pre)
@@ -85,7 +85,7 @@ check-room-spec =
     tie.close
     (tie.spec
     pair-total-requires
-    least-requires
+    smaller-requires
     add-if1
     returns
     returns-2

@@ -13,8 +13,8 @@ decimal-requires c κs = search needs
 skip-word-requires : tie.Need-skip-word-requires
 skip-word-requires c κs = search needs
 
-least-requires : tie.Need-least-requires
-least-requires c κs = search needs
+smaller-requires : tie.Need-smaller-requires
+smaller-requires c κs = search needs
 
 put-bytes-requires : tie.Need-put-bytes-requires
 put-bytes-requires c κs = search needs
@@ -34,7 +34,7 @@ returns c =
     let b = c .before .before .before .before .before in
     let text = now (c .before .before .before .before .before .before .before .before .before .before .before .args .text) in
     listing (byteAt (c .before .before .before .before .before .before .before .before .before .before .before .args .hex) text) text _ _ _ _ _ _ _ _ _ (b .before .before .before .skip-blanks .ensures) (b .before .before .decimal .ensures)
-    (b .before .skip-word .ensures) (b .least .ensures) (put .ensures .0) (put .ensures .1) (c .skip-items .ensures)
+    (b .before .skip-word .ensures) (b .smaller .ensures) (put .ensures .0) (put .ensures .1) (c .skip-items .ensures)
 
 pub read-bytes-spec : {M : Type 1} → statement M
 read-bytes-spec =
@@ -43,7 +43,7 @@ read-bytes-spec =
     skip-blanks-requires
     decimal-requires
     skip-word-requires
-    least-requires
+    smaller-requires
     put-bytes-requires
     sub-skip-items
     skip-items-requires

@@ -41,13 +41,22 @@ returns-3 c =
     (first-skip _ _ _ (rw (← t .at2 .ensures) (le-ltb _ _ (j .if2 .left)))
     (first-hit _ _ _ (rw (← t .at2 .ensures) (lt-ltb _ _ (c .if3 .taken))))))
 
+add-not-rising : tie.Need-add-not-rising
+add-not-rising c = search needs
+
+mul-not-rising : tie.Need-mul-not-rising
+mul-not-rising c = search needs
+
+shared-slice-read-not-rising : tie.Need-shared-slice-read-not-rising
+shared-slice-read-not-rising c = search needs
+
 not-rising-requires : tie.Need-not-rising-requires
 not-rising-requires c κs = search needs
 
 returns-4 : tie.Need-returns-4
 unfolding columnFaults
 returns-4 c =
-    let k = c .before .before in
+    let k = c .before .before .before in
     let j = k .before in
     let i = j .before in
     let t = i .before in
@@ -55,12 +64,12 @@ returns-4 c =
     (first-skip _ _ _ (rw (← t .before .at .ensures, ← t .at2 .ensures) (le-ltb _ _ (i .if1 .left)))
     (first-skip _ _ _ (rw (← t .at2 .ensures) (le-ltb _ _ (j .if2 .left)))
     (first-skip _ _ _ (rw (← t .at2 .ensures) (le-ltb _ _ (k .if3 .left)))
-    (first-hit _ _ _ (rw (← t .before .at .ensures, ← t .at2 .ensures) (sym (c .before .not-rising .ensures) ∙ c .if4 .taken))))))
+    (first-hit _ _ _ (rw (← t .before .at .ensures) (sym (c .before .not-rising .ensures) ∙ c .if4 .taken))))))
 
 returns-5 : tie.Need-returns-5
 unfolding columnFaults
 returns-5 c =
-    let k = c .before .before in
+    let k = c .before .before .before in
     let j = k .before in
     let i = j .before in
     let t = i .before in
@@ -68,7 +77,7 @@ returns-5 c =
     (first-skip _ _ _ (rw (← t .before .at .ensures, ← t .at2 .ensures) (le-ltb _ _ (i .if1 .left)))
     (first-skip _ _ _ (rw (← t .at2 .ensures) (le-ltb _ _ (j .if2 .left)))
     (first-skip _ _ _ (rw (← t .at2 .ensures) (le-ltb _ _ (k .if3 .left)))
-    (first-skip _ _ _ (rw (← t .before .at .ensures, ← t .at2 .ensures) (sym (c .before .not-rising .ensures) ∙ c .if4 .left))
+    (first-skip _ _ _ (rw (← t .before .at .ensures) (sym (c .before .not-rising .ensures) ∙ c .if4 .left))
     (first-end _)))))
 
 pub check-column-spec : {M : Type 1} → statement M
@@ -81,6 +90,9 @@ check-column-spec =
     returns
     returns-2
     returns-3
+    add-not-rising
+    mul-not-rising
+    shared-slice-read-not-rising
     not-rising-requires
     returns-4
     returns-5)

@@ -6,28 +6,12 @@ use native.Mathlib.Omega.{arith}
 use Prim.Native.Nat.{ℕ, _≤_, _<_, _-_, _+_}
 use borrow.Author.Needs.{needs}
 use lib.Dec.{ltb}
-use Rattle.lists.specs.Test.{any, any-none, any-next, anyIn, anyIn-found, anyIn-hit, or-cases, or-left, or-right, same-truth}
-use Rattle.lists.specs.Select.{tally, tally-most, select-at, select-holds}
+use Rattle.lists.specs.Test.{any, any-none, any-next, or-cases, or-left, or-right, same-truth}
+use Rattle.lists.specs.Select.{tally, tally-most, anyIn-tally}
 use Rattle.columns.specs.Columns.{start, notAbove, unsorted}
 use Rattle.columns.specs.Factor.{starts-end}
 use Rattle.factor_check.proofs.rows.start_descents.Statement.{statement}
 use Rattle.factor_check.proofs.rows.start_descents.Tie as tie
-
--- a test holds of a number exactly if it counts one
-any-counts : (test : ℕ → Bool) (s e : ℕ) → anyIn test s e ≡ ltb 0 (tally test s e)
-any-counts test s e = same-truth (anyIn test s e) (ltb 0 (tally test s e)) there back
-  where
-    there : anyIn test s e ≡ true → ltb 0 (tally test s e) ≡ true
-    there h =
-        let f = anyIn-found test s e h in
-        let g = select-holds test s e (f .0) (f .1) (f .2) (f .3) in
-        lt-ltb 0 (tally test s e) (omega (arith, g .1))
-
-    back : ltb 0 (tally test s e) ≡ true → anyIn test s e ≡ true
-    back h =
-        let l : 0 < tally test s e = ltb-true _ _ h in
-        let u = select-at test s e 0 (omega (arith, tally-most test s e)) l in
-        anyIn-hit test s e _ (u .from) (u .below) (u .passes)
 
 -- a count falls short of what rises by the same and t more, if it did before or t is above 0
 falls-short : (count a r t : ℕ) → count ≤ a → (ltb count a || ltb 0 t) ≡ ltb (count + r) (a + r + t)
@@ -111,7 +95,7 @@ loop-again c =
       search needs,
       omega (arith, gain c),
       any-next (unsorted (s .args .starts .now) (s .args .rows .now)) (a .loop .c)
-          ∙ ap₂ _||_ (a .loop .inv .2) (any-counts (notAbove (s .args .rows .now)) _ _)
+          ∙ ap₂ _||_ (a .loop .inv .2) (anyIn-tally (notAbove (s .args .rows .now)) _ _)
           ∙ falls-short (a .loop .count) _ (c .start-descent .result) _ (a .loop .inv .1)
           ∙ ap (ltb (a .loop .count + c .start-descent .result)) (sym (gain c)),
     )

@@ -16,8 +16,8 @@ column-value-requires c κs =
     let s = c .before .before .before in
     (omega (arith, s .pre), s .pre .0 .column (s .args .c) (s .pre .1))
 
-enum-known-d : tie.Need-enum-known-d
-enum-known-d c = search needs
+enum-known-entry : tie.Need-enum-known-entry
+enum-known-entry c = search needs
 
 enum-told : tie.Need-enum-told
 enum-told c = search needs
@@ -28,7 +28,7 @@ returns c =
     let d = x .before .before in
     let s = d .before .before .before .before in
     let a = s .args in
-    let there = sym (d .column-value .ensures) ∙ ap entryReply (x .d .given .1) in (
+    let there = sym (d .column-value .ensures .0) ∙ ap entryReply (x .entry .given .1) in (
       sym (diagonalOf-place nan (a .starts .now) (a .rows .now) (a .values .now) (s .pre .0) f0 (a .c) (s .pre .1) ∙ ap (settle f0) there),
       sym (markOf-place nan (a .starts .now) (a .rows .now) (a .values .now) (s .pre .0) (a .c) (s .pre .1) ∙ ap (λ (r : Reply Float). bit (finds r)) there),
     )
@@ -38,10 +38,10 @@ returns-2 c =
     let d = c .before .before in
     let s = d .before .before .before .before in
     let a = s .args in
-    let there = sym (d .column-value .ensures) ∙ ap entryReply (c .enum-told .given .1) in (
+    let there = sym (d .column-value .ensures .0) ∙ ap entryReply (c .enum-told .given .1) in (
       sym (diagonalOf-place nan (a .starts .now) (a .rows .now) (a .values .now) (s .pre .0) f0 (a .c) (s .pre .1) ∙ ap (settle f0) there),
       sym (markOf-place nan (a .starts .now) (a .rows .now) (a .values .now) (s .pre .0) (a .c) (s .pre .1) ∙ ap (λ (r : Reply Float). bit (finds r)) there),
     )
 
 pub diagonal-spec : {M : Type 1} → statement M
-diagonal-spec = tie.close (tie.spec column-value-requires enum-known-d enum-told returns returns-2)
+diagonal-spec = tie.close (tie.spec column-value-requires enum-known-entry enum-told returns returns-2)

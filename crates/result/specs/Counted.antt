@@ -1,0 +1,79 @@
+-- The places that a lookup looks at: those of the column search where it comes to that, else none.
+-- Assumes nothing.
+use Prim.Native.Nat.{ℕ, _+_, _-_, _*_, _≤_, _<_, max, min}
+use native.Mathlib.Omega.{arith}
+use native.Mathlib.Nat.{max-eq-left, max-eq-right, min-eq-left, min-eq-right, le-refl, add-zero}
+use mathlib.Core.Path.{_≡_, refl, sym, ap, ap₂, subst, _∙_}
+use mathlib.Core.List.{List}
+use lib.ListN.{length, take, drop, length-drop}
+use lib.Seq.{length-take-le, getD-take, getD-drop}
+use Rattle.refusal.specs.Steps.{Passed, verdict, refused, answered, first, settle}
+use Rattle.columns.specs.Columns.{start, row}
+use Rattle.result.specs.Digits.{binaryDigits}
+use Rattle.result.specs.Looks.{looks, looks-first, looks-most}
+use Rattle.result.specs.Lookup.{dimension, columnFaults, searchSteps, WellFormed}
+use Rattle.result.specs.Laws.{columnFaults-passed, search-none, search-outside, search-broken, search-row, search-passed}
+
+-- the rows of column c
+abbrev pub columnRows : List ℕ → List ℕ → ℕ → List ℕ
+columnRows starts rows c = take (start starts (c + 1) - start starts c) (drop (start starts c) rows)
+
+-- the looks of the lookup of row r and column c, r at least c; none where it refuses before it searches
+unfoldable pub entryLooks : List ℕ → List ℕ → ℕ → ℕ → ℕ → ℕ
+entryLooks starts rows values r c = settle 0 (first (searchSteps starts rows values r c) (looks (columnRows starts rows c) r))
+
+-- the same with row and column exchanged if row < column; `values` is the number of values
+abbrev pub lookupLooks : List ℕ → List ℕ → ℕ → ℕ → ℕ → ℕ
+lookupLooks starts rows values row col = entryLooks starts rows values (max row col) (min row col)
+
+module _ (starts rows : List ℕ) (values : ℕ) where
+  pub looks-ordered : (row col : ℕ) → col ≤ row → lookupLooks starts rows values row col ≡ entryLooks starts rows values row col
+  looks-ordered row col h = ap₂ (entryLooks starts rows values) (max-eq-left h) (min-eq-right h)
+
+  pub looks-exchanged : (row col : ℕ) → row ≤ col → lookupLooks starts rows values row col ≡ entryLooks starts rows values col row
+  looks-exchanged row col h = ap₂ (entryLooks starts rows values) (max-eq-right h) (min-eq-left h)
+
+  -- step by step: no starts, a column outside, a broken column, a row outside
+  module _ (r c : ℕ) where
+    pub entryLooks-none : length starts ≡ 0 → entryLooks starts rows values r c ≡ 0
+    unfolding entryLooks
+    entryLooks-none e = ap (settle 0) (search-none starts rows values r c _ e)
+
+    pub entryLooks-outside : 0 < length starts → dimension starts ≤ c → entryLooks starts rows values r c ≡ 0
+    unfolding entryLooks
+    entryLooks-outside some out = ap (settle 0) (search-outside starts rows values r c _ some out)
+
+    module _ (some : 0 < length starts) (inside : c < dimension starts) where
+      pub entryLooks-broken : (k : ℕ) → verdict (columnFaults starts rows values c) ≡ refused k → entryLooks starts rows values r c ≡ 0
+      unfolding entryLooks
+      entryLooks-broken k e = ap (settle 0) (search-broken starts rows values r c _ some inside k e)
+
+      pub entryLooks-row : Passed (columnFaults starts rows values c) → dimension starts ≤ r → entryLooks starts rows values r c ≡ 0
+      unfolding entryLooks
+      entryLooks-row passed out = ap (settle 0) (search-row starts rows values r c _ some inside passed out)
+
+      -- else those of the column search
+      pub entryLooks-searched : Passed (columnFaults starts rows values c) → r < dimension starts → entryLooks starts rows values r c ≡ looks (columnRows starts rows c) r
+      unfolding entryLooks
+      entryLooks-searched passed below = ap (settle 0) (search-passed starts rows values r c _ some inside passed below)
+
+  module _ (W : WellFormed starts rows values) where
+    -- in a well-formed result a diagonal that stands first in its column takes one look
+    pub diagonal-looks : (c : ℕ) → c < dimension starts → start starts c < start starts (c + 1) → row rows (start starts c) ≡ c → lookupLooks starts rows values c c ≡ 1
+    diagonal-looks c l h e =
+        let C = W .column c l in
+        let s = start starts c in
+        let m = start starts (c + 1) - s in
+        let n : length (take m (drop s rows)) ≡ m = length-take-le m (drop s rows) (simp length-drop (omega (arith, C .stored))) in
+        looks-ordered c c (le-refl c)
+        ∙ entryLooks-searched c c (W .some) l (columnFaults-passed starts rows values c C) l
+        ∙ looks-first (columnRows starts rows c) c (omega (arith, n, h)) (getD-take m (drop s rows) 0 0 (omega arith) ∙ getD-drop s rows 0 0 ∙ ap (row rows) (add-zero s) ∙ e)
+
+    -- and no lookup more than twice the binary digits of its column's number of rows
+    pub lookup-looks : (r c : ℕ) → c ≤ r → r < dimension starts → lookupLooks starts rows values r c ≤ 2 * binaryDigits (start starts (c + 1) - start starts c)
+    lookup-looks r c o l =
+        let C = W .column c (omega arith) in
+        let m = start starts (c + 1) - start starts c in
+        let n : length (columnRows starts rows c) ≡ m = length-take-le m (drop (start starts c) rows) (simp length-drop (omega (arith, C .stored))) in
+        rw (looks-ordered r c o, entryLooks-searched r c (W .some) (omega arith) (columnFaults-passed starts rows values c C) l)
+        (subst (λ (k : ℕ). looks (columnRows starts rows c) r ≤ 2 * binaryDigits k) n (looks-most (columnRows starts rows c) r))
