@@ -3,7 +3,7 @@
 use Prim.Native.Nat.{ℕ}
 use Rattle.refusal.specs.Steps.{Reply, refused, answered}
 use Rattle.refusal.specs.declared.Refusal.{Refusal}
-use Rattle.refusal.specs.declared.Refusal.the-variants.{TooLarge, BrokenStarts, BrokenRows, DimensionMismatch, RequestOutOfRange, NonPositiveDefinite, TooShort, NotCovered, BrokenOperator, IndexTooLarge, DuplicateEntry, NotInverse, NotFinite, BadScale, OtherHeader, MalformedFile, FileIndexOutside}
+use Rattle.refusal.specs.declared.Refusal.the-variants.{TooLarge, BrokenStarts, BrokenRows, DimensionMismatch, RequestOutOfRange, NonPositiveDefinite, TooShort, NotCovered, BrokenOperator, IndexTooLarge, DuplicateEntry, NotInverse, NotFinite, BadScale, OtherHeader, MalformedFile, FileIndexOutside, NotFiniteEntry}
 use Rattle.refusal.specs.declared.Checked.{Checked}
 use Rattle.refusal.specs.declared.Checked.the-variants.{Accepted, Refused}
 
@@ -26,6 +26,7 @@ refusalNumber BadScale = 14
 refusalNumber OtherHeader = 15
 refusalNumber MalformedFile = 16
 refusalNumber FileIndexOutside = 17
+refusalNumber NotFiniteEntry = 18
 
 -- the reply of a check: accepted, or a refusal's number
 abbrev pub replyOf : Checked → Reply (Unit {0})

@@ -19,6 +19,7 @@ pub enum Refusal {
     OtherHeader,
     MalformedFile,
     FileIndexOutside,
+    NotFiniteEntry,
 }
 
 // Accepted, or why not.
