@@ -1,6 +1,7 @@
 -- Step 6, and what a factor has that passes it: one kept diagonal a column, above 0.0 or NaN.
 -- Assumes nothing.
 use Prim.Native.Nat.{ℕ, _+_, _≤_, _<_}
+use native.Mathlib.Nat.{eq-or-lt-of-le}
 use native.Mathlib.Omega.{arith}
 use mathlib.Core.Path.{_≡_, refl, sym, ap, subst, _∙_}
 use mathlib.Core.Bool.{Bool, true, false, not, _&&_, _||_, or-true}
@@ -14,7 +15,7 @@ use Rattle.lists.specs.Test.{and-left, and-right, or-cases, or-neither-left, or
 use Rattle.lists.specs.Select.{select-at, select-holds}
 use Rattle.refusal.specs.Steps.{Step, Passed, Clear, verdict, refused, first-hit, first-skip, passed-clear, clear-passed}
 use Rattle.columns.specs.Columns.{start, row, value, outsideAt}
-use Rattle.columns.specs.Kept.{f0, nonzero, keptDiagonal, diag}
+use Rattle.columns.specs.Kept.{f0, nonzero, kept, keptDiagonal, diag}
 use Rattle.columns.specs.Factor.{Sorted, Factor, Column, FirstFrom, neither-below, rows-once, factor-column}
 
 -- column c is without a kept diagonal
@@ -159,6 +160,18 @@ module _ {c : ℕ} {rows : List ℕ} {count s e p : ℕ} (C : Column rows count 
   -- later rows are below the diagonal
   pub firstFrom-below : (q : ℕ) → p < q → q < e → c < row rows q
   firstFrom-below q l hi = let z = C .ascends p q (F .from) l hi in let y = F .stops (omega arith) in omega arith
+
+  -- from the first place on no row is above the diagonal
+  pub firstFrom-from : (q : ℕ) → p ≤ q → q < e → c ≤ row rows q
+  firstFrom-from q lo hi =
+      ⊎-elim
+      (λ m. let y = F .stops (omega arith) in omega (arith, ap (row rows) m))
+      (λ l. let y = firstFrom-below q l hi in omega arith)
+      (eq-or-lt-of-le lo)
+
+  -- before it no entry is kept
+  pub firstFrom-dropped : (nz : ℕ → Bool) (q : ℕ) → s ≤ q → q < p → kept rows nz c q ≡ false
+  firstFrom-dropped nz q lo hi = rw (anyIn-below (outsideAt c rows) s p q (F .before) lo hi)
 
   elsewhere : (nz : ℕ → Bool) (q : ℕ) → s ≤ q → q < e → (q ≡ p → ⊥) → keptDiagonal rows nz c q ≡ false
   elsewhere nz q lo hi off = rw (ne-eqb (row rows q) c (λ r. off (firstFrom-only q lo hi r)))

@@ -2,6 +2,7 @@
 pub mod Columns
 pub mod Factor
 pub mod Kept
+pub mod Stored
 pub mod Diagonal
 pub mod Pattern
 pub mod Operator
