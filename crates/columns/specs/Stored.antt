@@ -91,13 +91,15 @@ module _ (n : ℕ) (starts rows : List ℕ) (values : List Float) where
   unfolding factorSteps
   factorSteps-bounded e = boundSteps-sound n (length rows) (passed-front bounds stored e)
 
-  pub factorSteps-sound : Passed (factorSteps n starts rows values) → Factor n starts rows (length values)
+  pub factorSteps-stored : Passed (factorSteps n starts rows values) → Passed (storedSteps n starts rows values)
   unfolding factorSteps
-  factorSteps-sound e = storedSteps-sound (passed-back bounds stored e)
+  factorSteps-stored e = passed-back bounds stored e
+
+  pub factorSteps-sound : Passed (factorSteps n starts rows values) → Factor n starts rows (length values)
+  factorSteps-sound e = storedSteps-sound (factorSteps-stored e)
 
   pub factorSteps-finite : Passed (factorSteps n starts rows values) → FiniteEntries n starts rows values
-  unfolding factorSteps
-  factorSteps-finite e = storedSteps-finite (passed-back bounds stored e)
+  factorSteps-finite e = storedSteps-finite (factorSteps-stored e)
 
   pub factorSteps-passed : FactorBounded n (length rows) → Factor n starts rows (length values) → FiniteEntries n starts rows values
       → Passed (factorSteps n starts rows values)
