@@ -7,11 +7,11 @@ use mathlib.Core.Path.{_≡_, refl, sym, ap, subst, _∙_}
 use mathlib.Core.Bool.{Bool, true, false, not, _&&_, _||_, or-true}
 use mathlib.Core.List.{List, [], _∷_}
 use mathlib.Core.Logic.{⊎-elim}
-use lib.Dec.{eqb}
+use lib.Dec.{leb, eqb}
 use lib.Ieee.{Float, ne, le, lt, eq}
-use borrow.Author.Tests.{leb-false, eqb-true, eqb-false, eq-eqb, ne-eqb, not-false}
+use borrow.Author.Tests.{leb-false, eqb-true, eqb-false, le-leb, eq-eqb, ne-eqb, not-false}
 use Rattle.lists.specs.Test.{any, anyIn, any-below, any-all, any-hit, anyIn-below, anyIn-found, anyIn-all, anyIn-hit}
-use Rattle.lists.specs.Test.{and-left, and-right, or-cases, or-neither-left, or-neither-right}
+use Rattle.lists.specs.Test.{and-left, and-right, and-both, or-cases, or-neither-left, or-neither-right}
 use Rattle.lists.specs.Select.{select-at, select-holds}
 use Rattle.refusal.specs.Steps.{Step, Passed, Clear, verdict, refused, first-hit, first-skip, passed-clear, clear-passed}
 use Rattle.columns.specs.Columns.{start, row, value, outsideAt}
@@ -63,6 +63,10 @@ module _ (rows : List ℕ) (nz : ℕ → Bool) (c p : ℕ) (t : keptDiagonal row
 
   pub keptDiagonal-nonzero : nz p ≡ true
   keptDiagonal-nonzero = and-right (eqb (row rows p) c) (nz p) t
+
+  -- and that it is kept
+  pub keptDiagonal-kept : kept rows nz c p ≡ true
+  keptDiagonal-kept = and-both (leb c (row rows p)) (nz p) (le-leb c (row rows p) (omega (arith, keptDiagonal-row))) keptDiagonal-nonzero
 
 -- a column with a kept diagonal has exactly one
 pub diagonal-one : {n : ℕ} {starts rows : List ℕ} (nz : ℕ → Bool) → Sorted n starts rows → (c : ℕ) → c < n
