@@ -1,7 +1,7 @@
 -- Step 18, a kept entry that is not finite; a factor's steps, 2, 3 and 18, and with 1 before them; what a factor has that passes.
 -- Assumes nothing.
 use Prim.Native.Nat.{ℕ, _+_, _≤_, _<_}
-use mathlib.Core.Path.{_≡_, refl, ap}
+use mathlib.Core.Path.{_≡_, refl, sym, ap, _∙_}
 use mathlib.Core.Bool.{Bool, true, false, not, _&&_}
 use mathlib.Core.List.{List, [], _∷_, _++_}
 use lib.ListN.{length}
@@ -47,7 +47,8 @@ module _ (n : ℕ) (starts rows : List ℕ) (values : List Float) where
       let none = passed-clear (finiteSteps n starts rows values) e .0 in
       record {
         finite-kept = λ c p h lo hi k.
-            not-false _ (rw k at (anyIn-below (keptNotFinite rows values c) _ _ p (any-below (notFiniteColumn starts rows values) n c none h) lo hi));
+            not-false _ (ap (λ (b : Bool). b && notFinite values p) (sym k)
+            ∙ anyIn-below (keptNotFinite rows values c) _ _ p (any-below (notFiniteColumn starts rows values) n c none h) lo hi);
       }
 
   pub finiteSteps-passed : FiniteEntries n starts rows values → Passed (finiteSteps n starts rows values)

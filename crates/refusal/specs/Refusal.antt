@@ -1,4 +1,4 @@
--- Document 01's number of each refusal, and a check's answer as a reply.
+-- The documents' number of each refusal, and a check's answer as a reply.
 -- Assumes nothing.
 use Prim.Native.Nat.{ℕ}
 use Rattle.refusal.specs.Steps.{Reply, refused, answered}
@@ -7,7 +7,7 @@ use Rattle.refusal.specs.declared.Refusal.the-variants.{TooLarge, Broken
 use Rattle.refusal.specs.declared.Checked.{Checked}
 use Rattle.refusal.specs.declared.Checked.the-variants.{Accepted, Refused}
 
--- document 01's number of a refusal
+-- the documents' number of a refusal
 abbrev pub refusalNumber : Refusal → ℕ
 refusalNumber TooLarge = 1
 refusalNumber BrokenStarts = 2
