@@ -1062,7 +1062,7 @@ def given(programs):
         assert name not in names and fits(kind, f), name
         names.add(name)
         number = [0 if is_value(x) else x for x in lookups(f)] if kind == "get" else [refusal(kind, f)]
-        assert number == expect, "%s: expects %s, the documents give %s" % (name, expect, number)
+        assert number == expect, "%s: expects %s, document 01 gives %s" % (name, expect, number)
         lent = [x in f for x in LENT[kind]]
         assert all(lent) or not any(lent) or kind == "diag", name
         cases.append((name, kind, f))
