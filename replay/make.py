@@ -15,9 +15,9 @@ kind `defaultlimit` becomes one of `entries` with no requests and the default li
 
 What the answers file holds is the Rust's answer with these changes:
 - `reply err ..` becomes `reply N`, document 01's number;
-- where document 01 refuses, which `refusal` below reads from its text and not from our code, the
-  answer is that number, whatever the Rust says (it panics, cannot be fed, or accepts). For a refused
-  case of cases.txt the Rust is not asked;
+- where document 01 refuses, or document 02 a kept entry that is not finite with 18, which `refusal`
+  below reads from their text and not from our code, the answer is that number, whatever the Rust says
+  (it panics, cannot be fed, or accepts). For a refused case of cases.txt the Rust is not asked;
 - a lookup is document 01's where the Rust's columns cannot hold the lists;
 - the lists lent for writing are whole: what the Rust gives stands in front, and the rest is what
   document 01 says is left;
@@ -273,7 +273,7 @@ def readable_fields(lines):
     return f, expect
 
 
-# ---- document 01: what each call refuses, in its order; the first number decides
+# ---- document 01, with document 02's 18: what each call refuses, in its order; the first number decides
 
 MOST_COLUMNS, MOST_ENTRIES = 2048, 1048576
 
@@ -313,6 +313,8 @@ def factor_refusals(f):
         for p in range(starts[c], starts[c + 1]):
             if rows[p] >= n or (p > starts[c] and rows[p] <= rows[p - 1]):
                 yield 3
+    if not all(finite(v) for c in range(n) for _, v in kept(f, c)):
+        yield 18
 
 
 def operator_refusals(f, columns, names=OPERATOR):
@@ -679,7 +681,7 @@ REFUSALS = {
 
 
 def refusal(kind, f):
-    """Document 01's refusal of a call, 0 for none."""
+    """The documents' refusal of a call, 0 for none."""
     return next(REFUSALS[kind](f), 0)
 
 
@@ -819,8 +821,8 @@ def expected(kind, f, answer):
     reply = got.get("reply", [])
     said = 0 if reply == ["ok"] else error_number(kind, reply[-1]) if reply else number
     if said != number:
-        what = "refuses with %d" % number if number else "accepts"
-        difference = "%s: document 01 %s, the Rust: %s" % (kind, what, " ".join(reply))
+        what = "refuse with %d" % number if number else "accept"
+        difference = "%s: the documents %s, the Rust: %s" % (kind, what, " ".join(reply))
     if number:
         return ["reply %d" % number] + lists_after(kind, f, number, got), difference
     assert reply == ["ok"], difference
@@ -1051,7 +1053,7 @@ def spoil_covar(chance, f):
         name = chance.pick(("astarts", "bstarts"))
         f[name] = chance.pick(([], f[name][1:], f[name] + [0], [1] + f[name]))
     elif which == 5 and f["values"]:
-        f["values"] = f["values"][:-1] + [value_bits(chance.pick(("0.0", "-1.0")))]
+        f["values"] = f["values"][:-1] + [value_bits(chance.pick(("0.0", "-1.0", "nan", "-inf")))]
     elif which == 6:
         f["starts"] = f["starts"][:-1]
     else:
@@ -1123,7 +1125,7 @@ def generated(programs, name, *seed):
 
 
 def given(programs):
-    """The cases of cases.txt; what each expects must be document 01's."""
+    """The cases of cases.txt; what each expects must be the documents'."""
     with open(os.path.join(os.path.dirname(os.path.abspath(__file__)), "cases.txt")) as file:
         text = file.read()
     cases, questioned, names = [], [], set()

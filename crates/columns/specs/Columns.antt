@@ -66,11 +66,3 @@ rowsSteps n starts rows = (3, outside n rows) ∷ (3, any (unsorted starts rows)
 -- 2 and 3 of compressed columns, whatever their values; `values` is the number of values
 unfoldable pub columnSteps : ℕ → List ℕ → List ℕ → ℕ → List Step
 columnSteps n starts rows values = startsSteps n starts rows values ++ rowsSteps n starts rows
-
--- 2 and 3 of a factor
-unfoldable pub storedSteps : ℕ → List ℕ → List ℕ → List Float → List Step
-storedSteps n starts rows values = columnSteps n starts rows (length values)
-
--- 1, 2 and 3 of a factor
-unfoldable pub factorSteps : ℕ → List ℕ → List ℕ → List Float → List Step
-factorSteps n starts rows values = boundSteps n (length rows) ++ storedSteps n starts rows values

@@ -1,20 +1,21 @@
 -- Step 6, and what a factor has that passes it: one kept diagonal a column, above 0.0 or NaN.
 -- Assumes nothing.
 use Prim.Native.Nat.{ℕ, _+_, _≤_, _<_}
+use native.Mathlib.Nat.{eq-or-lt-of-le}
 use native.Mathlib.Omega.{arith}
 use mathlib.Core.Path.{_≡_, refl, sym, ap, subst, _∙_}
 use mathlib.Core.Bool.{Bool, true, false, not, _&&_, _||_, or-true}
 use mathlib.Core.List.{List, [], _∷_}
 use mathlib.Core.Logic.{⊎-elim}
-use lib.Dec.{eqb}
+use lib.Dec.{leb, eqb}
 use lib.Ieee.{Float, ne, le, lt, eq}
-use borrow.Author.Tests.{leb-false, eqb-true, eqb-false, eq-eqb, ne-eqb, not-false}
+use borrow.Author.Tests.{leb-false, eqb-true, eqb-false, le-leb, eq-eqb, ne-eqb, not-false}
 use Rattle.lists.specs.Test.{any, anyIn, any-below, any-all, any-hit, anyIn-below, anyIn-found, anyIn-all, anyIn-hit}
-use Rattle.lists.specs.Test.{and-left, and-right, or-cases, or-neither-left, or-neither-right}
+use Rattle.lists.specs.Test.{and-left, and-right, and-both, or-cases, or-neither-left, or-neither-right}
 use Rattle.lists.specs.Select.{select-at, select-holds}
 use Rattle.refusal.specs.Steps.{Step, Passed, Clear, verdict, refused, first-hit, first-skip, passed-clear, clear-passed}
 use Rattle.columns.specs.Columns.{start, row, value, outsideAt}
-use Rattle.columns.specs.Kept.{f0, nonzero, keptDiagonal, diag}
+use Rattle.columns.specs.Kept.{f0, nonzero, kept, keptDiagonal, diag}
 use Rattle.columns.specs.Factor.{Sorted, Factor, Column, FirstFrom, neither-below, rows-once, factor-column}
 
 -- column c is without a kept diagonal
@@ -62,6 +63,10 @@ module _ (rows : List ℕ) (nz : ℕ → Bool) (c p : ℕ) (t : keptDiagonal row
 
   pub keptDiagonal-nonzero : nz p ≡ true
   keptDiagonal-nonzero = and-right (eqb (row rows p) c) (nz p) t
+
+  -- and that it is kept
+  pub keptDiagonal-kept : kept rows nz c p ≡ true
+  keptDiagonal-kept = and-both (leb c (row rows p)) (nz p) (le-leb c (row rows p) (omega (arith, keptDiagonal-row))) keptDiagonal-nonzero
 
 -- a column with a kept diagonal has exactly one
 pub diagonal-one : {n : ℕ} {starts rows : List ℕ} (nz : ℕ → Bool) → Sorted n starts rows → (c : ℕ) → c < n
@@ -159,6 +164,18 @@ module _ {c : ℕ} {rows : List ℕ} {count s e p : ℕ} (C : Column rows count 
   -- later rows are below the diagonal
   pub firstFrom-below : (q : ℕ) → p < q → q < e → c < row rows q
   firstFrom-below q l hi = let z = C .ascends p q (F .from) l hi in let y = F .stops (omega arith) in omega arith
+
+  -- from the first place on no row is above the diagonal
+  pub firstFrom-from : (q : ℕ) → p ≤ q → q < e → c ≤ row rows q
+  firstFrom-from q lo hi =
+      ⊎-elim
+      (λ m. let y = F .stops (omega arith) in omega (arith, ap (row rows) m))
+      (λ l. let y = firstFrom-below q l hi in omega arith)
+      (eq-or-lt-of-le lo)
+
+  -- before it no entry is kept
+  pub firstFrom-dropped : (nz : ℕ → Bool) (q : ℕ) → s ≤ q → q < p → kept rows nz c q ≡ false
+  firstFrom-dropped nz q lo hi = rw (anyIn-below (outsideAt c rows) s p q (F .before) lo hi)
 
   elsewhere : (nz : ℕ → Bool) (q : ℕ) → s ≤ q → q < e → (q ≡ p → ⊥) → keptDiagonal rows nz c q ≡ false
   elsewhere nz q lo hi off = rw (ne-eqb (row rows q) c (λ r. off (firstFrom-only q lo hi r)))

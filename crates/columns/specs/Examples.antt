@@ -4,14 +4,15 @@ use Prim.Native.Nat.{ℕ}
 use mathlib.Core.Bool.{true, false}
 use mathlib.Core.List.{List, [], _∷_}
 use mathlib.Core.Path.{_≡_, refl}
-use lib.Ieee.{Float, nan, binary64, ofBits, ofInt, ne, le}
+use lib.Ieee.{Float, nan, inf, binary64, ofBits, ofInt, ne, le}
 use lib.IntN.{pos, negsuc}
 use Rattle.lists.specs.Test.{any, anyIn}
 use Rattle.lists.specs.Select.{select, picked}
 use Rattle.lists.specs.Sum.{sumTo}
 use Rattle.refusal.specs.Steps.{Passed, verdict, refused, first}
-use Rattle.columns.specs.Columns.{boundSteps, brokenSteps, startsSteps, rowsSteps, columnSteps, storedSteps, factorSteps}
+use Rattle.columns.specs.Columns.{boundSteps, brokenSteps, startsSteps, rowsSteps, columnSteps}
 use Rattle.columns.specs.Kept.{f0, nonzero, diag, desc, pattern, keptPair, factorPairs}
+use Rattle.columns.specs.Stored.{finiteSteps, storedSteps, factorSteps}
 use Rattle.columns.specs.Diagonal.{diagonalSteps}
 use Rattle.columns.specs.Operator.{operatorBoundSteps, operatorSteps}
 
@@ -88,16 +89,16 @@ dropped-above = refl
 
 -- ---- steps 1, 2 and 3
 F2-passes : Passed (factorSteps 2 F2-starts F2-rows F2-values)
-unfolding first factorSteps boundSteps storedSteps columnSteps startsSteps brokenSteps rowsSteps any anyIn
+unfolding first factorSteps boundSteps storedSteps columnSteps startsSteps brokenSteps rowsSteps finiteSteps any anyIn ofInt ofBits ne
 F2-passes = refl
 
 F3-passes : Passed (factorSteps 3 F3-starts F3-rows F3-values)
-unfolding first factorSteps boundSteps storedSteps columnSteps startsSteps brokenSteps rowsSteps any anyIn
+unfolding first factorSteps boundSteps storedSteps columnSteps startsSteps brokenSteps rowsSteps finiteSteps any anyIn ofInt ofBits ne
 F3-passes = refl
 
 -- n = 0
 none-passes : Passed (factorSteps 0 (0 ∷ []) [] [])
-unfolding first factorSteps boundSteps storedSteps columnSteps startsSteps brokenSteps rowsSteps any anyIn
+unfolding first factorSteps boundSteps storedSteps columnSteps startsSteps brokenSteps rowsSteps finiteSteps any anyIn ofInt ofBits ne
 none-passes = refl
 
 -- n = 2,049, before all
@@ -129,6 +130,25 @@ rows-repeat = refl
 rows-outside : verdict (factorSteps 2 F2-starts (0 ∷ 2 ∷ 1 ∷ []) F2-values) ≡ refused 3
 unfolding first factorSteps boundSteps storedSteps columnSteps startsSteps brokenSteps rowsSteps any anyIn
 rows-outside = refl
+
+-- ---- step 18
+nan-diagonal : verdict (factorSteps 1 (0 ∷ 1 ∷ []) (0 ∷ []) (nan ∷ [])) ≡ refused 18
+unfolding first factorSteps boundSteps storedSteps columnSteps startsSteps brokenSteps rowsSteps finiteSteps any anyIn ofInt ofBits ne
+nan-diagonal = refl
+
+infinity-below : verdict (factorSteps 2 F2-starts F2-rows (whole 1 ∷ inf true ∷ whole 1 ∷ [])) ≡ refused 18
+unfolding first factorSteps boundSteps storedSteps columnSteps startsSteps brokenSteps rowsSteps finiteSteps any anyIn ofInt ofBits ne
+infinity-below = refl
+
+-- above the diagonal anything may stand
+nan-above : Passed (factorSteps 2 (0 ∷ 1 ∷ 3 ∷ []) (0 ∷ 0 ∷ 1 ∷ []) (whole 1 ∷ nan ∷ whole 1 ∷ []))
+unfolding first factorSteps boundSteps storedSteps columnSteps startsSteps brokenSteps rowsSteps finiteSteps any anyIn ofInt ofBits ne
+nan-above = refl
+
+-- a row outside in a later column comes first
+nan-rows-outside : verdict (factorSteps 2 F2-starts (0 ∷ 1 ∷ 2 ∷ []) (nan ∷ whole 2 ∷ whole 1 ∷ [])) ≡ refused 3
+unfolding first factorSteps boundSteps storedSteps columnSteps startsSteps brokenSteps rowsSteps any anyIn
+nan-rows-outside = refl
 
 -- ---- step 6
 F3-positive : Passed (diagonalSteps 3 F3-starts F3-rows F3-values)

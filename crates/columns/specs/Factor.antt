@@ -7,13 +7,12 @@ use mathlib.Core.Path.{_≡_, sym, ap, subst}
 use mathlib.Core.Bool.{false, not}
 use mathlib.Core.List.{List, [], _∷_}
 use lib.ListN.{length}
-use lib.Ieee.{Float}
 use borrow.Author.Tests.{ltb-false, leb-false, eqb-true, le-ltb, lt-leb, eq-eqb, not-false}
 use Rattle.lists.specs.Test.{anyIn, any-below, any-all, anyIn-below, anyIn-all}
 use Rattle.refusal.specs.Steps.{Passed, passed-clear, clear-passed, passed-append, passed-front, passed-back}
 use Rattle.refusal.specs.Bounds.{maxDimension, maxEntries}
 use Rattle.columns.specs.Columns.{start, row, falls, outsideAt, notAbove, unsorted}
-use Rattle.columns.specs.Columns.{boundSteps, brokenSteps, startsSteps, rowsSteps, columnSteps, storedSteps, factorSteps}
+use Rattle.columns.specs.Columns.{boundSteps, brokenSteps, startsSteps, rowsSteps, columnSteps}
 
 -- the rows from s to below e ascend
 abbrev pub Ascends : List ℕ → ℕ → ℕ → Type 0
@@ -155,28 +154,6 @@ module _ (n : ℕ) (starts rows : List ℕ) (values : ℕ) where
       passed-append (startsSteps n starts rows values) (rowsSteps n starts rows)
       (startsSteps-passed n starts rows values (F .starts-rise) (F .valued))
       (rowsSteps-passed n starts rows (F .rows-ascend))
-
-module _ (n : ℕ) (starts rows : List ℕ) (values : List Float) where
-  pub storedSteps-sound : Passed (storedSteps n starts rows values) → Factor n starts rows (length values)
-  unfolding storedSteps
-  storedSteps-sound e = columnSteps-sound n starts rows (length values) e
-
-  pub storedSteps-passed : Factor n starts rows (length values) → Passed (storedSteps n starts rows values)
-  unfolding storedSteps
-  storedSteps-passed F = columnSteps-passed n starts rows (length values) F
-
-  pub factorSteps-bounded : Passed (factorSteps n starts rows values) → FactorBounded n (length rows)
-  unfolding factorSteps
-  factorSteps-bounded e = boundSteps-sound n (length rows) (passed-front (boundSteps n (length rows)) (storedSteps n starts rows values) e)
-
-  pub factorSteps-sound : Passed (factorSteps n starts rows values) → Factor n starts rows (length values)
-  unfolding factorSteps
-  factorSteps-sound e = storedSteps-sound (passed-back (boundSteps n (length rows)) (storedSteps n starts rows values) e)
-
-  pub factorSteps-passed : FactorBounded n (length rows) → Factor n starts rows (length values) → Passed (factorSteps n starts rows values)
-  unfolding factorSteps
-  factorSteps-passed B F =
-      passed-append (boundSteps n (length rows)) (storedSteps n starts rows values) (boundSteps-passed n (length rows) B) (storedSteps-passed F)
 
 -- ---- starts
 module _ {n : ℕ} {starts rows : List ℕ} (S : Starts n starts rows) where

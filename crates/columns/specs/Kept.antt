@@ -8,6 +8,7 @@ use mathlib.Core.Path.{_≡_, ap}
 use lib.Dec.{ltb, leb, eqb}
 use lib.ListN.{getD}
 use lib.Ieee.{Float, binary64, ne, eq, ofBits}
+use lib.Ieee.Scale.{finite}
 use Rattle.lists.specs.Test.{anyIn}
 use Rattle.lists.specs.Select.{select, tally}
 use Rattle.lists.specs.Sum.{sumTo, sumTo-none, sumTo-next}
@@ -21,6 +22,10 @@ f0 = ofBits binary64 0
 -- the value at p is not 0.0 of either sign
 abbrev pub nonzero : List Float → ℕ → Bool
 nonzero values p = ne (value values p) f0
+
+-- the value at p is NaN or an infinity
+abbrev pub notFinite : List Float → ℕ → Bool
+notFinite values p = not (finite (value values p))
 
 -- as code tests it by ==
 pub nonzero-not : (values : List Float) (p : ℕ) {b : Bool} → eq (value values p) f0 ≡ b → nonzero values p ≡ not b

@@ -2,8 +2,10 @@
 pub mod Columns
 pub mod Factor
 pub mod Kept
+pub mod Stored
 pub mod Diagonal
 pub mod Pattern
+pub mod Numbers
 pub mod Operator
 pub mod Examples
 pub mod OperatorPair

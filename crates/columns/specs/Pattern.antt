@@ -17,12 +17,18 @@ use Rattle.takahashi.specs.Entries.{Entry}
 use Rattle.columns.specs.Columns.{start, row, value}
 use Rattle.columns.specs.Kept.{entry, nonzero, kept, keptDiagonal, keptBelow, keptRow, descPlaces, desc, pattern, keptPair, keptCount, factorPairs}
 use Rattle.columns.specs.Factor.{Starts, Sorted, starts-end, rows-rise}
-use Rattle.columns.specs.Diagonal.{Diagonal, keptDiagonal-row, keptDiagonal-nonzero}
+use Rattle.columns.specs.Diagonal.{Diagonal, keptDiagonal-row, keptDiagonal-kept}
 
 -- the descendants' rows are the pattern
 pub desc-pattern : (starts rows : List ℕ) (values : List Float) (c : ℕ)
     → map (λ (e : Entry Float). e .row) (desc starts rows values c) ≡ pattern starts rows (nonzero values) c
 desc-pattern starts rows values c = map-map (λ (e : Entry Float). e .row) _ (descPlaces starts rows (nonzero values) c)
+
+-- what is kept below the diagonal is kept
+pub keptBelow-kept : (rows : List ℕ) (nz : ℕ → Bool) (c p : ℕ) → keptBelow rows nz c p ≡ true → kept rows nz c p ≡ true
+keptBelow-kept rows nz c p t =
+    let l = ltb-true c (row rows p) (and-left (ltb c (row rows p)) (nz p) t) in
+    and-both (leb c (row rows p)) (nz p) (le-leb c (row rows p) (omega arith)) (and-right (ltb c (row rows p)) (nz p) t)
 
 -- a descendant's row and value are those of its place
 pub desc-at : (starts rows : List ℕ) (values : List Float) (c i : ℕ) (d : Entry Float) → i < length (pattern starts rows (nonzero values) c)
@@ -47,11 +53,8 @@ module _ {n : ℕ} {starts rows : List ℕ} (nz : ℕ → Bool) (S : Starts n st
       let u = select-at (keptBelow rows nz c) (start starts c) (start starts (c + 1)) i (S .rising c h) (rw length-map at l) in
       let p = getD (descPlaces starts rows nz c) i 0 in
       let r = getD (pattern starts rows nz c) i 0 in
-      let a : c < r = pattern-above i l in
-      let q : r ≡ row rows p = pattern-at i l in
       anyIn-hit (keptRow rows nz r c) (start starts c) (start starts (c + 1)) p (u .from) (u .below)
-      (and-both (eqb (row rows p) r) (kept rows nz c p) (eq-eqb _ _ (sym q))
-      (and-both (leb c (row rows p)) (nz p) (le-leb c (row rows p) (omega arith)) (and-right (ltb c (row rows p)) (nz p) (u .passes))))
+      (and-both (eqb (row rows p) r) (kept rows nz c p) (eq-eqb _ _ (sym (pattern-at i l))) (keptBelow-kept rows nz c p (u .passes)))
 
   -- a kept entry below the diagonal is a descendant
   pub keptPair-below : (r : ℕ) → c < r → keptPair starts rows nz r c ≡ true
@@ -72,10 +75,8 @@ pub keptPair-diagonal : {starts rows : List ℕ} {c : ℕ} (nz : ℕ → Bool) �
 unfolding keptPair
 keptPair-diagonal {starts} {rows} {c} nz D =
     let p = D .place in
-    let q : row rows p ≡ c = keptDiagonal-row rows nz c p (D .kept) in
     anyIn-hit (keptRow rows nz c c) (start starts c) (start starts (c + 1)) p (D .from) (D .below)
-    (and-both (eqb (row rows p) c) (kept rows nz c p) (eq-eqb _ _ q)
-    (and-both (leb c (row rows p)) (nz p) (le-leb c (row rows p) (omega arith)) (keptDiagonal-nonzero rows nz c p (D .kept))))
+    (and-both (eqb (row rows p) c) (kept rows nz c p) (eq-eqb _ _ (keptDiagonal-row rows nz c p (D .kept))) (keptDiagonal-kept rows nz c p (D .kept)))
 
 module _ {n : ℕ} {starts rows : List ℕ} (nz : ℕ → Bool) (S : Starts n starts rows) (R : Sorted n starts rows) (c : ℕ) (h : c < n) where
   -- descendants lie below n

@@ -12,8 +12,9 @@ use Rattle.lists.specs.Test.{any-below}
 use Rattle.refusal.specs.Bounds.{maxEntries}
 use Rattle.refusal.specs.Steps.{Step, Passed, passed-clear, passed-front, passed-back}
 use Rattle.refusal.specs.Groups.{grouped, AllPassed, groups-passed}
-use Rattle.columns.specs.Columns.{outsideAt, outside, boundSteps, storedSteps}
-use Rattle.columns.specs.Factor.{boundSteps-sound, storedSteps-sound}
+use Rattle.columns.specs.Columns.{outsideAt, outside, boundSteps}
+use Rattle.columns.specs.Factor.{boundSteps-sound}
+use Rattle.columns.specs.Stored.{storedSteps}
 use Rattle.columns.specs.Operator.{operatorRows, operatorBoundSteps, operatorSteps, operatorSteps-sound}
 use Rattle.selection.specs.Selection.{Selection, Lent, Room, roomOf, defaultLimit, fillSteps, selectedTable, Accepted}
 use Rattle.selection.specs.Call.{fill-accepted}
@@ -85,7 +86,7 @@ module _ (x : CovarianceCall) where
   abbrev pub outputSteps : ℕ → List Step
   outputSteps output = (7, ltb output (length (x .aRows))) ∷ []
 
-  -- refusals 1; 2, 3; 4; 9; 6, 7; 7 of an output of that length
+  -- refusals 1; 2, 3, 18; 4; 9; 6, 7; 7 of an output of that length
   abbrev pub covarianceGroups : Room → ℕ → List (List Step)
   covarianceGroups lengths output =
       covarianceBounds
@@ -132,7 +133,6 @@ module _ (x : CovarianceCall) (lengths : Room) (output : ℕ) (p : Passed (covar
   covariance-accepted =
       let bounds = boundSteps (x .n) (length (x .rows)) in
       let B = boundSteps-sound (x .n) (length (x .rows)) (passed-front bounds _ (passed .0)) in
-      let F = storedSteps-sound (x .n) (x .starts) (x .rows) (x .values) (passed .1 .0) in
       let C = passed-clear (countSteps x) (passed .1 .1 .0) in
       let nine = passed .1 .1 .1 .0 in
       let later = passed-back aSteps (bSteps ++ rowSteps x) nine in
@@ -148,7 +148,7 @@ module _ (x : CovarianceCall) (lengths : Room) (output : ℕ) (p : Passed (covar
             (subst (λ (m : ℕ). q < m) (eqb-true _ _ (not-false _ (C .1 .1 .0))) l));
       } in
       record {
-        accepted = fill-accepted (covarianceSelection x) lengths (B .small) F (crossRequested-ranged O) (passed .1 .1 .1 .1 .0);
+        accepted = fill-accepted (covarianceSelection x) lengths (B .small) (passed .1 .0) (crossRequested-ranged O) (passed .1 .1 .1 .1 .0);
         few = B .few;
         operators = O;
         room = ltb-false _ _ (passed-clear (outputSteps x output) (passed .1 .1 .1 .1 .1 .0) .0);

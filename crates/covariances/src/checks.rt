@@ -1,4 +1,4 @@
-// What covariances refuse: steps 1 to 7, each over both operators and the row pairs.
+// What covariances refuse: steps 1 to 7 and 18, each over both operators and the row pairs.
 ghost use mathlib.Core.Path.{_≡_};
 ghost use mathlib.Core.Bool.{not};
 ghost use mathlib.Core.List.{[], _∷_, _++_};
@@ -111,7 +111,7 @@ fn check_operators(
     first_of(first, first_of(second, rows))
 }
 
-// Steps 1 to 7; the lists lent for writing are judged by their lengths.
+// Steps 1 to 7 and 18; the lists lent for writing are judged by their lengths.
 pub fn check_covariances(
     n: usize,
     starts: &[u32],

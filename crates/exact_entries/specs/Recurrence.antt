@@ -1,4 +1,4 @@
--- What a lookup returns after a call that fills result lists: Takahashi's recurrence, on every accepted input.
+-- What a lookup returns after a call that fills result lists: Takahashi's recurrence, on every accepted factor, whose numbers are finite.
 -- Assumes nothing.
 use Prim.Native.Nat.{ℕ, suc, _+_, _≤_, _<_, max, min}
 use native.Mathlib.Omega.{arith}
@@ -15,6 +15,7 @@ use Rattle.lists.specs.Test.{not-so}
 use Rattle.refusal.specs.Steps.{Step, Reply, refused, answered, Passed}
 use Rattle.pairs.specs.Pair.{pairTotal}
 use Rattle.columns.specs.Kept.{nonzero, pattern, diag, desc}
+use Rattle.columns.specs.Numbers.{Numbers, numbers}
 use Rattle.closed_set.specs.ClosedSet.{Needed, needed-range, member-needed, needed-member, Pattern}
 use Rattle.closed_set.specs.Size.{closureSize-most}
 use Rattle.takahashi.specs.Entries.{ascend-rows}
@@ -58,6 +59,10 @@ module _ (x : Selection) where
 module _ (x : Selection) (lent : Lent) (A : Accepted x (roomOf lent)) where
   abbrev pat : ℕ → List ℕ
   pat = pattern (x .starts) (x .rows) (nonzero (x .values))
+
+  -- the recurrence's diagonals are finite and above 0.0, its other numbers finite
+  pub selected-numbers : Numbers (x .n) (x .starts) (x .rows) (x .values)
+  selected-numbers = numbers (x .values) (A .factor) (A .finite) (A .diagonals)
 
   pub selected-pattern : Pattern (x .n) pat
   selected-pattern = factor-pattern (nonzero (x .values)) (A .factor)

@@ -1,13 +1,16 @@
-// A factor in compressed columns: refusals 1, 2 and 3.
+// A factor in compressed columns: refusals 1, 2, 3 and 18.
 pub mod bounds;
+pub mod finite;
 pub mod rows;
 pub mod starts;
 
 ghost use mathlib.Core.Path.{_≡_};
 ghost use Rattle.refusal.specs.Steps.{verdict};
 ghost use Rattle.refusal.specs.Refusal.{replyOf};
-ghost use Rattle.columns.specs.Columns.{columnSteps, storedSteps, factorSteps};
+ghost use Rattle.columns.specs.Columns.{columnSteps};
+ghost use Rattle.columns.specs.Stored.{storedSteps, factorSteps};
 use bounds::check_bounds;
+use finite::check_finite;
 use refusal::Checked;
 use rows::check_rows;
 use starts::check_starts;
@@ -22,14 +25,17 @@ pub fn check_columns(n: usize, starts: &[u32], rows: &[u32], values: usize) -> C
     }
 }
 
-// Steps 2 and 3 of a factor.
+// Steps 2, 3 and 18 of a factor.
 pub fn check_stored(n: usize, starts: &[u32], rows: &[u32], values: &[f64]) -> Checked
     ensures { λ r. ⌜ replyOf r ≡ verdict (storedSteps n (now (starts .entry)) (now (rows .entry)) (now (values .entry))) ⌝ }
 {
-    check_columns(n, starts, rows, values.len())
+    match check_columns(n, starts, rows, values.len()) {
+        Checked::Refused(why) => Checked::Refused(why),
+        Checked::Accepted => check_finite(n, starts, rows, values),
+    }
 }
 
-// Steps 1, 2 and 3 of a factor.
+// Steps 1, 2, 3 and 18 of a factor.
 pub fn check_factor(n: usize, starts: &[u32], rows: &[u32], values: &[f64]) -> Checked
     ensures { λ r. ⌜ replyOf r ≡ verdict (factorSteps n (now (starts .entry)) (now (rows .entry)) (now (values .entry))) ⌝ }
 {

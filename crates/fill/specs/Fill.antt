@@ -51,6 +51,7 @@ module _ {n : ℕ} {starts rows : List ℕ} {values : List Float} {req : ℕ →
     accepted = record {
       small = A .small;
       factor = A .factor;
+      finite = A .finite;
       requests = marked-requested n s₁ .ranged;
       diagonals = A .diagonals;
       starts-room = A .starts-room;

@@ -1,7 +1,6 @@
 -- A floor under variances.
 pub mod PositiveMean
 pub mod PositiveMeanLaws
-pub mod NotFinite
 pub mod VarianceFloor
 pub mod VarianceFloorLaws
 pub mod Floored

@@ -10,9 +10,8 @@ use lib.Ieee.Scale.{finite}
 use Rattle.lists.specs.Test.{any}
 use Rattle.refusal.specs.Bounds.{maxEntries}
 use Rattle.refusal.specs.Steps.{Step}
-use Rattle.columns.specs.Kept.{f0}
+use Rattle.columns.specs.Kept.{f0, notFinite}
 use Rattle.floor.specs.PositiveMean.{meanLevel}
-use Rattle.floor.specs.NotFinite.{notFinite}
 use Rattle.floor.specs.declared.variance_floor.VarianceFloor.{VarianceFloor}
 use Rattle.floor.specs.declared.variance_floor.VarianceFloor.the-variants.{Zero, PositiveMean}
 

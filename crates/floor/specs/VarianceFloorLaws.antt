@@ -12,7 +12,7 @@ use Rattle.lists.specs.Test.{any-below, any-all}
 use Rattle.refusal.specs.Bounds.{maxEntries}
 use Rattle.refusal.specs.Steps.{Passed, passed-clear, clear-passed}
 use Rattle.columns.specs.Columns.{value}
-use Rattle.floor.specs.NotFinite.{notFinite}
+use Rattle.columns.specs.Kept.{notFinite}
 use Rattle.floor.specs.declared.variance_floor.VarianceFloor.{VarianceFloor}
 use Rattle.floor.specs.VarianceFloor.{badScale, floorSteps}
 

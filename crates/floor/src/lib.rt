@@ -1,5 +1,4 @@
 // A floor under variances, after `stabilize_variances` of uncertainty.rs.
-pub mod finite_check;
 pub mod floored;
 pub mod positive_mean;
 pub mod variance_floor;

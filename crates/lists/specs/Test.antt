@@ -137,6 +137,13 @@ module _ (test : ℕ → Bool) where
   unfolding anyIn
   anyIn-none s = let q : s - s ≡ 0 = omega arith in rw q (any-none _)
 
+  -- from 0 on
+  pub anyIn-zero : (e : ℕ) → anyIn test 0 e ≡ any test e
+  unfolding anyIn
+  anyIn-zero e =
+      let q : e - 0 ≡ e = omega arith in
+      rw q (any-cong (λ k. test (0 + k)) test e (λ k l. let z : 0 + k ≡ k = omega arith in ap test z))
+
   pub anyIn-next : (s k : ℕ) → s ≤ k → anyIn test s (k + 1) ≡ (anyIn test s k || test k)
   unfolding anyIn
   anyIn-next s k h =

@@ -10,8 +10,9 @@ use borrow.Author.Tests.{ltb-false}
 use Rattle.refusal.specs.Bounds.{maxEntries}
 use Rattle.refusal.specs.Steps.{Step, Passed, passed-clear, passed-front}
 use Rattle.refusal.specs.Groups.{grouped, AllPassed, groups-passed}
-use Rattle.columns.specs.Columns.{boundSteps, storedSteps}
-use Rattle.columns.specs.Factor.{boundSteps-sound, storedSteps-sound}
+use Rattle.columns.specs.Columns.{boundSteps}
+use Rattle.columns.specs.Factor.{boundSteps-sound}
+use Rattle.columns.specs.Stored.{storedSteps}
 use Rattle.columns.specs.Operator.{operatorRows, operatorBoundSteps, operatorSteps, OperatorRows, operatorSteps-sound}
 use Rattle.selection.specs.Selection.{Selection, Lent, Room, roomOf, defaultLimit, fillSteps, selectedTable, Accepted}
 use Rattle.selection.specs.Call.{fill-accepted}
@@ -64,7 +65,7 @@ module _ (x : TransformedCall) where
   abbrev pub outputSteps : ℕ → List Step
   outputSteps output = (7, ltb output (operatorRows (x .rowStarts))) ∷ []
 
-  -- refusals 1 of the factor and of the operator; 2, 3; 4; 9; 6, 7; 7 of an output of that length
+  -- refusals 1 of the factor and of the operator; 2, 3, 18; 4; 9; 6, 7; 7 of an output of that length
   abbrev pub transformedGroups : Room → ℕ → List (List Step)
   transformedGroups lengths output =
       (boundSteps (x .n) (length (x .rows)) ++ operatorBoundSteps (x .rowStarts) (x .columns))
@@ -104,10 +105,9 @@ module _ (x : TransformedCall) (lengths : Room) (output : ℕ) (p : Passed (tran
   transformed-accepted =
       let bounds = boundSteps (x .n) (length (x .rows)) in
       let B = boundSteps-sound (x .n) (length (x .rows)) (passed-front bounds (operatorBoundSteps (x .rowStarts) (x .columns)) (passed .0)) in
-      let F = storedSteps-sound (x .n) (x .starts) (x .rows) (x .values) (passed .1 .0) in
       let O = operatorSteps-sound (x .n) (x .rowStarts) (x .columns) (length (x .weights)) (passed .1 .1 .1 .0) in
       record {
-        accepted = fill-accepted (transformedSelection x) lengths (B .small) F (operatorRequested-ranged O) (passed .1 .1 .1 .1 .0);
+        accepted = fill-accepted (transformedSelection x) lengths (B .small) (passed .1 .0) (operatorRequested-ranged O) (passed .1 .1 .1 .1 .0);
         few = B .few;
         operator = O;
         room = ltb-false _ _ (passed-clear (outputSteps x output) (passed .1 .1 .1 .1 .1 .0) .0);

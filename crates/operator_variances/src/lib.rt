@@ -39,7 +39,7 @@ fn check_column_count(ncols: usize, n: usize) -> Checked
     Checked::Accepted
 }
 
-// Steps 1 to 7; the lists lent for writing are judged by their lengths.
+// Steps 1 to 7 and 18; the lists lent for writing are judged by their lengths.
 fn check_transformed(
     n: usize,
     starts: &[u32],

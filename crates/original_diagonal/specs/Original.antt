@@ -13,8 +13,7 @@ use Rattle.lists.specs.Overwrite.{overwrite}
 use Rattle.refusal.specs.Bounds.{maxEntries}
 use Rattle.refusal.specs.Steps.{Step, Reply, first, after, Passed, passed-clear, passed-front, passed-back}
 use Rattle.refusal.specs.Groups.{grouped, AllPassed, groups-passed}
-use Rattle.columns.specs.Columns.{factorSteps}
-use Rattle.columns.specs.Factor.{Factor, factorSteps-bounded, factorSteps-sound}
+use Rattle.columns.specs.Stored.{factorSteps, factorSteps-bounded, factorSteps-stored}
 use Rattle.factor_order.specs.Permutation.{index, orderSteps, permutationSteps, reordered, Permutation}
 use Rattle.factor_order.specs.Laws.{passed-distinct, distinct-permutation}
 use Rattle.diagnostics.specs.declared.SelectedInverseDiagnostics.{SelectedInverseDiagnostics}
@@ -53,7 +52,7 @@ module _ (x : OriginalCall) where
   abbrev pub outputSteps : ℕ → List Step
   outputSteps output = (7, ltb output (x .n)) ∷ []
 
-  -- refusals 1, 2, 3; 4, 10, 11; 6, 7; 7 of an output of that length
+  -- refusals 1, 2, 3, 18; 4, 10, 11; 6, 7; 7 of an output of that length
   abbrev pub originalGroups : Room → ℕ → List (List Step)
   originalGroups lengths output =
       factorSteps (x .n) (x .starts) (x .rows) (x .values)
@@ -119,11 +118,11 @@ module _ (x : OriginalCall) (lengths : Room) (output : ℕ) (p : Passed (origina
   pub original-accepted : AcceptedOriginal x lengths output
   original-accepted =
       let B = factorSteps-bounded (x .n) (x .starts) (x .rows) (x .values) (passed .0) in
-      let F = factorSteps-sound (x .n) (x .starts) (x .rows) (x .values) (passed .0) in
+      let S = factorSteps-stored (x .n) (x .starts) (x .rows) (x .values) (passed .0) in
       let four : List Step = (4, not (eqb (length (x .perm)) (x .n))) ∷ [] in
       let o = passed .1 .0 in
       record {
-        accepted = fill-accepted (originalSelection x) lengths (B .small) F (diagonals-ranged (x .n)) (passed .1 .1 .0);
+        accepted = fill-accepted (originalSelection x) lengths (B .small) S (diagonals-ranged (x .n)) (passed .1 .1 .0);
         few = B .few;
         order = distinct-permutation (x .perm) (passed-distinct (x .perm) (passed-back four (permutationSteps (x .perm)) o));
         long = eqb-true _ _ (not-false _ (passed-clear four (passed-front four (permutationSteps (x .perm)) o) .0));

@@ -20,7 +20,7 @@ use verdicts::check_output;
 use verdicts::first_of;
 use words::at;
 
-// Steps 1 to 7; the lists lent for writing are judged by their lengths.
+// Steps 1 to 7 and 18; the lists lent for writing are judged by their lengths.
 fn check_original(
     n: usize,
     starts: &[u32],

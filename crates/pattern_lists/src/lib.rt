@@ -8,7 +8,7 @@ ghost use mathlib.Core.Path.{_≡_};
 ghost use lib.ListN.{length};
 ghost use Rattle.refusal.specs.Steps.{verdict};
 ghost use Rattle.refusal.specs.Refusal.{replyOf};
-ghost use Rattle.columns.specs.Columns.{factorSteps};
+ghost use Rattle.columns.specs.Stored.{factorSteps};
 ghost use Rattle.columns.specs.Kept.{nonzero, keptPair};
 ghost use Rattle.columns.specs.OperatorPair.{operatorPair};
 ghost use Rattle.pattern_lists.specs.PatternLists.{PatternLists};

@@ -5,7 +5,7 @@ ghost use lib.ListN.{length};
 ghost use lib.Ieee.{nan};
 ghost use Rattle.lists.specs.Overwrite.{overwrite};
 ghost use Rattle.refusal.specs.Steps.{verdict, first, after};
-ghost use Rattle.columns.specs.Columns.{factorSteps};
+ghost use Rattle.columns.specs.Stored.{factorSteps};
 ghost use Rattle.columns.specs.Kept.{nonzero, keptPair};
 ghost use Rattle.result.specs.Lookup.{lookup, resultSteps, diagSteps, diagonals, coverage};
 ghost use Rattle.result.specs.Counted.{lookupLooks};

@@ -1,13 +1,13 @@
--- Document 01's number of each refusal, and a check's answer as a reply.
+-- The documents' number of each refusal, and a check's answer as a reply.
 -- Assumes nothing.
 use Prim.Native.Nat.{ℕ}
 use Rattle.refusal.specs.Steps.{Reply, refused, answered}
 use Rattle.refusal.specs.declared.Refusal.{Refusal}
-use Rattle.refusal.specs.declared.Refusal.the-variants.{TooLarge, BrokenStarts, BrokenRows, DimensionMismatch, RequestOutOfRange, NonPositiveDefinite, TooShort, NotCovered, BrokenOperator, IndexTooLarge, DuplicateEntry, NotInverse, NotFinite, BadScale, OtherHeader, MalformedFile, FileIndexOutside}
+use Rattle.refusal.specs.declared.Refusal.the-variants.{TooLarge, BrokenStarts, BrokenRows, DimensionMismatch, RequestOutOfRange, NonPositiveDefinite, TooShort, NotCovered, BrokenOperator, IndexTooLarge, DuplicateEntry, NotInverse, NotFinite, BadScale, OtherHeader, MalformedFile, FileIndexOutside, NotFiniteEntry}
 use Rattle.refusal.specs.declared.Checked.{Checked}
 use Rattle.refusal.specs.declared.Checked.the-variants.{Accepted, Refused}
 
--- document 01's number of a refusal
+-- the documents' number of a refusal
 abbrev pub refusalNumber : Refusal → ℕ
 refusalNumber TooLarge = 1
 refusalNumber BrokenStarts = 2
@@ -26,6 +26,7 @@ refusalNumber BadScale = 14
 refusalNumber OtherHeader = 15
 refusalNumber MalformedFile = 16
 refusalNumber FileIndexOutside = 17
+refusalNumber NotFiniteEntry = 18
 
 -- the reply of a check: accepted, or a refusal's number
 abbrev pub replyOf : Checked → Reply (Unit {0})

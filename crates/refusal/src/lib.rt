@@ -1,6 +1,6 @@
-// The refusals of document 01, and the answer of a call that has nothing else to say.
+// The refusals of documents 01 and 02, and the answer of a call that has nothing else to say.
 
-// Why a call is refused; `refusalNumber` of specs/Refusal.antt gives document 01's number of each.
+// Why a call is refused; `refusalNumber` of specs/Refusal.antt gives the documents' number of each.
 pub enum Refusal {
     TooLarge,
     BrokenStarts,
@@ -19,6 +19,7 @@ pub enum Refusal {
     OtherHeader,
     MalformedFile,
     FileIndexOutside,
+    NotFiniteEntry,
 }
 
 // Accepted, or why not.

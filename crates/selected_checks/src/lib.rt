@@ -1,4 +1,4 @@
-// The checks of selected entries, refusals 1 to 7; the lists lent for writing are judged by their lengths.
+// The checks of selected entries, refusals 1 to 7 and 18; the lists lent for writing are judged by their lengths.
 pub mod requests;
 
 ghost use mathlib.Core.Path.{_≡_};
@@ -94,7 +94,7 @@ fn check_request_bound(requests: usize) -> Checked
     Checked::Accepted
 }
 
-// Steps 1 to 7; the lists lent for writing are judged by their lengths.
+// Steps 1 to 7 and 18; the lists lent for writing are judged by their lengths.
 pub fn check_selected(
     n: usize,
     starts: &[u32],

@@ -9,8 +9,9 @@ use Rattle.refusal.specs.Bounds.{maxDimension}
 use Rattle.refusal.specs.Steps.{Step, Reply, first, Passed, passed-clear, passed-front, passed-back}
 use Rattle.refusal.specs.Groups.{grouped, AllPassed, groups-passed}
 use Rattle.pairs.specs.Pair.{pairTotal}
-use Rattle.columns.specs.Columns.{boundSteps, storedSteps}
-use Rattle.columns.specs.Factor.{Factor, boundSteps-sound, storedSteps-sound}
+use Rattle.columns.specs.Columns.{boundSteps}
+use Rattle.columns.specs.Factor.{boundSteps-sound}
+use Rattle.columns.specs.Stored.{storedSteps, storedSteps-sound, storedSteps-finite}
 use Rattle.columns.specs.Diagonal.{diagonalSteps, diagonalSteps-sound}
 use Rattle.closed_set.specs.ClosedSet.{Ranged}
 use Rattle.closed_set.specs.Requests.{requested, Requests, requested-ranged}
@@ -54,7 +55,7 @@ module _ (x : Call) where
     limit = x .limit;
   }
 
-  -- refusals 1 to 7: 1 of the factor and of the requests; 2 and 3; 4 and 5; 6 and 7
+  -- refusals 1 to 7 and 18: 1 of the factor and of the requests; 2, 3 and 18; 4 and 5; 6 and 7
   abbrev pub selectedGroups : Room → List (List Step)
   selectedGroups lengths =
       (boundSteps (x .n) (length (x .rows)) ++ requestBoundSteps (length (x .requestRows)))
@@ -91,15 +92,17 @@ roomSteps-sound n limit lengths p =
     }
 
 -- a factor and requests past their checks, and lists that can be filled
-pub fill-accepted : (x : Selection) (lengths : Room) → x .n ≤ maxDimension → Factor (x .n) (x .starts) (x .rows) (length (x .values))
+pub fill-accepted : (x : Selection) (lengths : Room) → x .n ≤ maxDimension → Passed (storedSteps (x .n) (x .starts) (x .rows) (x .values))
     → Ranged (x .n) (x .requests) → Passed (fillSteps (x .n) (x .starts) (x .rows) (x .values) (x .limit) lengths) → Accepted x lengths
-fill-accepted x lengths small F R p =
+fill-accepted x lengths small stored R p =
+    let F = storedSteps-sound (x .n) (x .starts) (x .rows) (x .values) stored in
     let a = diagonalSteps (x .n) (x .starts) (x .rows) (x .values) in
     let b = roomSteps (x .n) (x .limit) lengths in
     let room = roomSteps-sound (x .n) (x .limit) lengths (passed-back a b p) in
     record {
       small = small;
       factor = F;
+      finite = storedSteps-finite (x .n) (x .starts) (x .rows) (x .values) stored;
       requests = R;
       diagonals = diagonalSteps-sound (x .n) (x .starts) (x .rows) (x .values) (F .rows-ascend) (passed-front a b p);
       starts-room = room .starts-room;
@@ -121,5 +124,5 @@ module _ (x : Call) (lengths : Room) (p : Passed (selectedSteps x lengths)) wher
   accepted =
       let bounds = boundSteps (x .n) (length (x .rows)) in
       let B = boundSteps-sound (x .n) (length (x .rows)) (passed-front bounds (requestBoundSteps (length (x .requestRows))) (passed .0)) in
-      fill-accepted (selectionOf x) lengths (B .small) (storedSteps-sound (x .n) (x .starts) (x .rows) (x .values) (passed .1 .0))
+      fill-accepted (selectionOf x) lengths (B .small) (passed .1 .0)
       (requested-ranged (x .requestRows) (x .requestColumns) (x .n) accepted-requests) (passed .1 .1 .1 .0)

@@ -18,6 +18,7 @@ use Rattle.pairs.specs.Pair.{pairTotal}
 pub use Rattle.pairs.specs.Scratch.{scratchWords}
 use Rattle.columns.specs.Kept.{nonzero, pattern}
 use Rattle.columns.specs.Factor.{Factor}
+use Rattle.columns.specs.Stored.{FiniteEntries}
 use Rattle.columns.specs.Diagonal.{diagonalSteps, Diagonals}
 use Rattle.closed_set.specs.ClosedSet.{member, Ranged}
 use Rattle.closed_set.specs.Size.{closureSize}
@@ -134,6 +135,7 @@ pub record ResultLists (steps : List Step) (x : Selection) (lent : Lent) (starts
 pub record Accepted (x : Selection) (lengths : Room) : Type 0 where
   pub small : x .n ≤ maxDimension
   pub factor : Factor (x .n) (x .starts) (x .rows) (length (x .values))
+  pub finite : FiniteEntries (x .n) (x .starts) (x .rows) (x .values)
   pub requests : Ranged (x .n) (x .requests)
   pub diagonals : Diagonals (x .n) (x .starts) (x .rows) (x .values)
   pub starts-room : x .n + 1 ≤ lengths .resultStarts

@@ -3,7 +3,7 @@ ghost use mathlib.Core.Path.{_≡_};
 ghost use Rattle.diagnostics.specs.Selected.{selectedReplyOf};
 ghost use Rattle.selected_entry.specs.SelectedEntry.{answerOf};
 ghost use Rattle.starred_table.specs.Counts.{showsOf, countedOf, hasRatio};
-ghost use Rattle.starred_table.specs.Entries.{isValue, isNan, isAbsent, isRefused};
+ghost use Rattle.starred_table.specs.Entries.{isValue, isAbsent, isRefused};
 use diagnostics::Selected;
 use diagnostics::SelectedInverseDiagnostics;
 use lookup::ordered::Entry;
@@ -68,20 +68,6 @@ pub fn is_value(e: SelectedEntry, v: f64) -> bool
     match e {
         SelectedEntry::Found(entry) => match entry {
             Entry::Value(z) => z == v,
-            Entry::Refused(_) => false,
-        },
-        SelectedEntry::ClosureTooLarge => false,
-        SelectedEntry::Refused(_) => false,
-    }
-}
-
-// Whether the lookup found NaN.
-pub fn is_nan(e: SelectedEntry) -> bool
-    ensures { λ r. ⌜ r ≡ isNan (answerOf e) ⌝ }
-{
-    match e {
-        SelectedEntry::Found(entry) => match entry {
-            Entry::Value(z) => z != z,
             Entry::Refused(_) => false,
         },
         SelectedEntry::ClosureTooLarge => false,

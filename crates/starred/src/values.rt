@@ -7,7 +7,6 @@ ghost use Rattle.starred_table.specs.Answer.{F2-entry, one-entry};
 ghost use Rattle.starred_table.specs.Entries.{isValue};
 use super::calls::entry;
 use super::shown::is_absent;
-use super::shown::is_nan;
 use super::shown::is_refused;
 use super::shown::is_value;
 use check::expect;
@@ -52,9 +51,9 @@ pub fn values_of_f2() {
     expect(is_absent(f2_entry(1, 0, 0)));
 }
 
-// One column: with only the value 0.0 it gives 6; the diagonal 2.0 gives 0.25; NaN is accepted and gives NaN.
+// One column: with only the value 0.0 it gives 6; the diagonal 2.0 gives 0.25; NaN gives 18.
 pub fn values_of_one_column() {
     expect(is_refused(one_entry(0.0), 6));
     expect(is_value(one_entry(2.0), 0.25));
-    expect(is_nan(one_entry(0.0 / 0.0)));
+    expect(is_refused(one_entry(0.0 / 0.0), 18));
 }

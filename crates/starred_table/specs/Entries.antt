@@ -3,7 +3,7 @@
 use Prim.Native.Nat.{ℕ}
 use mathlib.Core.Bool.{Bool, false}
 use lib.Dec.{eqb}
-use lib.Ieee.{Float, eq, ne}
+use lib.Ieee.{Float, eq}
 use Rattle.refusal.specs.Steps.{refused, answered}
 use Rattle.selected_entry.specs.SelectedEntry.{EntryAnswer, refusedWith, tooLarge, looked}
 
@@ -13,13 +13,6 @@ isValue (looked (answered z)) v = eq z v
 isValue (looked (refused k)) v = false
 isValue tooLarge v = false
 isValue (refusedWith k) v = false
-
--- the lookup found NaN
-abbrev pub isNan : EntryAnswer → Bool
-isNan (looked (answered z)) = ne z z
-isNan (looked (refused k)) = false
-isNan tooLarge = false
-isNan (refusedWith k) = false
 
 -- the lookup gave 8
 abbrev pub isAbsent : EntryAnswer → Bool

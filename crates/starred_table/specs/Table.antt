@@ -21,7 +21,8 @@ use Rattle.floor.specs.Examples.{half, variances, worked-reply, worked-output}
 use Rattle.pairs.specs.Pair.{pairTotal}
 use Rattle.pairs.specs.Scratch.{scratchWords}
 use Rattle.columns.specs.Kept.{f0, factorPairs}
-use Rattle.columns.specs.Columns.{boundSteps, brokenSteps, startsSteps, rowsSteps, columnSteps, storedSteps}
+use Rattle.columns.specs.Columns.{boundSteps, brokenSteps, startsSteps, rowsSteps, columnSteps}
+use Rattle.columns.specs.Stored.{finiteSteps, storedSteps}
 use Rattle.columns.specs.Diagonal.{diagonalSteps}
 use Rattle.columns.specs.Operator.{operatorSteps}
 use Rattle.columns.specs.Examples.{whole}
@@ -67,7 +68,7 @@ pub record ClosedSets : Type 0 where
 
 pub closed-sets : ClosedSets
 unfolding any anyIn sumTo picked select cellCount ofInt ofBits ne le div factorPairs reach member requested diagnosisOf ratioOf
-    first pairTotal scratchWords boundSteps brokenSteps startsSteps rowsSteps columnSteps storedSteps requestSteps diagonalSteps roomSteps selectedSteps
+    first pairTotal scratchWords boundSteps brokenSteps startsSteps rowsSteps columnSteps finiteSteps storedSteps requestSteps diagonalSteps roomSteps selectedSteps
 closed-sets = record {
   f2-first = refl;
   f2-limited = refl;
@@ -101,14 +102,14 @@ pub record Values : Type 0 where
   pub f2-first-11 : F2-entry (0 ∷ []) (0 ∷ []) 1 1 ≡ looked (answered (whole 1))
   -- F2 with the request (1, 1): the lookup of (0, 0) gives 8
   pub f2-last-00 : F2-entry (1 ∷ []) (1 ∷ []) 0 0 ≡ looked (refused 8)
-  -- one column: only the value 0.0 gives 6, the diagonal 2.0 gives 0.25, NaN is accepted and gives NaN
+  -- one column: only the value 0.0 gives 6, the diagonal 2.0 gives 0.25; NaN gives 18, as document 02 has it
   pub one-zero : one-entry f0 ≡ refusedWith 6
   pub one-two : one-entry (whole 2) ≡ looked (answered quarter)
-  pub one-nan : one-entry nan ≡ looked (answered nan)
+  pub one-nan : one-entry nan ≡ refusedWith 18
 
 pub values : Values
 unfolding any anyIn sumTo picked select cellCount ofInt ofBits ne le add sub mul div neg
-    first boundSteps brokenSteps startsSteps rowsSteps columnSteps storedSteps requestSteps diagonalSteps roomSteps selectedSteps
+    first boundSteps brokenSteps startsSteps rowsSteps columnSteps finiteSteps storedSteps requestSteps diagonalSteps roomSteps selectedSteps
     pairTotal scratchWords reach member requested floatTable entryAnswer
 values = record {
   f2-first-00 = refl;
@@ -124,12 +125,12 @@ values = record {
 
 pub operator-answered : first (transformedSteps F2-operator (room 3 3 3 14) 1) (selectedAnswer (transformedSelection F2-operator)) ≡ answered (diagnosis 3 3 3 30 Complete)
 unfolding any anyIn sumTo picked select cellCount ofInt ofBits ne le factorPairs reach member diagnosisOf first pairTotal scratchWords boundSteps brokenSteps startsSteps
-    rowsSteps columnSteps storedSteps operatorSteps diagonalSteps roomSteps transformedSteps operatorPair
+    rowsSteps columnSteps finiteSteps storedSteps operatorSteps diagonalSteps roomSteps transformedSteps operatorPair
 operator-answered = refl
 
 pub operator-written : (z : Float) → after (transformedSteps F2-operator (room 3 3 3 14) 1)
     (cond (selectedComplete (transformedSelection F2-operator)) (overwrite (transformedValues F2-operator) (z ∷ [])) (z ∷ [])) (z ∷ []) ≡ whole 2 ∷ []
-unfolding any anyIn sumTo picked select cellCount ofInt ofBits ne le reach member after first pairTotal scratchWords boundSteps brokenSteps startsSteps rowsSteps columnSteps storedSteps
+unfolding any anyIn sumTo picked select cellCount ofInt ofBits ne le reach member after first pairTotal scratchWords boundSteps brokenSteps startsSteps rowsSteps columnSteps finiteSteps storedSteps
     operatorSteps diagonalSteps roomSteps transformedSteps operatorPair overwrite tabulate operatorValues addTerms addPlaces floatTable add sub mul div neg
 operator-written z = refl
 

@@ -51,6 +51,7 @@ pub fn refusal_number(r: Refusal) -> u32
         Refusal::OtherHeader => 15,
         Refusal::MalformedFile => 16,
         Refusal::FileIndexOutside => 17,
+        Refusal::NotFiniteEntry => 18,
     }
 }
 

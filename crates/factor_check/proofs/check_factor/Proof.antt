@@ -1,4 +1,4 @@
-use Rattle.columns.specs.Columns.{factorSteps}
+use Rattle.columns.specs.Stored.{factorSteps}
 use Rattle.refusal.specs.Refusal.{replyOf}
 use Rattle.refusal.specs.Steps.{append-refused, append-passed}
 use borrow.Author.Needs.{needs}

@@ -40,6 +40,7 @@ other s req R =
     record {
       small = A .small;
       factor = A .factor;
+      finite = A .finite;
       requests = R .ranged;
       diagonals = A .diagonals;
       starts-room = A .starts-room;

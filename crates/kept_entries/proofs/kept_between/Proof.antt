@@ -1,39 +1,24 @@
 use borrow.Author.Tests.{le-leb}
-use mathlib.Core.Bool.{Bool, false}
+use mathlib.Core.Bool.{Bool}
 use mathlib.Core.List.{List, []}
-use mathlib.Core.Logic.{⊎-elim}
-use mathlib.Core.Path.{_≡_, ap, sym, _∙_}
-use native.Mathlib.Nat.{eq-or-lt-of-le}
+use mathlib.Core.Path.{_≡_, sym, _∙_}
 use native.Mathlib.Omega.{arith}
-use Prim.Native.Nat.{ℕ, _≤_, _<_}
+use Prim.Native.Nat.{ℕ}
 use borrow.Author.Needs.{needs}
-use Rattle.lists.specs.Test.{anyIn-below}
 use Rattle.lists.specs.Select.{select, select-none, select-join, select-gap, select-cong, tally}
-use Rattle.columns.specs.Columns.{row, outsideAt}
 use Rattle.columns.specs.Kept.{kept, nonzero}
 use Rattle.columns.specs.Factor.{Column, FirstFrom}
-use Rattle.columns.specs.Diagonal.{firstFrom-below}
+use Rattle.columns.specs.Diagonal.{firstFrom-from, firstFrom-dropped}
 use Rattle.kept_entries.proofs.kept_between.Statement.{statement}
 use Rattle.kept_entries.proofs.kept_between.Tie as tie
 
 module _ {c : ℕ} {rows : List ℕ} {count s e p : ℕ} (C : Column rows count s e) (F : FirstFrom c rows s e p) (nz : ℕ → Bool) where
-  -- before the first place from row c on no entry is kept
-  above : (k : ℕ) → s ≤ k → k < p → kept rows nz c k ≡ false
-  above k lo hi = rw (anyIn-below (outsideAt c rows) s p k (F .before) lo hi)
-
-  -- from it on no row is above the diagonal
-  below : (k : ℕ) → p ≤ k → k < e → c ≤ row rows k
-  below k lo hi =
-      ⊎-elim
-      (λ q. let y = F .stops (omega arith) in omega (arith, ap (row rows) q))
-      (λ l. let y = firstFrom-below C F k l hi in omega arith)
-      (eq-or-lt-of-le lo)
-
-  -- so the kept entries are those from it on that are not 0
+  -- the kept entries are those from the first place from row c on that are not 0
   kept-from : tally (kept rows nz c) s e ≡ tally nz p e
   kept-from =
-      let a : select (kept rows nz c) s p ≡ [] = select-gap (kept rows nz c) s s p (omega arith) (F .from) above ∙ select-none (kept rows nz c) s in
-      let b = select-cong (kept rows nz c) nz p e (λ k lo hi. rw (le-leb _ _ (below k lo hi))) in
+      let gap = select-gap (kept rows nz c) s s p (omega arith) (F .from) (firstFrom-dropped C F nz) in
+      let a : select (kept rows nz c) s p ≡ [] = gap ∙ select-none (kept rows nz c) s in
+      let b = select-cong (kept rows nz c) nz p e (λ k lo hi. rw (le-leb _ _ (firstFrom-from C F k lo hi))) in
       rw (select-join (kept rows nz c) s p e (F .from) (F .upto), a, b)
 
 first-from-requires : tie.Need-first-from-requires

@@ -8,8 +8,7 @@ use borrow.Author.Needs.{needs}
 use Rattle.refusal.specs.Bounds.{maxEntries}
 use Rattle.refusal.specs.Steps.{Step, Passed, append-refused, append-passed}
 use Rattle.refusal.specs.Refusal.{replyOf}
-use Rattle.columns.specs.Columns.{factorSteps}
-use Rattle.columns.specs.Factor.{factorSteps-bounded, factorSteps-sound}
+use Rattle.columns.specs.Stored.{factorSteps, factorSteps-bounded, factorSteps-sound}
 use Rattle.factor_order.specs.Permutation.{orderSteps}
 use Rattle.selection.specs.Selection.{room, defaultLimit, fillSteps}
 use Rattle.refusal.specs.FirstOf.{verdicts}

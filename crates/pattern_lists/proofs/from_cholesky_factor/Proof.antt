@@ -5,8 +5,7 @@ use denote.Ref.{now}
 use borrow.Author.Needs.{needs}
 use Rattle.refusal.specs.Steps.{Passed}
 use Rattle.refusal.specs.Refusal.{replyOf}
-use Rattle.columns.specs.Columns.{factorSteps}
-use Rattle.columns.specs.Factor.{factorSteps-bounded, factorSteps-sound}
+use Rattle.columns.specs.Stored.{factorSteps, factorSteps-bounded, factorSteps-sound}
 use Rattle.pattern_lists.proofs.Pattern.{lists-refused, lists-passed}
 use Rattle.pattern_lists.proofs.from_cholesky_factor.Statement.{statement}
 use Rattle.pattern_lists.proofs.from_cholesky_factor.Tie as tie

@@ -6,8 +6,9 @@ use borrow.Author.Needs.{needs}
 use Rattle.refusal.specs.Steps.{Step, verdict, Passed, append-refused, append-passed, passed-front}
 use Rattle.refusal.specs.FirstOf.{orElse, verdicts}
 use Rattle.refusal.specs.Refusal.{replyOf}
-use Rattle.columns.specs.Columns.{boundSteps, storedSteps}
-use Rattle.columns.specs.Factor.{boundSteps-sound, storedSteps-sound}
+use Rattle.columns.specs.Columns.{boundSteps}
+use Rattle.columns.specs.Factor.{boundSteps-sound}
+use Rattle.columns.specs.Stored.{storedSteps, storedSteps-sound}
 use Rattle.selection.specs.Selection.{room, fillSteps}
 use Rattle.selection.specs.RequestSteps.{requestBoundSteps, requestSteps}
 use Rattle.selection.specs.Call.{selectedSteps}
@@ -43,7 +44,7 @@ module _ (f : tie.After-first-of) where
 within : (t : tie.After-enum-told) → Passed (bounds (t .before .before))
 within t = sym (bounds-told (t .before .before)) ∙ ap replyOf (t .enum-told .given .1)
 
--- 2 and 3 pass
+-- 2, 3 and 18 pass
 entered : (t : tie.After-enum-told2) → Passed (entries (t .before .before .before .before .before))
 entered t = sym (t .before .before .check-stored .ensures) ∙ ap replyOf (t .enum-told2 .given .1)
 

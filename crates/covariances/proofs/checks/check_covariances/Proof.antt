@@ -6,8 +6,9 @@ use borrow.Author.Needs.{needs}
 use Rattle.refusal.specs.Steps.{Step, Passed, append-refused, append-passed, passed-front}
 use Rattle.refusal.specs.FirstOf.{verdicts}
 use Rattle.refusal.specs.Refusal.{replyOf}
-use Rattle.columns.specs.Columns.{boundSteps, storedSteps}
-use Rattle.columns.specs.Factor.{FactorBounded, boundSteps-sound, storedSteps-sound}
+use Rattle.columns.specs.Columns.{boundSteps}
+use Rattle.columns.specs.Factor.{FactorBounded, boundSteps-sound}
+use Rattle.columns.specs.Stored.{storedSteps, storedSteps-sound}
 use Rattle.selection.specs.Selection.{room, defaultLimit, fillSteps}
 use Rattle.covariances.specs.Covariances.{CovarianceCall, operator, covarianceCall, covarianceBounds, countSteps, operatorsSteps, outputSteps, covarianceSteps}
 use Rattle.covariances.proofs.checks.check_covariances.Statement.{statement}
@@ -53,7 +54,7 @@ bounded t =
     let a = begin (t .before .before) .args in
     boundSteps-sound (a .n) (length (now (a .rows))) (passed-front _ _ (within t))
 
--- 2 and 3 pass
+-- 2, 3 and 18 pass
 entered : (t : tie.After-enum-told2) → Passed (entries (t .before .before .before .before .before))
 entered t = sym (t .before .before .check-stored .ensures) ∙ ap replyOf (t .enum-told2 .given .1)
 

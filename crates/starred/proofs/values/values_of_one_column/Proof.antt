@@ -1,8 +1,8 @@
 use mathlib.Core.Path.{_≡_, ap, _∙_}
-use lib.Ieee.{ofBits, ofInt, eq, ne, div}
+use lib.Ieee.{ofBits, ofInt, eq, div}
 use borrow.Author.Needs.{needs}
 use Rattle.selected_entry.specs.SelectedEntry.{EntryAnswer}
-use Rattle.starred_table.specs.Entries.{isValue, isNan, isRefused}
+use Rattle.starred_table.specs.Entries.{isValue, isRefused}
 use Rattle.starred_table.specs.Table.{quarter, values}
 use Rattle.starred.proofs.values.values_of_one_column.Statement.{statement}
 use Rattle.starred.proofs.values.values_of_one_column.Tie as tie
@@ -29,12 +29,12 @@ expect-requires-2 c κs = c .is-value .ensures ∙ ap (λ (a : EntryAnswer). isV
 one-entry-requires-3 : tie.Need-one-entry-requires-3
 one-entry-requires-3 c κs = search needs
 
-is-nan-requires : tie.Need-is-nan-requires
-is-nan-requires c κs = search needs
+is-refused-requires-2 : tie.Need-is-refused-requires-2
+is-refused-requires-2 c κs = search needs
 
 expect-requires-3 : tie.Need-expect-requires-3
-unfolding ne ofBits ofInt div
-expect-requires-3 c κs = c .is-nan .ensures ∙ ap isNan (c .before .one-entry3 .ensures ∙ values .one-nan)
+unfolding ofBits ofInt div
+expect-requires-3 c κs = c .is-refused2 .ensures ∙ ap (λ (a : EntryAnswer). isRefused a 18) (c .before .one-entry3 .ensures ∙ values .one-nan)
 
 returns : tie.Need-returns
 returns c = search needs
@@ -50,6 +50,6 @@ values-of-one-column-spec =
     is-value-requires
     expect-requires-2
     one-entry-requires-3
-    is-nan-requires
+    is-refused-requires-2
     expect-requires-3
     returns)

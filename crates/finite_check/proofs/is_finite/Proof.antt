@@ -3,10 +3,9 @@ use lib.Ieee.{Float, nan, inf, fin, lt, ofBits}
 use lib.Ieee.Scale.{finite}
 use lib.Ieee.{nanBits}
 use borrow.Author.Needs.{needs}
-use Prim.Native.Nat.{_-_}
 use mathlib.Core.Path.{_≡_, refl, sym}
-use Rattle.floor.proofs.finite_check.is_finite.Statement.{statement}
-use Rattle.floor.proofs.finite_check.is_finite.Tie as tie
+use Rattle.finite_check.proofs.is_finite.Statement.{statement}
+use Rattle.finite_check.proofs.is_finite.Tie as tie
 
 -- below infinity, and above its negative
 between : (x : Float) → lt x (inf false) ≡ true → lt (inf true) x ≡ finite x
