@@ -85,7 +85,7 @@ pub fn check_fill(
 }
 
 // Step 1 of the requests, which are counted by their rows.
-fn check_request_bound(requests: usize) -> Checked
+pub fn check_request_bound(requests: usize) -> Checked
     ensures { λ r. ⌜ replyOf r ≡ verdict (requestBoundSteps requests) ⌝ }
 {
     if MAX_ENTRIES < requests {

@@ -1,0 +1,32 @@
+use borrow.Author.Needs.{needs}
+use native.Mathlib.Omega.{arith}
+use Prim.Native.Nat.{ℕ, _≤_, _<_, _-_, _+_}
+use mathlib.Core.Path.{_≡_, refl, ap, sym, _∙_}
+use lib.ListN.{length, getD}
+use Rattle.dependency_chain.specs.Chain.{chainWords}
+use Rattle.dependency_chain.proofs.chain_words.Statement.{statement}
+use Rattle.dependency_chain.proofs.chain_words.Tie as tie
+use Rattle.dependency_chain.proofs.chain_words.Reads as reads
+use Rattle.dependency_chain.proofs.chain_words.Lts as lts
+use Rattle.scratch.proofs.pair_total.Reads as pair-total-reads
+
+pair-total-requires : tie.Need-pair-total-requires
+pair-total-requires c κs = search needs
+
+mul-result : tie.Need-mul-result
+mul-result c = search needs
+
+mul-result-2 : tie.Need-mul-result-2
+mul-result-2 c = search needs
+
+add-result : tie.Need-add-result
+add-result c = search needs
+
+returns : tie.Need-returns
+unfolding chainWords
+returns c =
+    omega (arith, c .pair-total .ensures .0)
+
+pub chain-words-spec : {M : Type 1} → statement M
+chain-words-spec =
+    tie.close (tie.spec pair-total-requires mul-result mul-result-2 add-result returns)

@@ -1,0 +1,163 @@
+use borrow.Author.Needs.{needs}
+use native.Mathlib.Omega.{arith}
+use Prim.Native.Nat.{ℕ, _≤_, _<_, _-_, _+_}
+use mathlib.Core.Path.{_≡_, refl, ap, sym, _∙_}
+use lib.ListN.{length, getD}
+use denote.Ref.{now}
+use mathlib.Core.List.{List, _++_}
+use Rattle.refusal.specs.Steps.{Step, verdict, Passed, append-refused, append-passed, passed-front}
+use Rattle.refusal.specs.FirstOf.{verdicts}
+use Rattle.refusal.specs.Refusal.{replyOf}
+use Rattle.refusal.specs.Bounds.{maxDimension}
+use Rattle.columns.specs.Columns.{boundSteps}
+use Rattle.columns.specs.Factor.{boundSteps-sound}
+use Rattle.columns.specs.Stored.{storedSteps, storedSteps-sound}
+use Rattle.columns.specs.Diagonal.{diagonalSteps}
+use Rattle.selection.specs.RequestSteps.{requestBoundSteps, requestSteps}
+use Rattle.dependency_chain.specs.Chain.{seekSteps, askedSteps}
+use Rattle.dependency_chain.proofs.check_asked.Statement.{statement}
+use Rattle.dependency_chain.proofs.check_asked.Tie as tie
+use Rattle.dependency_chain.proofs.check_asked.Reads as reads
+use Rattle.dependency_chain.proofs.check_asked.Lts as lts
+use Rattle.dependency_chain.proofs.check_seek.Reads as check-seek-reads
+use Rattle.factor_check.proofs.bounds.check_bounds.Reads as check-bounds-reads
+use Rattle.factor_check.proofs.check_stored.Reads as check-stored-reads
+use Rattle.kept_entries.proofs.diagonal_check.check_diagonals.Reads as check-diagonals-reads
+use Rattle.selected_checks.proofs.check_request_bound.Reads as check-request-bound-reads
+use Rattle.selected_checks.proofs.requests.check_requests.Reads as check-requests-reads
+use Rattle.verdicts.proofs.first_of.Reads as first-of-reads
+
+abbrev begin : tie.After-first-of → tie.Start
+begin f = f .before .before .before .before .before .before .before .before
+
+-- the groups of steps
+module _ (f : tie.After-first-of) where
+  abbrev bounds : List Step
+  bounds = let a = begin f .args in boundSteps (a .n) (length (now (a .rows))) ++ requestBoundSteps (length (now (a .request-rows)))
+
+  abbrev entries : List Step
+  entries = let a = begin f .args in storedSteps (a .n) (now (a .starts)) (now (a .rows)) (now (a .values))
+
+  abbrev requests : List Step
+  requests = let a = begin f .args in requestSteps (a .n) (a .dimension) (now (a .request-rows)) (now (a .request-columns))
+
+  abbrev diagonals : List Step
+  diagonals = let a = begin f .args in diagonalSteps (a .n) (now (a .starts)) (now (a .rows)) (now (a .values))
+
+  abbrev seek : List Step
+  seek = let a = begin f .args in seekSteps (a .n) (a .scratch) (a .row) (a .column)
+
+  bounds-told : replyOf (f .first-of .result) ≡ verdict bounds
+  bounds-told =
+      let a = begin f .args in
+      verdicts (boundSteps (a .n) (length (now (a .rows)))) (requestBoundSteps (length (now (a .request-rows))))
+      (f .first-of .ensures) (f .before .before .check-bounds .ensures) (f .before .check-request-bound .ensures)
+
+-- 1 passes
+within : (t : tie.After-enum-told) → Passed (bounds (t .before .before))
+within t = sym (bounds-told (t .before .before)) ∙ ap replyOf (t .enum-told .given .1)
+
+-- 2, 3 and 18 pass
+entered : (t : tie.After-enum-told2) → Passed (entries (t .before .before .before .before .before))
+entered t = sym (t .before .before .check-stored .ensures) ∙ ap replyOf (t .enum-told2 .given .1)
+
+-- so the dimension is small
+small : (u : tie.After-enum-told) → begin (u .before .before) .args .n ≤ maxDimension
+small u =
+    let a = begin (u .before .before) .args in
+    boundSteps-sound (a .n) (length (now (a .rows))) (passed-front _ (requestBoundSteps (length (now (a .request-rows)))) (within u)) .small
+
+check-bounds-requires : tie.Need-check-bounds-requires
+check-bounds-requires c κs = search needs
+
+check-request-bound-requires : tie.Need-check-request-bound-requires
+check-request-bound-requires c κs = search needs
+
+first-of-requires : tie.Need-first-of-requires
+first-of-requires c κs = search needs
+
+enum-known-bounds : tie.Need-enum-known-bounds
+enum-known-bounds c = search needs
+
+enum-told : tie.Need-enum-told
+enum-told c = search needs
+
+check-stored-requires : tie.Need-check-stored-requires
+check-stored-requires c κs = search needs
+
+enum-known-why : tie.Need-enum-known-why
+enum-known-why c = search needs
+
+enum-told-2 : tie.Need-enum-told-2
+enum-told-2 c = search needs
+
+check-requests-requires : tie.Need-check-requests-requires
+check-requests-requires c κs = search needs
+
+check-diagonals-requires : tie.Need-check-diagonals-requires
+check-diagonals-requires c κs =
+    storedSteps-sound _ _ _ _ (entered (c .before))
+
+check-seek-requires : tie.Need-check-seek-requires
+check-seek-requires c κs =
+    let t = c .before .before in
+    small (t .before .before .before)
+
+first-of-requires-2 : tie.Need-first-of-requires-2
+first-of-requires-2 c κs = search needs
+
+first-of-requires-3 : tie.Need-first-of-requires-3
+first-of-requires-3 c κs = search needs
+
+returns : tie.Need-returns
+unfolding askedSteps
+returns c =
+    let f = c .before .before .before in
+    sym (append-refused (bounds f) (entries f ++ (requests f ++ (diagonals f ++ seek f))) _ tt (sym (bounds-told f) ∙ ap replyOf (c .before .bounds .given .1)))
+
+returns-2 : tie.Need-returns-2
+unfolding askedSteps
+returns-2 c =
+    let e = c .before .before .before in
+    let t = e .before in
+    let f = t .before .before in
+    sym
+    (append-passed (bounds f) (entries f ++ (requests f ++ (diagonals f ++ seek f))) tt (within t)
+    ∙ append-refused (entries f) (requests f ++ (diagonals f ++ seek f)) _ tt (sym (e .check-stored .ensures) ∙ ap replyOf (c .before .why .given .1)))
+
+returns-3 : tie.Need-returns-3
+unfolding askedSteps
+returns-3 c =
+    let g = c .before in
+    let k = g .before in
+    let d = k .before in
+    let r = d .before in
+    let t = r .before in
+    let u = t .before .before .before in
+    let f = u .before .before in
+    verdicts (requests f) (diagonals f ++ seek f) (c .first-of3 .ensures) (r .check-requests .ensures)
+    (verdicts (diagonals f) (seek f) (g .first-of2 .ensures) (d .check-diagonals .ensures) (k .check-seek .ensures))
+    ∙ sym
+    (append-passed (bounds f) (entries f ++ (requests f ++ (diagonals f ++ seek f))) tt (within u)
+    ∙ append-passed (entries f) (requests f ++ (diagonals f ++ seek f)) tt (entered t))
+
+pub check-asked-spec : {M : Type 1} → statement M
+check-asked-spec =
+    tie.close
+    (tie.spec
+    check-bounds-requires
+    check-request-bound-requires
+    first-of-requires
+    enum-known-bounds
+    enum-told
+    check-stored-requires
+    enum-known-why
+    enum-told-2
+    check-requests-requires
+    check-diagonals-requires
+    check-seek-requires
+    first-of-requires-2
+    first-of-requires-3
+    returns
+    returns-2
+    returns-3)

@@ -1,0 +1,86 @@
+-- A call for the chain to a pair: what it is handed, what it refuses in document 02's order, what it answers and leaves.
+-- Assumes nothing.
+use Prim.Native.Nat.{ℕ, _+_, _*_, min, max}
+use mathlib.Core.Path.{_≡_}
+use mathlib.Core.List.{List, [], _∷_, _++_}
+use lib.Dec.{ltb, leb}
+use lib.ListN.{length}
+use lib.Ieee.{Float}
+use Rattle.lists.specs.Overwrite.{overwrite, cleared}
+use Rattle.refusal.specs.Steps.{Step, Reply, first, after}
+use Rattle.refusal.specs.Groups.{grouped}
+use Rattle.pairs.specs.Pair.{pairTotal}
+use Rattle.columns.specs.Columns.{boundSteps}
+use Rattle.columns.specs.Stored.{storedSteps}
+use Rattle.columns.specs.Diagonal.{diagonalSteps}
+use Rattle.columns.specs.Kept.{nonzero, pattern}
+use Rattle.closed_set.specs.Requests.{requested}
+use Rattle.chains.specs.ChainOf.{chainOf}
+use Rattle.selection.specs.RequestSteps.{requestBoundSteps, requestSteps}
+use Rattle.levels.specs.Written.{rowsOf, columnsOf}
+
+-- what a call is handed to read: a factor, two lists of requests with their dimension, and a pair
+pub record ChainCall : Type 0 where
+  pub n : ℕ
+  pub starts : List ℕ
+  pub rows : List ℕ
+  pub values : List Float
+  pub dimension : ℕ
+  pub requestRows : List ℕ
+  pub requestColumns : List ℕ
+  pub row : ℕ
+  pub column : ℕ
+
+-- a call, from a function's parameters in their order
+abbrev pub chainCall : ℕ → List ℕ → List ℕ → List Float → ℕ → List ℕ → List ℕ → ℕ → ℕ → ChainCall
+chainCall n starts rows values dimension requestRows requestColumns row column = record {
+  n = n;
+  starts = starts;
+  rows = rows;
+  values = values;
+  dimension = dimension;
+  requestRows = requestRows;
+  requestColumns = requestColumns;
+  row = row;
+  column = column;
+}
+
+-- the words of scratch: a level and a place of the queue for each pair, and 4n more
+unfoldable pub chainWords : ℕ → ℕ
+chainWords n = 2 * pairTotal n + 4 * n
+
+-- 7: fewer words of scratch; 5: an index of the pair that is n or more
+unfoldable pub seekSteps : ℕ → ℕ → ℕ → ℕ → List Step
+seekSteps n scratch row column = (7, ltb scratch (chainWords n)) ∷ (5, leb n row) ∷ (5, leb n column) ∷ []
+
+module _ (x : ChainCall) where
+  -- the chain to the pair, row and column exchanged if row < column; no pairs where it is not in the closed set of the requests
+  abbrev pub chainTo : List (ℕ × ℕ)
+  chainTo =
+      chainOf (x .n) (pattern (x .starts) (x .rows) (nonzero (x .values))) (requested (x .requestRows) (x .requestColumns)) (max (x .row) (x .column)) (min (x .row) (x .column))
+
+  -- 1 of the factor and of the requests; 2, 3 and 18; 4 and 5; 6; 7 of the scratch and 5 of the pair
+  abbrev pub askedGroups : ℕ → List (List Step)
+  askedGroups scratch =
+      (boundSteps (x .n) (length (x .rows)) ++ requestBoundSteps (length (x .requestRows)))
+      ∷ storedSteps (x .n) (x .starts) (x .rows) (x .values)
+      ∷ requestSteps (x .n) (x .dimension) (x .requestRows) (x .requestColumns)
+      ∷ diagonalSteps (x .n) (x .starts) (x .rows) (x .values)
+      ∷ seekSteps (x .n) scratch (x .row) (x .column)
+      ∷ []
+
+  -- what is refused before the chain is looked for
+  unfoldable pub askedSteps : ℕ → List Step
+  askedSteps scratch = grouped (askedGroups scratch)
+
+  -- last, 7: chain lists shorter than the chain
+  unfoldable pub chainSteps : ℕ → ℕ → ℕ → List Step
+  chainSteps scratch rowsRoom columnsRoom =
+      askedSteps scratch ++ (7, ltb rowsRoom (length chainTo)) ∷ (7, ltb columnsRoom (length chainTo)) ∷ []
+
+-- the reply and the lists: the scratch is cleared wherever the chain was looked for, the chain is written to the front of its lists
+pub record ChainListed (x : ChainCall) (scratch chainRows chainColumns : List ℕ) (reply : Reply ℕ) (scratch′ chainRows′ chainColumns′ : List ℕ) : Type 0 where
+  pub answer : reply ≡ first (chainSteps x (length scratch) (length chainRows) (length chainColumns)) (length (chainTo x))
+  pub scratch-after : scratch′ ≡ after (askedSteps x (length scratch)) (cleared (chainWords (x .n)) scratch) scratch
+  pub rows-after : chainRows′ ≡ after (chainSteps x (length scratch) (length chainRows) (length chainColumns)) (overwrite (rowsOf (chainTo x)) chainRows) chainRows
+  pub columns-after : chainColumns′ ≡ after (chainSteps x (length scratch) (length chainRows) (length chainColumns)) (overwrite (columnsOf (chainTo x)) chainColumns) chainColumns

@@ -1,0 +1,2 @@
+-- What a call for a chain that is not refused has, and what its answer means.
+-- Assumes nothing.
