@@ -1,2 +1,52 @@
 -- What a call for a chain that is not refused has, and what its answer means.
 -- Assumes nothing.
+use Prim.Native.Nat.{ℕ, _+_, _*_, _≤_, _<_, min, max}
+use native.Mathlib.Omega.{arith}
+use mathlib.Core.Path.{_≡_}
+use mathlib.Core.List.{List, [], _∷_, _++_}
+use lib.ListN.{length}
+use borrow.Author.Tests.{ltb-false, leb-false}
+use Rattle.refusal.specs.Bounds.{maxDimension}
+use Rattle.refusal.specs.Steps.{Passed, passed-clear, passed-front}
+use Rattle.refusal.specs.Groups.{AllPassed, groups-passed}
+use Rattle.columns.specs.Columns.{boundSteps}
+use Rattle.columns.specs.Factor.{Factor, boundSteps-sound}
+use Rattle.columns.specs.Stored.{storedSteps-sound}
+use Rattle.closed_set.specs.Requests.{Requests}
+use Rattle.selection.specs.RequestSteps.{requestBoundSteps, requestSteps-sound}
+use Rattle.levels.specs.Levels.{levelWord}
+use Rattle.levels.specs.Written.{BackInput}
+use Rattle.dependency_chain.specs.Chain.{ChainCall, chainWords, seekSteps, askedGroups, askedSteps}
+
+-- a pair, its level, and the words of the levels
+pub record ListInput (n : ℕ) (starts rows : List ℕ) (values r c level : ℕ) (s : List ℕ) : Type 0 where
+  pub back : BackInput n starts rows values r c s
+  pub own : level ≡ levelWord n s r c
+  pub short : level ≤ 2 * n + 1
+
+-- a factor and requests past their checks, a pair in order, and scratch
+pub record SeekInput (n : ℕ) (starts rows : List ℕ) (values : ℕ) (requestRows requestColumns : List ℕ) (r c : ℕ) (s : List ℕ) : Type 0 where
+  pub small : n ≤ maxDimension
+  pub factor : Factor n starts rows values
+  pub requests : Requests n requestRows requestColumns
+  pub ordered : c ≤ r
+  pub inside : r < n
+  pub room : chainWords n ≤ length s
+
+-- the steps pass only for a call that has this
+pub asked-accepted : (x : ChainCall) (s : List ℕ) → Passed (askedSteps x (length s))
+    → SeekInput (x .n) (x .starts) (x .rows) (length (x .values)) (x .requestRows) (x .requestColumns) (max (x .row) (x .column)) (min (x .row) (x .column)) s
+unfolding askedSteps seekSteps
+asked-accepted x s p =
+    let g = groups-passed (askedGroups x (length s)) p in
+    let k = passed-clear (seekSteps (x .n) (length s) (x .row) (x .column)) (g .1 .1 .1 .1 .0) in
+    let a = leb-false (x .n) (x .row) (k .1 .0) in
+    let b = leb-false (x .n) (x .column) (k .1 .1 .0) in
+    record {
+      small = boundSteps-sound (x .n) (length (x .rows)) (passed-front (boundSteps (x .n) (length (x .rows))) (requestBoundSteps (length (x .requestRows))) (g .0)) .small;
+      factor = storedSteps-sound (x .n) (x .starts) (x .rows) (x .values) (g .1 .0);
+      requests = requestSteps-sound (x .n) (x .dimension) (x .requestRows) (x .requestColumns) (g .1 .1 .0);
+      ordered = omega arith;
+      inside = omega (arith, a, b);
+      room = ltb-false _ _ (k .0);
+    }

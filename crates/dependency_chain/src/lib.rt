@@ -5,9 +5,15 @@ ghost use lib.ListN.{length};
 ghost use Rattle.refusal.specs.Bounds.{maxDimension};
 ghost use Rattle.refusal.specs.Steps.{verdict};
 ghost use Rattle.refusal.specs.Refusal.{replyOf};
-ghost use Rattle.columns.specs.Factor.{Factor};
+ghost use Rattle.lists.specs.Overwrite.{cleared};
+ghost use Rattle.columns.specs.Kept.{nonzero, pattern};
+ghost use Rattle.closed_set.specs.Requests.{requested};
+ghost use Rattle.chains.specs.ChainOf.{chainOf};
+ghost use Rattle.levels.specs.Levels.{levelWord};
+ghost use Rattle.levels.specs.Back.{levelsChain};
 ghost use Rattle.dependency_chain.specs.Reply.{chainReply};
-ghost use Rattle.dependency_chain.specs.Chain.{chainCall, chainWords, seekSteps, askedSteps, ChainListed};
+ghost use Rattle.dependency_chain.specs.Chain.{chainCall, chainWords, seekSteps, askedSteps, Listed, ChainListed};
+ghost use Rattle.dependency_chain.specs.Laws.{ListInput, SeekInput};
 use factor_check::bounds::check_bounds;
 use factor_check::check_stored;
 use kept_entries::diagonal_check::check_diagonals;
@@ -88,5 +94,141 @@ fn check_asked(
                 first_of(requests, first_of(diagonals, seek))
             }
         },
+    }
+}
+
+// Lists the chain to (r, c), which has the level, if there is room for it.
+fn list_chain(
+    n: usize,
+    starts: &[u32],
+    rows: &[u32],
+    values: &[f64],
+    r: usize,
+    c: usize,
+    level: usize,
+    scratch: &[u32],
+    chain_rows: &mut [u32],
+    chain_columns: &mut [u32],
+) -> Chain
+    requires { ⌜ ListInput n (now starts) (now rows) (length (now values)) r c level (now scratch) ⌝ }
+    ensures { λ answer. ⌜ Listed (levelsChain (pattern (now (starts .entry)) (now (rows .entry)) (nonzero (now (values .entry)))) (levelWord n (now (scratch .entry))) r c)
+        (now («chain_rows» .entry)) (now («chain_columns» .entry)) (chainReply answer) (now («chain_rows» .exit)) (now («chain_columns» .exit)) ⌝ }
+{
+    if level == 0 {
+        return Chain::Pairs(0);
+    }
+    if chain_rows.len() < level {
+        return Chain::Refused(Refusal::TooShort);
+    }
+    if chain_columns.len() < level {
+        return Chain::Refused(Refusal::TooShort);
+    }
+    write_chain(
+        n,
+        starts,
+        rows,
+        values,
+        r,
+        c,
+        level,
+        scratch,
+        chain_rows,
+        chain_columns,
+    );
+    Chain::Pairs(level)
+}
+
+// Looks for the chain to (r, c), r at least c, and lists it; the scratch ends 0.
+fn seek_chain(
+    n: usize,
+    starts: &[u32],
+    rows: &[u32],
+    values: &[f64],
+    request_rows: &[u32],
+    request_columns: &[u32],
+    r: usize,
+    c: usize,
+    scratch: &mut [u32],
+    chain_rows: &mut [u32],
+    chain_columns: &mut [u32],
+) -> Chain
+    requires { ⌜ SeekInput n (now starts) (now rows) (length (now values)) (now «request_rows») (now «request_columns») r c (now scratch) ⌝ }
+    ensures { λ answer. ⌜ Listed (chainOf n (pattern (now (starts .entry)) (now (rows .entry)) (nonzero (now (values .entry)))) (requested (now («request_rows» .entry)) (now («request_columns» .entry))) r c)
+        (now («chain_rows» .entry)) (now («chain_columns» .entry)) (chainReply answer) (now («chain_rows» .exit)) (now («chain_columns» .exit)) ⌝ }
+    ensures { λ _. ⌜ now (scratch .exit) ≡ cleared (chainWords n) (now (scratch .entry)) ⌝ }
+{
+    level_pairs(
+        n,
+        starts,
+        rows,
+        values,
+        request_rows,
+        request_columns,
+        scratch,
+    );
+    let level = at(scratch, column_place(n, r, c));
+    let answer = list_chain(
+        n,
+        starts,
+        rows,
+        values,
+        r,
+        c,
+        level,
+        scratch,
+        chain_rows,
+        chain_columns,
+    );
+    clear(scratch, chain_words(n));
+    answer
+}
+
+// The chain to the pair of a row and a column, exchanged if row < column.
+pub fn dependency_chain(
+    n: usize,
+    starts: &[u32],
+    rows: &[u32],
+    values: &[f64],
+    dimension: usize,
+    request_rows: &[u32],
+    request_columns: &[u32],
+    row: usize,
+    column: usize,
+    scratch: &mut [u32],
+    chain_rows: &mut [u32],
+    chain_columns: &mut [u32],
+) -> Chain
+    ensures { λ answer. ⌜ ChainListed
+        (chainCall n (now (starts .entry)) (now (rows .entry)) (now (values .entry)) dimension (now («request_rows» .entry)) (now («request_columns» .entry)) row column)
+        (now (scratch .entry)) (now («chain_rows» .entry)) (now («chain_columns» .entry)) (chainReply answer)
+        (now (scratch .exit)) (now («chain_rows» .exit)) (now («chain_columns» .exit)) ⌝ }
+{
+    let asked = check_asked(
+        n,
+        starts,
+        rows,
+        values,
+        dimension,
+        request_rows,
+        request_columns,
+        row,
+        column,
+        scratch.len(),
+    );
+    match asked {
+        Checked::Refused(why) => Chain::Refused(why),
+        Checked::Accepted => seek_chain(
+            n,
+            starts,
+            rows,
+            values,
+            request_rows,
+            request_columns,
+            larger(row, column),
+            smaller(row, column),
+            scratch,
+            chain_rows,
+            chain_columns,
+        ),
     }
 }

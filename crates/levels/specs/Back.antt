@@ -8,11 +8,12 @@ use mathlib.Core.Logic.{_⊎_, inl, inr, ⊎-elim}
 use mathlib.Core.List.{List, [], _∷_, _++_, append-assoc}
 use lib.Dec.{eqb}
 use lib.ListN.{length}
-use borrow.Author.Tests.{eq-eqb, eqb-true}
+use native.Mathlib.Decide.{decLt}
+use borrow.Author.Tests.{eq-eqb, ne-eqb, eqb-true}
 use Rattle.lists.specs.Test.{same-truth, and-left, and-right, and-both, not-so}
 use Rattle.closed_set.specs.ClosedSet.{descends, reach, member, Needed, Pattern, Ranged, needed-range, needed-member, member-needed}
 use Rattle.chains.specs.Least.{least, least-most, least-cong}
-use Rattle.chains.specs.Distance.{distance, reach-needed, reach-distance, distance-step, distance-reach, leads-range}
+use Rattle.chains.specs.Distance.{distance, distance-most, reach-needed, reach-distance, distance-step, distance-reach, leads-range}
 use Rattle.chains.specs.Levels.{levelAt, levelAt-own}
 use Rattle.chains.specs.Before.{above, beside, beforeColumn, beforeRow}
 use Rattle.chains.specs.Chain.{length-snoc}
@@ -40,6 +41,10 @@ module _ (desc : ℕ → List ℕ) (W : ℕ → ℕ → ℕ) where
   levelsBack zero r c = (r, c) ∷ []
   levelsBack (suc k) r c = levelsBack k (backRow (suc k) r c) (backColumn (suc k) r c) ++ (r, c) ∷ []
 
+  -- the chain to (r, c) by the levels; no pairs where it has none
+  unfoldable pub levelsChain : ℕ → ℕ → List (ℕ × ℕ)
+  levelsChain r c = cond (eqb (W r c) 0) [] (levelsBack (W r c - 1) r c)
+
   pub levelsBack-none : (r c : ℕ) (t : List (ℕ × ℕ)) → levelsBack 0 r c ++ t ≡ (r, c) ∷ t
   unfolding levelsBack
   levelsBack-none r c t = refl
@@ -56,6 +61,22 @@ module _ (desc : ℕ → List ℕ) (W : ℕ → ℕ → ℕ) where
       let a = backRow (suc k) r c in
       let b = backColumn (suc k) r c in
       omega (arith, length-snoc (levelsBack k a b) (r, c), levelsBack-length k a b)
+
+module _ (desc : ℕ → List ℕ) (W : ℕ → ℕ → ℕ) (r c : ℕ) where
+  pub levelsChain-none : W r c ≡ 0 → levelsChain desc W r c ≡ []
+  unfolding levelsChain
+  levelsChain-none e = rw (eq-eqb (W r c) 0 e) refl
+
+  pub levelsChain-some : 0 < W r c → levelsChain desc W r c ≡ levelsBack desc W (W r c - 1) r c
+  unfolding levelsChain
+  levelsChain-some h = let n : W r c ≡ 0 → ⊥ = λ q. omega (arith, q, h) in rw (ne-eqb (W r c) 0 n) refl
+
+  -- it has as many pairs as the level says
+  pub levelsChain-length : length (levelsChain desc W r c) ≡ W r c
+  levelsChain-length = elim (decLt 0 (W r c)) [
+    | yes h ↦ ap length (levelsChain-some h) ∙ levelsBack-length desc W (W r c - 1) r c ∙ omega arith
+    | no h ↦ let e : W r c ≡ 0 = omega arith in ap length (levelsChain-none e) ∙ sym e
+  ]
 
 -- ---- the levels of the closed set: it is the chain that is shown
 
@@ -133,3 +154,18 @@ module _ (n : ℕ) (desc : ℕ → List ℕ) (req : ℕ → ℕ → Bool) (P : P
       chainOf-member n desc req r c (needed-member n desc req P R (t .0))
       ∙ ap (λ (i : ℕ). chainBack desc req i r c) (t .1)
       ∙ sym (levels-back k (t .0) (t .1))
+
+  pub levels-chain : (r c : ℕ) → c ≤ r → r < n → chainOf n desc req r c ≡ levelsChain desc W r c
+  levels-chain r c h l = elim (decLt 0 (W r c)) [
+    | yes p ↦ level-chain (W r c - 1) r c h l (omega arith) ∙ sym (levelsChain-some desc W r c p)
+    | no p ↦ let e : W r c ≡ 0 = omega arith in level-none r c h l e ∙ sym (levelsChain-none desc W r c e)
+  ]
+
+  -- no level is above 2n + 1
+  pub level-most : (r c : ℕ) → c ≤ r → r < n → W r c ≤ 2 * n + 1
+  unfolding levelAt
+  level-most r c h l = go (reach desc req (2 * n) r c) (words r c h l)
+    where
+      go : (b : Bool) → W r c ≡ cond b (suc (distance n desc req r c)) 0 → W r c ≤ 2 * n + 1
+      go true e = omega (arith, e, distance-most n desc req r c)
+      go false e = omega (arith, e)
