@@ -3,20 +3,28 @@
 use Prim.Native.Nat.{ℕ, _+_, _*_, _≤_, _<_, min, max}
 use native.Mathlib.Omega.{arith}
 use mathlib.Core.Path.{_≡_}
+use mathlib.Core.Bool.{Bool}
+use mathlib.Core.Logic.{_↔_}
 use mathlib.Core.List.{List, [], _∷_, _++_}
 use lib.ListN.{length}
 use borrow.Author.Tests.{ltb-false, leb-false}
 use Rattle.refusal.specs.Bounds.{maxDimension}
 use Rattle.refusal.specs.Steps.{Passed, passed-clear, passed-front}
 use Rattle.refusal.specs.Groups.{AllPassed, groups-passed}
+use Rattle.pairs.specs.Pair.{pairTotal}
 use Rattle.columns.specs.Columns.{boundSteps}
 use Rattle.columns.specs.Factor.{Factor, boundSteps-sound}
 use Rattle.columns.specs.Stored.{storedSteps-sound}
-use Rattle.closed_set.specs.Requests.{Requests}
+use Rattle.columns.specs.Kept.{nonzero, pattern}
+use Rattle.closed_set.specs.ClosedSet.{Needed, Pattern, Ranged}
+use Rattle.closed_set.specs.Requests.{Requests, requested, requested-ranged}
+use Rattle.closed_set.specs.FactorPattern.{factor-pattern}
+use Rattle.chains.specs.Chain.{Shown}
+use Rattle.chains.specs.ChainOf.{chain-shown, chain-empty}
 use Rattle.selection.specs.RequestSteps.{requestBoundSteps, requestSteps-sound}
 use Rattle.levels.specs.Levels.{levelWord}
 use Rattle.levels.specs.Written.{BackInput}
-use Rattle.dependency_chain.specs.Chain.{ChainCall, chainWords, seekSteps, askedGroups, askedSteps}
+use Rattle.dependency_chain.specs.Chain.{ChainCall, chainTo, chainWords, seekSteps, askedGroups, askedSteps}
 
 -- a pair, its level, and the words of the levels
 pub record ListInput (n : ℕ) (starts rows : List ℕ) (values r c level : ℕ) (s : List ℕ) : Type 0 where
@@ -50,3 +58,33 @@ asked-accepted x s p =
       inside = omega (arith, a, b);
       room = ltb-false _ _ (k .0);
     }
+
+-- the levels and their queue stand in the first words of the scratch
+pub chainWords-levels : (n : ℕ) → pairTotal n + pairTotal n ≤ chainWords n
+unfolding chainWords
+chainWords-levels n = omega arith
+
+-- what the answer means, of a call that is not refused before the chain is looked for
+module _ (x : ChainCall) (s : List ℕ) (p : Passed (askedSteps x (length s))) where
+  abbrev desc : ℕ → List ℕ
+  desc = pattern (x .starts) (x .rows) (nonzero (x .values))
+
+  abbrev req : ℕ → ℕ → Bool
+  req = requested (x .requestRows) (x .requestColumns)
+
+  asked-pattern : Pattern (x .n) desc
+  asked-pattern = factor-pattern (nonzero (x .values)) (asked-accepted x s p .factor)
+
+  asked-ranged : Ranged (x .n) req
+  asked-ranged = requested-ranged (x .requestRows) (x .requestColumns) (x .n) (asked-accepted x s p .requests)
+
+  -- of a pair of the closed set: a chain, none is shorter, and going back from the end it is lower than any other as short
+  pub asked-shown : Needed desc req (max (x .row) (x .column)) (min (x .row) (x .column))
+      → Shown desc req (chainTo x) (max (x .row) (x .column)) (min (x .row) (x .column))
+  asked-shown needed = chain-shown (x .n) desc req asked-pattern asked-ranged needed
+
+  -- no pairs exactly if it is not in the set
+  pub asked-none : (chainTo x ≡ []) ↔ (Needed desc req (max (x .row) (x .column)) (min (x .row) (x .column)) → ⊥)
+  asked-none =
+      let I = asked-accepted x s p in
+      chain-empty (x .n) desc req asked-pattern asked-ranged (max (x .row) (x .column)) (min (x .row) (x .column)) (I .ordered) (I .inside)

@@ -1,14 +1,8 @@
 use borrow.Author.Needs.{needs}
 use native.Mathlib.Omega.{arith}
-use Prim.Native.Nat.{ℕ, _≤_, _<_, _-_, _+_}
-use mathlib.Core.Path.{_≡_, refl, ap, sym, _∙_}
-use lib.ListN.{length, getD}
 use Rattle.dependency_chain.specs.Chain.{chainWords}
 use Rattle.dependency_chain.proofs.chain_words.Statement.{statement}
 use Rattle.dependency_chain.proofs.chain_words.Tie as tie
-use Rattle.dependency_chain.proofs.chain_words.Reads as reads
-use Rattle.dependency_chain.proofs.chain_words.Lts as lts
-use Rattle.scratch.proofs.pair_total.Reads as pair-total-reads
 
 pair-total-requires : tie.Need-pair-total-requires
 pair-total-requires c κs = search needs

@@ -1,8 +1,7 @@
 use borrow.Author.Needs.{needs}
-use native.Mathlib.Omega.{arith}
-use Prim.Native.Nat.{ℕ, _≤_, _<_, _-_, _+_}
-use mathlib.Core.Path.{_≡_, refl, ap, sym, _∙_}
-use lib.ListN.{length, getD}
+use Prim.Native.Nat.{_≤_}
+use mathlib.Core.Path.{_≡_, ap, sym, _∙_}
+use lib.ListN.{length}
 use denote.Ref.{now}
 use mathlib.Core.List.{List, _++_}
 use Rattle.refusal.specs.Steps.{Step, verdict, Passed, append-refused, append-passed, passed-front}
@@ -17,15 +16,6 @@ use Rattle.selection.specs.RequestSteps.{requestBoundSteps, requestSteps}
 use Rattle.dependency_chain.specs.Chain.{seekSteps, askedSteps}
 use Rattle.dependency_chain.proofs.check_asked.Statement.{statement}
 use Rattle.dependency_chain.proofs.check_asked.Tie as tie
-use Rattle.dependency_chain.proofs.check_asked.Reads as reads
-use Rattle.dependency_chain.proofs.check_asked.Lts as lts
-use Rattle.dependency_chain.proofs.check_seek.Reads as check-seek-reads
-use Rattle.factor_check.proofs.bounds.check_bounds.Reads as check-bounds-reads
-use Rattle.factor_check.proofs.check_stored.Reads as check-stored-reads
-use Rattle.kept_entries.proofs.diagonal_check.check_diagonals.Reads as check-diagonals-reads
-use Rattle.selected_checks.proofs.check_request_bound.Reads as check-request-bound-reads
-use Rattle.selected_checks.proofs.requests.check_requests.Reads as check-requests-reads
-use Rattle.verdicts.proofs.first_of.Reads as first-of-reads
 
 abbrev begin : tie.After-first-of → tie.Start
 begin f = f .before .before .before .before .before .before .before .before

@@ -1,16 +1,10 @@
 use borrow.Author.Needs.{needs}
-use native.Mathlib.Omega.{arith}
-use Prim.Native.Nat.{ℕ, _≤_, _<_, _-_, _+_}
-use mathlib.Core.Path.{_≡_, refl, ap, sym, _∙_}
-use lib.ListN.{length, getD}
+use mathlib.Core.Path.{sym}
 use borrow.Author.Tests.{lt-ltb, le-ltb, le-leb, lt-leb}
 use Rattle.refusal.specs.Steps.{first-hit, first-skip, first-end}
 use Rattle.dependency_chain.specs.Chain.{seekSteps}
 use Rattle.dependency_chain.proofs.check_seek.Statement.{statement}
 use Rattle.dependency_chain.proofs.check_seek.Tie as tie
-use Rattle.dependency_chain.proofs.check_seek.Reads as reads
-use Rattle.dependency_chain.proofs.check_seek.Lts as lts
-use Rattle.dependency_chain.proofs.chain_words.Reads as chain-words-reads
 
 chain-words-requires : tie.Need-chain-words-requires
 chain-words-requires c κs = search needs

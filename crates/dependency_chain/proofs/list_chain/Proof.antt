@@ -1,8 +1,7 @@
 use borrow.Author.Needs.{needs}
 use native.Mathlib.Omega.{arith}
-use Prim.Native.Nat.{ℕ, _≤_, _<_, _-_, _+_}
-use mathlib.Core.Path.{_≡_, refl, ap, sym, _∙_}
-use lib.ListN.{length, getD}
+use Prim.Native.Nat.{ℕ, _<_, _-_}
+use mathlib.Core.Path.{_≡_, ap, sym, _∙_}
 use denote.Ref.{now}
 use mathlib.Core.List.{List}
 use Rattle.columns.specs.Kept.{nonzero, pattern}
@@ -13,9 +12,6 @@ use Rattle.lists.specs.Overwrite.{overwrite}
 use Rattle.dependency_chain.proofs.ListLaws.{listed-none, listed-rows-short, listed-columns-short, listed-written}
 use Rattle.dependency_chain.proofs.list_chain.Statement.{statement}
 use Rattle.dependency_chain.proofs.list_chain.Tie as tie
-use Rattle.dependency_chain.proofs.list_chain.Reads as reads
-use Rattle.dependency_chain.proofs.list_chain.Lts as lts
-use Rattle.levels.proofs.chain.write_chain.Reads as write-chain-reads
 
 returns : tie.Need-returns
 returns c =

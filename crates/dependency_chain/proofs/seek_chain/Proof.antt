@@ -1,58 +1,77 @@
 use borrow.Author.Needs.{needs}
 use native.Mathlib.Omega.{arith}
-use Prim.Native.Nat.{ℕ, _≤_, _<_, _-_, _+_}
-use mathlib.Core.Path.{_≡_, refl, ap, sym, _∙_}
-use lib.ListN.{length, getD}
+use denote.Ref.{now}
+use Rattle.pairs.specs.ColumnOrder.{columnPlace-below}
+use Rattle.dependency_chain.specs.Laws.{chainWords-levels}
+use Rattle.dependency_chain.proofs.ListLaws.{seek-level, seek-listed, seek-cleared}
 use Rattle.dependency_chain.proofs.seek_chain.Statement.{statement}
 use Rattle.dependency_chain.proofs.seek_chain.Tie as tie
-use Rattle.dependency_chain.proofs.seek_chain.Reads as reads
-use Rattle.dependency_chain.proofs.seek_chain.Lts as lts
-use Rattle.dependency_chain.proofs.chain_words.Reads as chain-words-reads
-use Rattle.dependency_chain.proofs.list_chain.Reads as list-chain-reads
-use Rattle.levels.proofs.closing.level_pairs.Reads as level-pairs-reads
-use Rattle.marked_pairs.proofs.column_place.Reads as column-place-reads
-use Rattle.words.proofs.at.Reads as at-reads
-use Rattle.words.proofs.clear.Reads as clear-reads
 
--- src/lib.rt:160:5
+abbrev begin : tie.After-level-pairs → tie.Start
+begin L = L .before .before .before .before .before .before .before .before .before .before
+
 level-pairs-requires : tie.Need-level-pairs-requires
-level-pairs-requires c κs = search needs
+level-pairs-requires c κs =
+    let s = c .before .before .before .before .before .before .before .before .before in
+    record {
+      factor = s .pre .factor;
+      marks = record { small = s .pre .small; requests = s .pre .requests; room = omega (arith, s .pre .room, chainWords-levels (s .args .n)) };
+    }
 
--- src/lib.rt:169:29
 column-place-requires : tie.Need-column-place-requires
-column-place-requires c κs = search needs
+column-place-requires c κs =
+    let s = begin (c .before .before .before) in
+    (s .pre .small, s .pre .ordered, s .pre .inside)
 
--- src/lib.rt:169:9
 at-requires : tie.Need-at-requires
-at-requires c κs = search needs
+at-requires c κs =
+    let L = c .before .before .before .before in
+    let s = begin L in
+    let a = s .args in
+    omega (arith, c .column-place .ensures, columnPlace-below (a .n) (a .r) (a .c) (s .pre .ordered) (s .pre .inside), L .level-pairs .ensures .long, s .pre .room, chainWords-levels (a .n))
 
--- src/lib.rt:170:9
 list-chain-requires : tie.Need-list-chain-requires
-list-chain-requires c κs = search needs
+list-chain-requires c κs =
+    let t = c .before .before .before in
+    let L = t .before .before .before .before .before in
+    let s = begin L in
+    let a = s .args in
+    seek-level (a .n) (a .starts .now) (a .rows .now) (a .values .now) (a .request-rows .now) (a .request-columns .now) (a .r) (a .c) (now (a .scratch)) _ (s .pre) (L .level-pairs .ensures)
+    (t .at .result) (t .before .column-place .result) (t .at .ensures) (t .before .column-place .ensures)
 
--- src/lib.rt:182:20
 chain-words-requires : tie.Need-chain-words-requires
-chain-words-requires c κs = search needs
+chain-words-requires c κs =
+    let l = c .before .before .before .before .before in
+    begin (l .before .before .before .before .before .before .before .before .before) .pre .small
 
--- src/lib.rt:182:5
 clear-requires : tie.Need-clear-requires
-clear-requires c κs = search needs
+clear-requires c κs =
+    let l = c .before .before .before .before .before .before in
+    let L = l .before .before .before .before .before .before .before .before .before in
+    let s = begin L in
+    omega (arith, c .chain-words .ensures, L .level-pairs .ensures .long, s .pre .room)
 
--- src/lib.rt:142:1
 same-length : tie.Need-same-length
 same-length c = search needs
 
--- src/lib.rt:142:1
 same-length-2 : tie.Need-same-length-2
 same-length-2 c = search needs
 
--- src/lib.rt:142:1
 same-length-3 : tie.Need-same-length-3
 same-length-3 c = search needs
 
--- src/lib.rt:142:1
 returns : tie.Need-returns
-returns c = search needs
+returns c =
+    let k = c .before .before in
+    let w = k .before in
+    let l = w .before .before .before .before .before .before in
+    let L = l .before .before .before .before .before .before .before .before .before in
+    let s = begin L in
+    let a = s .args in
+    let A = L .level-pairs .ensures in (
+      seek-listed (a .n) (a .starts .now) (a .rows .now) (a .values .now) (a .request-rows .now) (a .request-columns .now) (a .r) (a .c) (now (a .scratch)) _ (s .pre) A (l .list-chain .ensures),
+      seek-cleared (a .n) (a .starts .now) (a .rows .now) (a .values .now) (a .request-rows .now) (a .request-columns .now) (a .r) (a .c) (now (a .scratch)) _ (s .pre) A (k .clear .ensures) (w .chain-words .ensures),
+    )
 
 pub seek-chain-spec : {M : Type 1} → statement M
 seek-chain-spec =
