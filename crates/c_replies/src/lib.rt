@@ -3,9 +3,11 @@ ghost use mathlib.Core.Path.{_≡_};
 ghost use Rattle.diagnostics.specs.Selected.{selectedReplyOf};
 ghost use Rattle.lookup.specs.Reply.{entryReply};
 ghost use Rattle.pattern_lists.specs.ListedMarks.{listReply};
+ghost use Rattle.dependency_chain.specs.Reply.{chainReply};
 ghost use Rattle.floor.specs.Floor.{stabilizedReply};
 ghost use Rattle.requests_reader.specs.Reader.{readReply};
 ghost use Rattle.c_replies.specs.Numbers.{statusNumber, selectedNumbers, entryNumbers, countedNumbers, pairNumbers, requestsNumbers, floorNumbers, leastNumbers};
+use dependency_chain::Chain;
 use diagnostics::Selected;
 use diagnostics::SelectedInverseDiagnostics;
 use diagnostics::SelectedInverseStatus;
@@ -44,7 +46,7 @@ pub struct CountedNumbers {
     pub looks: usize,
 }
 
-// The answer of a pattern list.
+// The answer of a pattern list, or of a chain.
 #[repr(C)]
 pub struct PairNumbers {
     pub refusal: u32,
@@ -148,6 +150,22 @@ pub fn pair_numbers(answer: PatternPairs) -> PairNumbers
             pairs: count,
         },
         PatternPairs::Refused(why) => PairNumbers {
+            refusal: refusal_number(why),
+            pairs: 0,
+        },
+    }
+}
+
+// The number of pairs of a chain, 0 where the pair is not in the set.
+pub fn chain_numbers(answer: Chain) -> PairNumbers
+    ensures { λ r. ⌜ r ≡ pairNumbers (chainReply answer) ⌝ }
+{
+    match answer {
+        Chain::Pairs(count) => PairNumbers {
+            refusal: 0,
+            pairs: count,
+        },
+        Chain::Refused(why) => PairNumbers {
             refusal: refusal_number(why),
             pairs: 0,
         },

@@ -27,6 +27,8 @@ ghost use Rattle.selected.specs.Selected.{SelectedEntries};
 ghost use Rattle.original_diagonal.specs.Original.{originalCall, OriginalDiagonal};
 ghost use Rattle.operator_variances.specs.Transformed.{transformedCall, TransformedDiagonal};
 ghost use Rattle.covariances.specs.Covariances.{operator, covarianceCall, Covariances};
+ghost use Rattle.dependency_chain.specs.Reply.{chainReply};
+ghost use Rattle.dependency_chain.specs.Chain.{chainCall, ChainListed};
 ghost use Rattle.pattern_lists.specs.ListedMarks.{listReply};
 ghost use Rattle.verdicts.specs.Number.{replyNumber};
 ghost use Rattle.c_replies.specs.Numbers.{selectedNumbers, entryNumbers, countedNumbers, pairNumbers, requestsNumbers, floorNumbers, leastNumbers, Shows};
@@ -37,6 +39,7 @@ use c_replies::LeastNumbers;
 use c_replies::PairNumbers;
 use c_replies::RequestsNumbers;
 use c_replies::SelectedNumbers;
+use c_replies::chain_numbers;
 use c_replies::counted_numbers;
 use c_replies::entry_numbers;
 use c_replies::floor_numbers;
@@ -45,6 +48,7 @@ use c_replies::pair_numbers;
 use c_replies::requests_numbers;
 use c_replies::selected_numbers;
 use column_search::result_check::check_result;
+use dependency_chain::dependency_chain;
 use floor::variance_floor::VarianceFloor;
 use lookup::well_formed::get_well_formed;
 use verdicts::checked_number;
@@ -244,6 +248,43 @@ pub extern "C" fn redstartgilt_selected_inverse_transformed_covariances(
         result_values,
         scratch,
         output,
+    ))
+}
+
+// The chain from a requested pair to a pair of the closed set.
+#[no_mangle]
+pub extern "C" fn redstartgilt_dependency_chain(
+    n: usize,
+    starts: &[u32],
+    rows: &[u32],
+    values: &[f64],
+    dimension: usize,
+    request_rows: &[u32],
+    request_columns: &[u32],
+    row: usize,
+    column: usize,
+    scratch: &mut [u32],
+    chain_rows: &mut [u32],
+    chain_columns: &mut [u32],
+) -> PairNumbers
+    ensures { λ r. ⌜ Shows (λ d. pairNumbers (chainReply d)) (λ d. ChainListed
+        (chainCall n (now (starts .entry)) (now (rows .entry)) (now (values .entry)) dimension (now («request_rows» .entry)) (now («request_columns» .entry)) row column)
+        (now (scratch .entry)) (now («chain_rows» .entry)) (now («chain_columns» .entry)) (chainReply d)
+        (now (scratch .exit)) (now («chain_rows» .exit)) (now («chain_columns» .exit))) r ⌝ }
+{
+    chain_numbers(dependency_chain(
+        n,
+        starts,
+        rows,
+        values,
+        dimension,
+        request_rows,
+        request_columns,
+        row,
+        column,
+        scratch,
+        chain_rows,
+        chain_columns,
     ))
 }
 
