@@ -161,9 +161,9 @@ pub fn chain_numbers(answer: Chain) -> PairNumbers
     ensures { λ r. ⌜ r ≡ pairNumbers (chainReply answer) ⌝ }
 {
     match answer {
-        Chain::Pairs(count) => PairNumbers {
+        Chain::Pairs(length) => PairNumbers {
             refusal: 0,
-            pairs: count,
+            pairs: length,
         },
         Chain::Refused(why) => PairNumbers {
             refusal: refusal_number(why),
