@@ -39,7 +39,8 @@ enum {
     REDSTARTGILT_BAD_SCALE = 14,
     REDSTARTGILT_OTHER_HEADER = 15,
     REDSTARTGILT_MALFORMED_FILE = 16,
-    REDSTARTGILT_FILE_INDEX_OUTSIDE = 17
+    REDSTARTGILT_FILE_INDEX_OUTSIDE = 17,
+    REDSTARTGILT_NOT_FINITE_ENTRY = 18
 };
 
 /* Statuses of a call that is not refused. */
@@ -88,9 +89,10 @@ typedef struct { size_t num_negative; double min_value; } redstartgilt_least;
  *   1   n above 2,048, or more than 1,048,576 rows or request rows
  *   2   starts not n + 1, the first not 0, a falling one, the last not rows_len, or values_len not rows_len
  *   3   a row index of n or more, or not above the one before it in its column
+ *   18  an entry that is kept and is NaN or infinite, in any column; one above the diagonal may be either
  *   4   dimension not n, or request lists of unequal length
  *   5   a request index of n or more
- *   6   a column without a diagonal entry that is kept, or with one at most 0.0; NaN passes
+ *   6   a column without a diagonal entry that is kept, or with one at most 0.0
  *   7   a list too short
  * Otherwise the status is COMPLETE, or CLOSURE_TOO_LARGE where the closed set has more than limit pairs; closure_pairs
  * is then limit + 1, and the result lists are left as they were. Either status leaves the first 2T + 4n words of the
@@ -160,7 +162,7 @@ uint32_t redstartgilt_diag(
 /* The diagonal in original order: the selected entries of all n diagonals with the default limit, 10 times rows_len,
  * then output[i] is the entry at (orig_to_perm[i], orig_to_perm[i]). The result lists are filled as by selected entries,
  * and need as much; output needs n places. Refuses, in this order:
- *   1, 2, 3   as selected entries does
+ *   1, 2, 3, 18   as selected entries does
  *   4   orig_to_perm_len not n, also one above 2,048
  *   10, 11   an index of n or more, or one that came before; the first fault in the list decides
  *   6   as above
@@ -179,7 +181,7 @@ redstartgilt_selected redstartgilt_selected_inverse_diag_with_diagnostics(
  * one, 10 times rows_len, and the result lists are filled as by selected entries, and need as much; output needs a place
  * for each operator row. A column may repeat in a row. Weights are not checked. Refuses, in this order:
  *   1   as selected entries does, or more than 2,048 operator rows or 1,048,576 columns
- *   2, 3   as selected entries does
+ *   2, 3, 18   as selected entries does
  *   4   ncols not n
  *   9   no row starts, the first not 0, a falling one, the last not columns_len, weights_len not columns_len, or a column
  *       of n or more
@@ -201,7 +203,7 @@ redstartgilt_selected redstartgilt_selected_inverse_transformed_diag(
  * this order:
  *   1   as selected entries does, or of either operator more than 2,048 rows or 1,048,576 columns, or more than 1,048,576
  *       row pairs, counted by a_rows_len
- *   2, 3   as selected entries does
+ *   2, 3, 18   as selected entries does
  *   4   a_ncols or b_ncols not n, or a_rows_len not b_rows_len
  *   9   A broken as an operator of operator variances is, B broken, or a row pair outside: a_rows[k] not below the number
  *       of A's rows, or b_rows[k] not below that of B's. Rows that no row pair names are checked too
@@ -262,8 +264,8 @@ redstartgilt_requests redstartgilt_read_requests(
     const uint8_t *text, size_t text_len, uint32_t *rows, size_t rows_len, uint32_t *columns, size_t columns_len);
 
 /* The pairs of the factor's kept entries, ascending by row then column: pair k is (pair_rows[k], pair_columns[k]).
- * Scratch needs T words, the outputs a place for each pair, at most the lesser of rows_len and T. Refuses with 1, 2, 3
- * as selected entries does, then with 7 for the scratch, then with 7 for an output. Past the other refusals and with
+ * Scratch needs T words, the outputs a place for each pair, at most the lesser of rows_len and T. Refuses with 1, 2, 3,
+ * 18 as selected entries does, then with 7 for the scratch, then with 7 for an output. Past the other refusals and with
  * scratch long enough, its first T words end 0, also when an output is too short; the outputs are then as they were. */
 redstartgilt_pairs redstartgilt_from_cholesky_factor(
     size_t n, const uint32_t *starts, size_t starts_len, const uint32_t *rows, size_t rows_len, const double *values, size_t values_len,

@@ -2,7 +2,8 @@
 //!
 //! Program `generate` of the oracle's folder writes the cases twice, once into program `oracle`, once to here, so that
 //! nothing is held but one case and its answer. What the library must reply and leave is the Rust's answer; where
-//! document 01 refuses, it is that refusal, and how the Rust differs is counted.
+//! document 01 refuses, or document 02 a factor that is not finite, it is that refusal, and how the Rust differs is
+//! counted.
 
 use crate::call::{Call, Function, Reply, LOOKUPS};
 use crate::expected::Expected;
@@ -41,7 +42,7 @@ pub fn oracle_is_there(folder: &Path) -> io::Result<()> {
     )))
 }
 
-/// The number of differences that are not document 01's.
+/// The number of differences that are not the documents'.
 pub fn compare(folder: &Path, seeds: &[u64], huge: bool) -> io::Result<usize> {
     let mut tally = Tally::default();
     if huge {
@@ -63,7 +64,7 @@ struct Tally {
     counts: BTreeMap<(String, String), (usize, usize)>,
     /// replies by kind
     replies: BTreeMap<(String, String), usize>,
-    /// how the Rust differs where document 01 says otherwise: how often, and a case
+    /// how the Rust differs where a document says otherwise: how often, and a case
     intended: BTreeMap<String, (usize, String)>,
     unexpected: usize,
 }
@@ -103,7 +104,7 @@ impl Tally {
         for ((function, reply), count) in &self.replies {
             println!("  {function}: {reply}: {count}");
         }
-        println!("\nwhere document 01 says otherwise than the Rust");
+        println!("\nwhere a document says otherwise than the Rust");
         for (what, (count, example)) in &self.intended {
             println!("  {what}: {count}, as {example}");
         }
@@ -210,8 +211,12 @@ fn compare_case(case: &Block, answer: &Block, seed: u64, random: &mut Random, ta
     let number = refusal(&call);
     let said = said(case, answer);
     if said != Some(number) {
-        let document = if number > 0 { format!("refuses with {number}") } else { "accepts".to_string() };
-        let what = format!("{}: document 01 {document}, the Rust: {}", case.kind, answer.field("reply"));
+        let document = match number {
+            0 => "document 01 accepts".to_string(),
+            18 => "document 02 refuses with 18".to_string(),
+            _ => format!("document 01 refuses with {number}"),
+        };
+        let what = format!("{}: {document}, the Rust: {}", case.kind, answer.field("reply"));
         if number == 0 {
             tally.differs(&[what], case, &call);
             return 1;

@@ -2,7 +2,8 @@
 //!
 //! A call is made from its seed and number alone: sound lists first, then some of them are spoilt, then lists of any
 //! length and contents are lent. Reply, every list and every guard word afterwards must be what document 01, or of files,
-//! covariances and counted lookups document 02, gives; of lookups in well-formed results, what the header says.
+//! covariances, counted lookups and factors that are not finite document 02, gives; of lookups in well-formed results,
+//! what the header says.
 
 use crate::bounds::bounds;
 use crate::call::{Call, Function, Reply, FUNCTIONS};
@@ -22,7 +23,7 @@ const SHOWN: usize = 20;
 static ENDED: AtomicUsize = AtomicUsize::new(0);
 
 /// The highest refusal.
-const LAST_REFUSAL: usize = 17;
+const LAST_REFUSAL: usize = 18;
 
 /// The number of calls that did not do as the documents say; calls `first` to `first + count` of a seed, of every
 /// function or of one alone.

@@ -201,12 +201,13 @@ fn rising(rows: &[u32]) -> bool {
     rows.windows(2).all(|r| r[0] < r[1])
 }
 
-/// 2 and 3 of a factor whose n is within bounds.
+/// 2, 3 and 18 of a factor whose n is within bounds.
 fn factor(call: &Call) -> Steps {
     let n = call.n;
     refuse(2, call.starts.len() != n + 1 || broken(&call.starts, &call.rows, &call.values))?;
     refuse(3, call.rows.iter().any(|&r| r as usize >= n))?;
-    refuse(3, call.starts.windows(2).any(|s| !rising(&call.rows[s[0] as usize..s[1] as usize])))
+    refuse(3, call.starts.windows(2).any(|s| !rising(&call.rows[s[0] as usize..s[1] as usize])))?;
+    refuse(18, Factor::kept(call).values().any(|x| !x.is_finite()))
 }
 
 /// 9.

@@ -47,8 +47,12 @@ impl Factor {
         Factor { diagonals, below }
     }
 
+    pub fn values(&self) -> impl Iterator<Item = f64> + '_ {
+        self.diagonals.iter().flatten().copied().chain(self.below.iter().flatten().map(|e| e.1))
+    }
+
     fn pairs(&self) -> usize {
-        self.diagonals.iter().flatten().count() + self.below.iter().map(Vec::len).sum::<usize>()
+        self.values().count()
     }
 }
 

@@ -23,6 +23,16 @@ fn some_value(random: &mut Random) -> f64 {
     }
 }
 
+/// A value above the diagonal, which is dropped whatever it is: one in three is not finite.
+fn some_dropped(random: &mut Random) -> f64 {
+    match random.below(9) {
+        0 => f64::NAN,
+        1 => f64::INFINITY,
+        2 => f64::NEG_INFINITY,
+        _ => some_value(random),
+    }
+}
+
 fn some_diagonal(random: &mut Random) -> f64 {
     match random.below(40) {
         0..=19 => 1.0,
@@ -58,7 +68,11 @@ fn factor(random: &mut Random, n: usize) -> Columns {
                 };
                 if there {
                     columns.rows.push(r as u32);
-                    columns.values.push(if r == c { some_diagonal(random) } else { some_value(random) });
+                    columns.values.push(match r.cmp(&c) {
+                        Equal => some_diagonal(random),
+                        Greater => some_value(random),
+                        Less => some_dropped(random),
+                    });
                 }
             }
         }
@@ -144,7 +158,7 @@ fn some_limit(random: &mut Random, n: usize) -> usize {
     }
 }
 
-/// A call that the documents accept, but for some diagonals, before its lists are lent.
+/// A call that the documents accept, but for some values of a factor, before its lists are lent.
 pub fn sound(function: Function, n: usize, random: &mut Random) -> Call {
     let mut call = Call { function, n, dimension: n, ..Call::default() };
     match function {

@@ -52,6 +52,16 @@ fn spoil_words(random: &mut Random, list: &mut List<u32>, n: usize) {
     });
 }
 
+/// NaN or an infinity at some places of a factor, kept or not.
+fn spoil_finite(random: &mut Random, list: &mut List<f64>) {
+    list.edit(|list| {
+        for _ in 0..list.len().min(1 + random.below(3)) {
+            let at = random.below(list.len());
+            list[at] = random.pick(&[f64::NAN, f64::INFINITY, f64::NEG_INFINITY]);
+        }
+    });
+}
+
 fn spoil_values(random: &mut Random, list: &mut List<f64>) {
     list.edit(|list| match random.below(3) {
         0 => spoil_length(random, list, Random::any_value),
@@ -85,23 +95,25 @@ fn some_size(random: &mut Random, n: usize) -> usize {
 fn spoil(call: &mut Call, random: &mut Random) {
     let n = call.n;
     match call.function {
-        Function::EntriesWithLimit | Function::Entries => match random.below(7) {
+        Function::EntriesWithLimit | Function::Entries => match random.below(8) {
             0 => call.n = some_size(random, n),
             1 => spoil_words(random, &mut call.starts, n),
             2 => spoil_words(random, &mut call.rows, n),
             3 => spoil_values(random, &mut call.values),
             4 => call.dimension = some_size(random, n),
             5 => spoil_words(random, &mut call.request_rows, n),
-            _ => spoil_words(random, &mut call.request_columns, n),
+            6 => spoil_words(random, &mut call.request_columns, n),
+            _ => spoil_finite(random, &mut call.values),
         },
-        Function::OriginalDiag => match random.below(5) {
+        Function::OriginalDiag => match random.below(6) {
             0 => call.n = some_size(random, n),
             1 => spoil_words(random, &mut call.starts, n),
             2 => spoil_words(random, &mut call.rows, n),
             3 => spoil_values(random, &mut call.values),
-            _ => spoil_words(random, &mut call.orig_to_perm, n),
+            4 => spoil_words(random, &mut call.orig_to_perm, n),
+            _ => spoil_finite(random, &mut call.values),
         },
-        Function::OperatorVariances => match random.below(8) {
+        Function::OperatorVariances => match random.below(9) {
             0 => call.n = some_size(random, n),
             1 => spoil_words(random, &mut call.starts, n),
             2 => spoil_words(random, &mut call.rows, n),
@@ -109,9 +121,10 @@ fn spoil(call: &mut Call, random: &mut Random) {
             4 => call.dimension = some_size(random, n),
             5 => spoil_words(random, &mut call.row_starts, n),
             6 => spoil_words(random, &mut call.columns, n),
-            _ => spoil_values(random, &mut call.weights),
+            7 => spoil_values(random, &mut call.weights),
+            _ => spoil_finite(random, &mut call.values),
         },
-        Function::Covariances => match random.below(14) {
+        Function::Covariances => match random.below(15) {
             0 => call.n = some_size(random, n),
             1 => spoil_words(random, &mut call.starts, n),
             2 => spoil_words(random, &mut call.rows, n),
@@ -126,13 +139,15 @@ fn spoil(call: &mut Call, random: &mut Random) {
             11 => spoil_values(random, &mut call.b_weights),
             // a row of about the number of rows
             12 => spoil_words(random, &mut call.a_rows, call.row_starts.len()),
-            _ => spoil_words(random, &mut call.b_rows, call.b_row_starts.len()),
+            13 => spoil_words(random, &mut call.b_rows, call.b_row_starts.len()),
+            _ => spoil_finite(random, &mut call.values),
         },
-        Function::FactorPattern => match random.below(4) {
+        Function::FactorPattern => match random.below(5) {
             0 => call.n = some_size(random, n),
             1 => spoil_words(random, &mut call.starts, n),
             2 => spoil_words(random, &mut call.rows, n),
-            _ => spoil_values(random, &mut call.values),
+            3 => spoil_values(random, &mut call.values),
+            _ => spoil_finite(random, &mut call.values),
         },
         Function::OperatorPattern => match random.below(4) {
             0 => call.n = some_size(random, n),

@@ -61,11 +61,23 @@ pub enum Error {
     MalformedFile,
     /// 17: a request file with an index of 0, one above its size, or a row less than its column.
     FileIndexOutside,
+    /// 18: an entry of a factor, on or below its diagonal, that is NaN or infinite. It has row and column of the first
+    /// one, by column then row; `None` where the refusal comes from its number alone.
+    ///
+    /// ```
+    /// use redstartgilt::{CholeskyFactor, Error};
+    ///
+    /// let refused = CholeskyFactor::from_triplets(2, &[(0, 0, 1.0), (1, 0, f64::NAN), (1, 1, 1.0)]).unwrap_err();
+    /// assert_eq!(refused, Error::NotFiniteEntry(Some((1, 0))));
+    /// assert_eq!(refused.to_string(), "refusal 18: entry (1, 0) of the factor is not finite");
+    /// assert_eq!(Error::from_number(18), Some(Error::NotFiniteEntry(None)));
+    /// ```
+    NotFiniteEntry(Option<(usize, usize)>),
 }
 
 impl Error {
-    /// Every refusal, by number.
-    pub const ALL: [Error; 17] = [
+    /// Every refusal, by number; the last without an entry.
+    pub const ALL: [Error; 18] = [
         Error::TooLarge,
         Error::BrokenStarts,
         Error::BrokenRows,
@@ -83,6 +95,7 @@ impl Error {
         Error::OtherHeader,
         Error::MalformedFile,
         Error::FileIndexOutside,
+        Error::NotFiniteEntry(None),
     ];
 
     /// The refusal's number.
@@ -105,6 +118,7 @@ impl Error {
             Error::OtherHeader => sys::REDSTARTGILT_OTHER_HEADER,
             Error::MalformedFile => sys::REDSTARTGILT_MALFORMED_FILE,
             Error::FileIndexOutside => sys::REDSTARTGILT_FILE_INDEX_OUTSIDE,
+            Error::NotFiniteEntry(_) => sys::REDSTARTGILT_NOT_FINITE_ENTRY,
         }
     }
 
@@ -113,7 +127,7 @@ impl Error {
         Error::ALL.into_iter().find(|error| error.number() == number)
     }
 
-    /// What is wrong, in words.
+    /// What is wrong, in words. Which entry is not finite is told by [`Display`](fmt::Display) alone.
     pub const fn reason(self) -> &'static str {
         match self {
             Error::TooLarge => {
@@ -159,6 +173,7 @@ impl Error {
                 "an index of the request file is outside: indices go from 1 to the size, and a row must be at least its \
                  column"
             }
+            Error::NotFiniteEntry(_) => "an entry of the factor, on or below its diagonal, is not finite",
         }
     }
 
@@ -176,7 +191,13 @@ impl Error {
 
 impl fmt::Display for Error {
     fn fmt(&self, formatter: &mut fmt::Formatter<'_>) -> fmt::Result {
-        write!(formatter, "refusal {}: {}", self.number(), self.reason())
+        write!(formatter, "refusal {}: ", self.number())?;
+        match self {
+            Error::NotFiniteEntry(Some((row, column))) => {
+                write!(formatter, "entry ({row}, {column}) of the factor is not finite")
+            }
+            _ => formatter.write_str(self.reason()),
+        }
     }
 }
 

@@ -10,8 +10,8 @@ use crate::{Error, Permutation, MAX_DIMENSION};
 /// Entries above the diagonal and entries of 0.0 of either sign are dropped by every call: L means the others. They
 /// count as stored entries, so they raise the default limit.
 ///
-/// Its lists are checked when it is made. That each column has a diagonal entry above 0.0 is checked by the calls that
-/// need it, which refuse with [`Error::NonPositiveDefinite`].
+/// Its lists are checked when it is made, and that the entries of L are finite. That each column has a diagonal entry
+/// above 0.0 is checked by the calls that need it, which refuse with [`Error::NonPositiveDefinite`].
 ///
 /// ```
 /// use redstartgilt::CholeskyFactor;
@@ -46,7 +46,8 @@ impl CholeskyFactor {
     /// A factor of dimension n from its compressed columns: n + 1 starts, then for each column its row indices,
     /// ascending, and its values.
     ///
-    /// Refuses with [`Error::TooLarge`], [`Error::BrokenStarts`] and [`Error::BrokenRows`], by the library's checks.
+    /// Refuses with [`Error::TooLarge`], [`Error::BrokenStarts`], [`Error::BrokenRows`] and [`Error::NotFiniteEntry`],
+    /// by the library's checks. Entries above the diagonal may be NaN or infinite.
     pub fn new(n: usize, starts: Vec<u32>, rows: Vec<u32>, values: Vec<f64>) -> Result<Self, Error> {
         let factor = Self {
             n,
@@ -147,17 +148,7 @@ impl CholeskyFactor {
 
     /// The entries (row, column, value) that are kept: on or below the diagonal and not 0.0, by column then row.
     pub fn lower_triplets(&self) -> Vec<(usize, usize, f64)> {
-        let mut triplets = Vec::with_capacity(self.nnz());
-        for column in 0..self.n {
-            let (from, to) = (self.starts[column] as usize, self.starts[column + 1] as usize);
-            for place in from..to {
-                let (row, value) = (self.rows[place] as usize, self.values[place]);
-                if row >= column && value != 0.0 {
-                    triplets.push((row, column, value));
-                }
-            }
-        }
-        triplets
+        self.lists().kept().collect()
     }
 
     /// Values in factor order put in original order.

@@ -38,6 +38,29 @@ pub struct FactorLists<'a> {
     pub values: &'a [f64],
 }
 
+impl<'a> FactorLists<'a> {
+    /// The entries (row, column, value) that are kept, by column then row, of lists that pass 2 and 3.
+    pub(crate) fn kept(self) -> impl Iterator<Item = (usize, usize, f64)> + 'a {
+        let columns = self.starts.windows(2).enumerate();
+        let entries = columns.flat_map(move |(column, ends)| {
+            let places = ends[0] as usize..ends[1] as usize;
+            places.map(move |place| (self.rows[place] as usize, column, self.values[place]))
+        });
+        entries.filter(|(row, column, value)| row >= column && *value != 0.0)
+    }
+
+    /// The refusal of a call that was lent this factor, with the entry that 18 is about. It is looked for here, after
+    /// the refusal, which says that the lists pass 2 and 3.
+    fn refused(self, error: Error) -> Error {
+        if !matches!(error, Error::NotFiniteEntry(_)) {
+            return error;
+        }
+        let mut kept = self.kept();
+        let found = kept.find(|(_, _, value)| !value.is_finite());
+        Error::NotFiniteEntry(found.map(|(row, column, _)| (row, column)))
+    }
+}
+
 /// An operator in compressed rows, its columns in factor order.
 #[derive(Debug, Clone, Copy)]
 pub struct OperatorLists<'a> {
@@ -140,7 +163,7 @@ pub fn request_places(text: &[u8]) -> usize {
 
 /// Selected entries: fills `result` with the closed set of the requests, column by column, rows ascending.
 ///
-/// Refuses with 1, 2, 3, 4, 5, 6, 7. Without a refusal `scratch` ends with its first [`scratch_words`] words 0;
+/// Refuses with 1, 2, 3, 18, 4, 5, 6, 7. Without a refusal `scratch` ends with its first [`scratch_words`] words 0;
 /// `ClosureTooLarge` leaves `result` as it was.
 pub fn selected_inverse_entries_with_limit(
     factor: FactorLists<'_>,
@@ -178,7 +201,7 @@ pub fn selected_inverse_entries_with_limit(
             scratch.len(),
         )
     };
-    SelectedInverseDiagnostics::of_reply(reply)
+    SelectedInverseDiagnostics::of_reply(reply).map_err(|error| factor.refused(error))
 }
 
 /// [`selected_inverse_entries_with_limit`] with the [`default_limit`].
@@ -214,7 +237,7 @@ pub fn selected_inverse_entries(
             scratch.len(),
         )
     };
-    SelectedInverseDiagnostics::of_reply(reply)
+    SelectedInverseDiagnostics::of_reply(reply).map_err(|error| factor.refused(error))
 }
 
 /// The entry at (row, column), which may be exchanged.
@@ -362,8 +385,8 @@ pub fn diag(entries: EntryLists<'_>, output: &mut [f64], marks: &mut [u8]) -> Re
 /// The diagonal in original order: fills `result` with the closed set of all diagonals, and `output` with the diagonal
 /// at `orig_to_perm[i]` in place i.
 ///
-/// Refuses with 1, 2, 3, 4, 10, 11, 6, 7, and with 8 where the closed set passes the [`default_limit`]; `scratch` then
-/// ends 0 as after an answer.
+/// Refuses with 1, 2, 3, 18, 4, 10, 11, 6, 7, and with 8 where the closed set passes the [`default_limit`]; `scratch`
+/// then ends 0 as after an answer.
 pub fn selected_inverse_diag_with_diagnostics(
     factor: FactorLists<'_>,
     orig_to_perm: &[u32],
@@ -394,13 +417,13 @@ pub fn selected_inverse_diag_with_diagnostics(
             output.len(),
         )
     };
-    SelectedInverseDiagnostics::of_reply(reply)
+    SelectedInverseDiagnostics::of_reply(reply).map_err(|error| factor.refused(error))
 }
 
 /// Operator variances: fills `result` with the closed set of all column pairs of each operator row, and `output` with
 /// the variance of each row.
 ///
-/// Refuses with 1, 2, 3, 4, 9, 6, 7. `ClosureTooLarge` leaves `result` and `output` as they were.
+/// Refuses with 1, 2, 3, 18, 4, 9, 6, 7. `ClosureTooLarge` leaves `result` and `output` as they were.
 pub fn selected_inverse_transformed_diag(
     factor: FactorLists<'_>,
     operator: OperatorLists<'_>,
@@ -436,15 +459,15 @@ pub fn selected_inverse_transformed_diag(
             output.len(),
         )
     };
-    SelectedInverseDiagnostics::of_reply(reply)
+    SelectedInverseDiagnostics::of_reply(reply).map_err(|error| factor.refused(error))
 }
 
 /// Covariances of rows of two operators: fills `result` with the closed set of all columns of row `a_rows[k]` of `a` with
 /// all columns of row `b_rows[k]` of `b`, and `output` with the covariance of each such row pair.
 ///
-/// Refuses with 1, 2, 3, 4, 9, 6, 7: with 1 also for more than [`MAX_ENTRIES`] row pairs, counted by `a_rows`, with 4 for
-/// row pair lists of unequal length, with 9 for a row pair outside. `ClosureTooLarge` leaves `result` and `output` as they
-/// were. A row pair costs the terms of the one row times those of the other, and costs them again where it repeats.
+/// Refuses with 1, 2, 3, 18, 4, 9, 6, 7: with 1 also for more than [`MAX_ENTRIES`] row pairs, counted by `a_rows`, with 4
+/// for row pair lists of unequal length, with 9 for a row pair outside. `ClosureTooLarge` leaves `result` and `output` as
+/// they were. A row pair costs the terms of the one row times those of the other, and costs them again where it repeats.
 ///
 /// ```
 /// use redstartgilt::lent::{self, FactorLists, OperatorLists, ResultLists};
@@ -513,7 +536,7 @@ pub fn selected_inverse_transformed_covariances(
             output.len(),
         )
     };
-    SelectedInverseDiagnostics::of_reply(reply)
+    SelectedInverseDiagnostics::of_reply(reply).map_err(|error| factor.refused(error))
 }
 
 /// Writes the requests of a Matrix Market file, counted from 0, in file order with repeats kept.
@@ -552,8 +575,8 @@ pub fn read_requests(text: &[u8], rows: &mut [u32], columns: &mut [u32]) -> Resu
 
 /// Writes the pairs of the factor's kept entries, ascending by row then column, and gives their number.
 ///
-/// Refuses with 1, 2, 3, then with 7 for scratch below [`pair_total`] words or a short output. Past the others and with
-/// scratch long enough, its first [`pair_total`] words end 0, also when an output is short.
+/// Refuses with 1, 2, 3, 18, then with 7 for scratch below [`pair_total`] words or a short output. Past the others and
+/// with scratch long enough, its first [`pair_total`] words end 0, also when an output is short.
 pub fn from_cholesky_factor(
     factor: FactorLists<'_>,
     scratch: &mut [u32],
@@ -577,7 +600,7 @@ pub fn from_cholesky_factor(
             pair_columns.len(),
         )
     };
-    Error::check(reply.refusal)?;
+    Error::check(reply.refusal).map_err(|error| factor.refused(error))?;
     Ok(reply.pairs)
 }
 

@@ -41,6 +41,8 @@ pub const REDSTARTGILT_OTHER_HEADER: u32 = 15;
 pub const REDSTARTGILT_MALFORMED_FILE: u32 = 16;
 /// A request file with an index outside its size, or above the diagonal.
 pub const REDSTARTGILT_FILE_INDEX_OUTSIDE: u32 = 17;
+/// A kept entry of a factor that is NaN or infinite.
+pub const REDSTARTGILT_NOT_FINITE_ENTRY: u32 = 18;
 
 /// Status of an answer with entries.
 pub const REDSTARTGILT_COMPLETE: u32 = 0;

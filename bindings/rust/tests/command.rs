@@ -256,8 +256,6 @@ fn malformed_factors() {
             "f.mtx:3: column 1.0 is not a whole number from 1",
         ),
         (after("2 2 1\n1 1 one\n"), "f.mtx:3: value one is not a number"),
-        (after("2 2 1\n1 1 NaN\n"), "f.mtx:3: value NaN is not finite"),
-        (after("2 2 1\n1 1 1e999\n"), "f.mtx:3: value 1e999 is not finite"),
         (
             after("2 2 3\n1 1 1\n2 2 1\n1 1 2\n"),
             "f.mtx:5: entry (1, 1) is there twice, first in line 3",
@@ -633,6 +631,47 @@ fn refusals_of_the_library() {
         folder.prints(&["f.mtx", "--limit", "1830", "--csv"]).lines().count(),
         61
     );
+}
+
+/// 18 has the line and the entry, and goes before a diagonal that is not positive and all that other files say.
+#[test]
+fn factors_that_are_not_finite() {
+    let folder = Folder::new("not-finite");
+    let head = "%%MatrixMarket matrix coordinate real general\n2 2 4\n";
+    folder.write("list.txt", "9\n");
+    folder.write("sum.mtx", "%%MatrixMarket matrix coordinate real general\n1 3 0\n");
+    for value in ["NaN", "nan", "inf", "-inf", "Infinity", "1e999"] {
+        for (place, line) in [("1 1", 6), ("2 1", 5), ("2 2", 4)] {
+            let entries = ["1 2 1", "2 2 0", "2 1 1", "1 1 -1"].map(|entry| {
+                if entry.starts_with(place) {
+                    format!("{place} {value}\n")
+                } else {
+                    format!("{entry}\n")
+                }
+            });
+            folder.write("f.mtx", format!("{head}{}", entries.concat()));
+            let place = place.replace(' ', ", ");
+            let message = format!("f.mtx:{line}: refusal 18: entry ({place}) of the factor is not finite");
+            for words in [
+                &["f.mtx"][..],
+                &["f.mtx", "--entries", "--limit=0", "--csv"],
+                &["f.mtx", "--requests", "list.txt"],
+                &["f.mtx", "--permutation", "list.txt"],
+                &["f.mtx", "--operator", "sum.mtx"],
+                &["f.mtx", "--operator", "sum.mtx", "--with", "sum.mtx"],
+            ] {
+                assert_eq!(folder.fails(words, 28), message, "{words:?}");
+            }
+        }
+        // Above the diagonal it is dropped, as every entry there is.
+        folder.write("f.mtx", format!("{head}1 1 1\n2 1 2\n1 2 {value}\n2 2 1\n"));
+        let variances = "cell,variance,covered\n1,5.0,yes\n2,1.0,yes\n";
+        assert_eq!(folder.prints(&["f.mtx", "--csv"]), variances);
+    }
+    // The first by column, then by row, is told, wherever it stands in the file.
+    folder.write("f.mtx", format!("{head}2 2 NaN\n1 2 NaN\n2 1 NaN\n1 1 1\n"));
+    let message = "f.mtx:5: refusal 18: entry (2, 1) of the factor is not finite";
+    assert_eq!(folder.fails(&["f.mtx"], 28), message);
 }
 
 #[test]

@@ -155,5 +155,5 @@ fn structs() {
 #[test]
 fn numbers() {
     assert_eq!(sys_numbers(), header_numbers());
-    assert_eq!(sys_numbers().len(), 20);
+    assert_eq!(sys_numbers().len(), 21);
 }

@@ -20,7 +20,7 @@ fn numbers_and_words() {
         assert_eq!(error.to_string(), format!("refusal {number}: {}", error.reason()));
     }
     assert_eq!(Error::from_number(0), None);
-    assert_eq!(Error::from_number(18), None);
+    assert_eq!(Error::from_number(19), None);
 }
 
 #[test]
@@ -137,7 +137,7 @@ fn request_out_of_range() {
 
 #[test]
 fn non_positive_definite() {
-    for diagonal in [0.0, -0.0, -1.0, f64::NEG_INFINITY] {
+    for diagonal in [0.0, -0.0, -1.0, f64::MIN] {
         let factor = CholeskyFactor::from_triplets(2, &[(0, 0, 1.0), (1, 1, diagonal)]).unwrap();
         assert_eq!(selected_inverse_diag(&factor), Err(Error::NonPositiveDefinite));
         assert_eq!(
@@ -450,6 +450,230 @@ fn lent_covariances() {
     assert_eq!(lists.output, [2.0, 2.0, 7.0]);
     assert_eq!(lists.values, [5.0, -2.0, 1.0, 7.0]);
     assert_eq!((lists.scratch[13], lists.scratch[14]), (0, 7));
+}
+
+/// What calls are given beside a factor of dimension 2.
+#[derive(Clone, Copy)]
+struct Beside<'a> {
+    dimension: usize,
+    requests: &'a [u32],
+    orig_to_perm: &'a [u32],
+    operator: OperatorLists<'a>,
+    row_pairs: &'a [u32],
+    lengths: [usize; 5],
+}
+
+const SOUND: Beside<'static> = Beside {
+    dimension: 2,
+    requests: &[0, 1],
+    orig_to_perm: &[1, 0],
+    operator: SUM,
+    row_pairs: &[0],
+    lengths: [3, 3, 3, 14, 2],
+};
+
+/// The refusal of each call that takes a factor. A refused call must leave its lists as they were.
+fn refusals(factor: FactorLists<'_>, beside: Beside<'_>) -> [Option<Error>; 6] {
+    std::array::from_fn(|call| {
+        let mut lists = Lent::new(beside.lengths);
+        let (result, scratch, output) = lists.result();
+        let Beside {
+            dimension,
+            requests,
+            orig_to_perm,
+            operator,
+            row_pairs,
+            ..
+        } = beside;
+        let refused = match call {
+            0 => lent::selected_inverse_entries_with_limit(factor, dimension, requests, requests, 3, result, scratch)
+                .err(),
+            1 => lent::selected_inverse_entries(factor, dimension, requests, requests, result, scratch).err(),
+            2 => lent::selected_inverse_diag_with_diagnostics(factor, orig_to_perm, result, scratch, output).err(),
+            3 => lent::selected_inverse_transformed_diag(factor, operator, result, scratch, output).err(),
+            4 => lent::selected_inverse_transformed_covariances(
+                factor, operator, operator, row_pairs, row_pairs, result, scratch, output,
+            )
+            .err(),
+            _ => lent::from_cholesky_factor(factor, scratch, result.starts, result.rows).err(),
+        };
+        assert!(refused.is_none() || lists.untouched(), "{call}");
+        refused
+    })
+}
+
+const NOT_FINITE: [f64; 3] = [f64::NAN, f64::INFINITY, f64::NEG_INFINITY];
+
+#[test]
+fn entries_that_are_not_finite() {
+    for value in NOT_FINITE {
+        for (place, entry) in [(0, (0, 0)), (1, (1, 0)), (2, (1, 1))] {
+            let mut values = [1.0, 2.0, 1.0];
+            values[place] = value;
+            let factor = FactorLists { values: &values, ..F2 };
+            let refused = Error::NotFiniteEntry(Some(entry));
+            assert_eq!(refusals(factor, SOUND), [Some(refused); 6], "{value} at {entry:?}");
+            let made = CholeskyFactor::new(2, vec![0, 2, 3], vec![0, 1, 1], values.to_vec());
+            assert_eq!(made, Err(refused));
+            let (row, column) = entry;
+            assert_eq!(
+                refused.to_string(),
+                format!("refusal 18: entry ({row}, {column}) of the factor is not finite")
+            );
+        }
+        // The first is told, by column then row; those above the diagonal are none.
+        for (values, entry) in [
+            ([value, value, value, value], (0, 0)),
+            ([1.0, value, value, value], (1, 0)),
+            ([1.0, 2.0, value, value], (1, 1)),
+        ] {
+            let factor = FactorLists {
+                starts: &[0, 2, 4],
+                rows: &[0, 1, 0, 1],
+                values: &values,
+                ..F2
+            };
+            assert_eq!(refusals(factor, SOUND), [Some(Error::NotFiniteEntry(Some(entry))); 6]);
+        }
+    }
+}
+
+#[test]
+fn above_the_diagonal_anything_is_accepted() {
+    for value in NOT_FINITE {
+        let factor = CholeskyFactor::new(2, vec![0, 2, 4], vec![0, 1, 0, 1], vec![1.0, 2.0, value, 1.0]).unwrap();
+        assert_eq!(refusals(factor.lists(), SOUND), [None; 6]);
+        assert_eq!(selected_inverse_diag(&factor).unwrap().values, [5.0, 1.0]);
+        let kept = SparseSymmetricPattern::from_cholesky_factor(&factor);
+        assert_eq!(kept, SparseSymmetricPattern::from_cholesky_factor(&f2()));
+        assert_eq!(factor.lower_triplets(), f2().lower_triplets());
+    }
+}
+
+/// 18 comes after 1, of whatever list, after 2 and after 3, and before all others.
+#[test]
+fn entries_that_are_not_finite_in_order() {
+    let number = |refused: Option<Error>| refused.map_or(0, Error::number);
+    let long = vec![0; MAX_ENTRIES + 1];
+    let bare = FactorLists {
+        values: &[1.0, 2.0, 0.0],
+        ..F2
+    };
+    for value in NOT_FINITE {
+        let values = [value, 2.0, 1.0];
+        let broken = FactorLists { values: &values, ..F2 };
+        for factor in [
+            FactorLists { n: 2_049, ..broken },
+            FactorLists { rows: &long, ..broken },
+        ] {
+            assert_eq!(refusals(factor, SOUND), [Some(Error::TooLarge); 6]);
+        }
+        let many_rows = OperatorLists {
+            row_starts: &long[..2_050],
+            ..SUM
+        };
+        for (beside, numbers) in [
+            (
+                Beside {
+                    requests: &long,
+                    ..SOUND
+                },
+                [1, 1, 18, 18, 18, 18],
+            ),
+            (
+                Beside {
+                    operator: many_rows,
+                    ..SOUND
+                },
+                [18, 18, 18, 1, 1, 18],
+            ),
+            (
+                Beside {
+                    operator: OperatorLists { columns: &long, ..SUM },
+                    ..SOUND
+                },
+                [18, 18, 18, 1, 1, 18],
+            ),
+            (
+                Beside {
+                    row_pairs: &long,
+                    ..SOUND
+                },
+                [18, 18, 18, 18, 1, 18],
+            ),
+        ] {
+            assert_eq!(refusals(broken, beside).map(number), numbers);
+        }
+        let starts = FactorLists {
+            starts: &[0, 2, 2],
+            ..broken
+        };
+        assert_eq!(refusals(starts, SOUND), [Some(Error::BrokenStarts); 6]);
+        let rows = FactorLists {
+            rows: &[0, 1, 2],
+            ..broken
+        };
+        assert_eq!(refusals(rows, SOUND), [Some(Error::BrokenRows); 6]);
+
+        let values = [value, 2.0, 0.0];
+        let broken = FactorLists { values: &values, ..F2 };
+        for (factor, beside, numbers) in [
+            (
+                F2,
+                Beside {
+                    dimension: 5,
+                    orig_to_perm: &[0],
+                    operator: OperatorLists { ncols: 3, ..SUM },
+                    ..SOUND
+                },
+                [4, 4, 4, 4, 4, 0],
+            ),
+            (
+                F2,
+                Beside {
+                    requests: &[0, 2],
+                    orig_to_perm: &[2, 0],
+                    operator: OperatorLists {
+                        columns: &[0, 2],
+                        ..SUM
+                    },
+                    ..SOUND
+                },
+                [5, 5, 10, 9, 9, 0],
+            ),
+            (
+                F2,
+                Beside {
+                    orig_to_perm: &[1, 1],
+                    row_pairs: &[1],
+                    ..SOUND
+                },
+                [0, 0, 11, 0, 9, 0],
+            ),
+            (bare, SOUND, [6, 6, 6, 6, 6, 0]),
+            (
+                F2,
+                Beside {
+                    lengths: [0; 5],
+                    ..SOUND
+                },
+                [7; 6],
+            ),
+        ] {
+            assert_eq!(refusals(factor, beside).map(number), numbers);
+            let refused = Error::NotFiniteEntry(Some((0, 0)));
+            assert_eq!(refusals(broken, beside), [Some(refused); 6]);
+        }
+    }
+    // Triplets: one outside is told first.
+    assert_eq!(
+        CholeskyFactor::from_triplets(2, &[(0, 0, f64::NAN), (2, 1, 1.0)]),
+        Err(Error::BrokenRows)
+    );
+    assert_eq!(
+        CholeskyFactor::from_triplets(2, &[(0, 1, f64::NAN), (1, 1, f64::NAN), (0, 0, -1.0)]),
+        Err(Error::NotFiniteEntry(Some((1, 1))))
+    );
 }
 
 #[test]

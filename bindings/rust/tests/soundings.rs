@@ -135,7 +135,10 @@ fn one_column() {
         Err(Error::NonPositiveDefinite)
     );
     assert_eq!(selected_inverse_diag(&one(2.0)).unwrap().values, [0.25]);
-    assert!(selected_inverse_diag(&one(f64::NAN)).unwrap().values[0].is_nan());
+    assert_eq!(
+        CholeskyFactor::new(1, vec![0, 1], vec![0], vec![f64::NAN]),
+        Err(Error::NotFiniteEntry(Some((0, 0))))
+    );
 }
 
 #[test]

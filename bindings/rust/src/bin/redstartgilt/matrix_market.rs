@@ -14,19 +14,49 @@ enum Kind {
     Operator,
 }
 
-/// A file's matrix, its entries (row, column, value) counted from 0, by column then row, none twice.
+/// A file's matrix, its entries counted from 0, by column then row, none twice.
 #[derive(Debug, Clone, PartialEq)]
 struct Matrix {
     rows: usize,
     columns: usize,
-    entries: Vec<(usize, usize, f64)>,
+    entries: Vec<Entry>,
+}
+
+/// An entry, with its line in the file.
+#[derive(Debug, Clone, PartialEq)]
+struct Entry {
+    column: usize,
+    row: usize,
+    value: f64,
+    line: usize,
 }
 
 /// The factor of a file.
 pub fn factor(file: &Path) -> Result<CholeskyFactor, Failure> {
     let matrix = read(file, Kind::Factor)?;
-    CholeskyFactor::from_triplets(matrix.rows, &matrix.entries)
-        .map_err(|error| Failure::refused_at(file.display(), error))
+    let entries = matrix.entries.iter();
+    let triplets = entries.map(|entry| (entry.row, entry.column, entry.value));
+    CholeskyFactor::from_triplets(matrix.rows, &triplets.collect::<Vec<_>>())
+        .map_err(|error| refused_factor(file, &matrix, error))
+}
+
+/// The refusal of a factor; that of an entry which is not finite with its line, and counted from 1.
+fn refused_factor(file: &Path, matrix: &Matrix, error: Error) -> Failure {
+    let at_fault = match error {
+        Error::NotFiniteEntry(place) => {
+            let mut entries = matrix.entries.iter();
+            entries.find(|entry| place == Some((entry.row, entry.column)))
+        }
+        _ => None,
+    };
+    let Some(Entry { row, column, line, .. }) = at_fault else {
+        return Failure::refused_at(file.display(), error);
+    };
+    Failure::refused_because(
+        format_args!("{}:{line}", file.display()),
+        error,
+        format_args!("entry ({}, {}) of the factor is not finite", row + 1, column + 1),
+    )
 }
 
 /// The operator of a file, for a factor of so many cells: the terms of each row by cell.
@@ -41,9 +71,9 @@ pub fn operator(file: &Path, cells: usize) -> Result<SparseRowOperator, Failure>
     }
     // More rows than are allowed are refused without lists for each of them.
     let mut rows = vec![Vec::new(); matrix.rows.min(MAX_DIMENSION + 1)];
-    for (row, column, weight) in matrix.entries {
-        if let Some(terms) = rows.get_mut(row) {
-            terms.push((column, weight));
+    for entry in matrix.entries {
+        if let Some(terms) = rows.get_mut(entry.row) {
+            terms.push((entry.column, entry.value));
         }
     }
     SparseRowOperator::new(matrix.columns, rows).map_err(|error| Failure::refused_at(file.display(), error))
@@ -53,13 +83,6 @@ pub fn operator(file: &Path, cells: usize) -> Result<SparseRowOperator, Failure>
 struct Header {
     whole_numbers: bool,
     lower_only: bool,
-}
-
-struct Entry {
-    column: usize,
-    row: usize,
-    value: f64,
-    line: usize,
 }
 
 fn read(file: &Path, kind: Kind) -> Result<Matrix, Failure> {
@@ -90,7 +113,7 @@ fn parse(file: &Path, text: &[u8], kind: Kind) -> Result<Matrix, Failure> {
                 format!("more entries than the {count} that the file says it has"),
             ));
         }
-        entries.push(entry(file, number, line, &header, [rows, columns])?);
+        entries.push(entry(file, number, line, kind, &header, [rows, columns])?);
     }
     if entries.len() < count {
         return Err(Failure::in_file(
@@ -113,14 +136,7 @@ fn parse(file: &Path, text: &[u8], kind: Kind) -> Result<Matrix, Failure> {
             ));
         }
     }
-    Ok(Matrix {
-        rows,
-        columns,
-        entries: entries
-            .iter()
-            .map(|entry| (entry.row, entry.column, entry.value))
-            .collect(),
-    })
+    Ok(Matrix { rows, columns, entries })
 }
 
 fn is_comment(line: &str) -> bool {
@@ -179,7 +195,14 @@ fn sizes(file: &Path, number: usize, line: &str, kind: Kind) -> Result<(usize, u
     }
 }
 
-fn entry(file: &Path, number: usize, line: &str, header: &Header, sizes: [usize; 2]) -> Result<Entry, Failure> {
+fn entry(
+    file: &Path,
+    number: usize,
+    line: &str,
+    kind: Kind,
+    header: &Header,
+    sizes: [usize; 2],
+) -> Result<Entry, Failure> {
     let fail = |reason: String| Err(Failure::at_line(file, number, reason));
     let words = line.split_whitespace().collect::<Vec<_>>();
     let [row, column, value] = words[..] else {
@@ -205,7 +228,8 @@ fn entry(file: &Path, number: usize, line: &str, header: &Header, sizes: [usize;
         ));
     }
     let value = match (header.whole_numbers, value.parse::<f64>()) {
-        (false, Ok(number)) if number.is_finite() => number,
+        // Of a factor the library decides, which drops what is above the diagonal.
+        (false, Ok(number)) if number.is_finite() || kind == Kind::Factor => number,
         (false, Ok(_)) => return fail(format!("value {value} is not finite")),
         (false, Err(_)) => return fail(format!("value {value} is not a number")),
         (true, _) => match value.parse::<i64>() {

@@ -18,7 +18,8 @@ FACTOR is a Matrix Market file of a lower factor L: the header
 (or integer for real, or symmetric for general, where only the lower triangle is stored), comment lines that begin
 with %, a line with rows, columns and entries, then a line with row, column and value for each entry, in any order.
 Indices count from 1 in all files and in all output. The command prints the variance of every cell: the diagonal of
-the inverse of L times its transpose. In a general file, entries above the diagonal and zeros are dropped.
+the inverse of L times its transpose. In a general file, entries above the diagonal and zeros are dropped. Of the others
+none may be NaN or infinite, or too large for a 64-bit float: it is refused with 18, and the message has its line.
 
 Options:
   --requests FILE     the pairs whose entries are wanted; without it all diagonals. Two indices a line, in either order;
