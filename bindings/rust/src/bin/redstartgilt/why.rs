@@ -225,6 +225,10 @@ mod tests {
             let kept = factor.lower_triplets();
             for (row, column) in (0..6).flat_map(|row| (0..6).map(move |column| (row, column))) {
                 let why = Why::find("the band", &factor, &first(), (row, column)).unwrap();
+                if order[row].abs_diff(order[column]) > 2 {
+                    assert_eq!(why.pairs, []);
+                    continue;
+                }
                 assert_eq!(why.pairs.last(), Some(&(row.max(column), row.min(column))));
                 assert_eq!(why.couplings.len() + 1, why.pairs.len());
                 for (pairs, coupling) in why.pairs.windows(2).zip(&why.couplings) {
