@@ -15,7 +15,7 @@ pub const REDSTARTGILT_BROKEN_STARTS: u32 = 2;
 pub const REDSTARTGILT_BROKEN_ROWS: u32 = 3;
 /// Dimensions or lengths that do not match.
 pub const REDSTARTGILT_DIMENSION_MISMATCH: u32 = 4;
-/// A request with an index of n or more.
+/// A request, or a pair whose chain is asked for, with an index of n or more.
 pub const REDSTARTGILT_REQUEST_OUT_OF_RANGE: u32 = 5;
 /// A column without a kept diagonal, or with one at most 0.0.
 pub const REDSTARTGILT_NON_POSITIVE_DEFINITE: u32 = 6;

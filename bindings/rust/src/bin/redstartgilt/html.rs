@@ -127,7 +127,7 @@ fn drawing(html: &mut String, map: &Map<'_>, scale: Option<&Scale>) {
     if buttons.iter().any(|(there, _, _)| *there) {
         html.push_str("<p>");
         for (_, id, words) in buttons.iter().filter(|(there, _, _)| *there) {
-            let _ = write!(html, "<button id=\"{id}\" type=\"button\">{words}</button>\n");
+            let _ = writeln!(html, "<button id=\"{id}\" type=\"button\">{words}</button>");
         }
         html.push_str("</p>\n");
     }

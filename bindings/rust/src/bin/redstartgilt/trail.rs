@@ -259,16 +259,25 @@ pub fn draw(map: &Map<'_>, frame: &Frame) -> String {
         (half.0 + 0.3 * text, half.1 + 0.3 * text)
     };
     let mut drawn = String::from("<g id=\"chain\" pointer-events=\"none\" font-family=\"sans-serif\">\n");
+    let grid = map.placed.grid;
+    let end = (
+        frame.left + grid.width as f64 * frame.side,
+        frame.top + grid.height as f64 * frame.side,
+    );
+    let on_map = |(x, y): Point| x >= frame.left && x <= end.0 && y >= frame.top && y <= end.1;
     for (number, step) in why.couplings.iter().enumerate() {
-        // Both cells of a pair may go the same way.
+        let (from, to) = (middle(step.from), middle(step.to));
+        let far = (to.0 - from.0).hypot(to.1 - from.1);
+        let bend = (0.16 * far).min(1.5 * frame.side);
+        // Bent to a side on which it stays on the map; both cells of a pair may go the same way, on its two sides.
+        let stays = |way: f64| on_map(Curve::new(from, to, way * bend.max(0.6 * frame.side)).bend);
+        let way = if !stays(1.0) && stays(-1.0) { -1.0 } else { 1.0 };
         let again = why.couplings[..number]
             .iter()
             .any(|one| (one.from, one.to) == (step.from, step.to));
-        let way = if again { -1.0 } else { 1.0 };
-        let (from, to) = (middle(step.from), middle(step.to));
-        let far = (to.0 - from.0).hypot(to.1 - from.1);
-        // Bent as far as it takes to see it between the marks.
-        let bends = (0..24).map(|more| way * (0.16 * far + 0.2 * text * f64::from(more)));
+        let way = if again { -way } else { way };
+        // And as far as it takes to see it between the marks.
+        let bends = (0..24).map(|more| way * (bend + 0.2 * text * f64::from(more)));
         let curves = bends.filter_map(|bend| Curve::new(from, to, bend).between(room(step.from), room(step.to)));
         let curves = curves.collect::<Vec<_>>();
         let long = curves.iter().find(|curve| curve.length() > 1.8 * text);
