@@ -1118,7 +1118,7 @@ def some_column(chance, c, below):
 
 def spoil_chain(chance, f):
     """One fault, or something that looks like one."""
-    n, which = f["n"], chance.below(9)
+    n, which = min(f["n"], 2**32 - 2), chance.below(9)
     if which == 0:
         f[chance.pick(("prow", "pcol"))] = chance.pick((n, n + 1, 2**32 - 1))
     elif which == 1:
