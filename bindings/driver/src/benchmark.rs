@@ -274,6 +274,7 @@ fn row_of_chains(folder: &Path, name: &str, asked: &Call, runs: usize) -> io::Re
     let requests: Vec<(usize, usize)> = rules::requested(asked).listed().collect();
     let mut call = Call {
         function: Function::DependencyChain,
+        dimension: asked.n,
         request_rows: List::made(requests.len(), |at| requests[at].0 as u32),
         request_columns: List::made(requests.len(), |at| requests[at].1 as u32),
         ..asked.clone()
