@@ -1,6 +1,7 @@
 // The words of scratch that a call uses.
 ghost use mathlib.Core.Path.{_≡_};
 ghost use Prim.Native.Nat.{_≤_};
+ghost use Rattle.bits.specs.Bits.{bitWords};
 ghost use Rattle.refusal.specs.Bounds.{maxDimension};
 ghost use Rattle.pairs.specs.Pair.{pairTotal, maxPairs};
 ghost use Rattle.pairs.specs.Scratch.{queueStart, scratchWords};
@@ -27,4 +28,12 @@ pub fn scratch_words(n: usize) -> usize
     ensures { λ r. ⌜ r ≡ scratchWords n ⌝ }
 {
     2 * pair_total(n) + 4 * n
+}
+
+// The words of T bits.
+pub fn mark_words(n: usize) -> usize
+    requires { ⌜ n ≤ maxDimension ⌝ }
+    ensures { λ r. ⌜ r ≡ bitWords (pairTotal n) ⌝ }
+{
+    (pair_total(n) + 31) / 32
 }
