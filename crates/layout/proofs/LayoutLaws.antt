@@ -11,17 +11,21 @@ use mathlib.Core.List.{List, [], _++_, map-id}
 use lib.ListN.{length, getD, set, length-set, length-drop}
 use lib.Seq.{getD-set-same, getD-set-other, getD-drop, ext-getD}
 use Rattle.lists.specs.Test.{not-so}
-use Rattle.lists.specs.Select.{select, tally, select-none, select-gap, select-cong, Picked, select-at}
+use Rattle.lists.specs.Sum.{bit, sumTo, sumTo-eq}
+use Rattle.lists.specs.Select.{select, tally, tally-sum, select-none, select-gap, select-cong, Picked, select-at}
 use Rattle.lists.specs.Overwrite.{overwrite, overwrite-none, splice, splice-none, splice-at, splice-length, splice-overwrite}
 use Rattle.lists.specs.Overwrite.{filled, filled-none, filled-more}
 use Rattle.lists.specs.Cells.{cells, cells-none, cells-next, cells-length}
-use Rattle.bits.specs.Bits.{bit-same}
+use Rattle.bits.specs.Bits.{bitAt, bitWords, bit-same}
 use Rattle.pairs.specs.Pair.{pairTotal, maxPairs, pairTotal-small}
-use Rattle.pairs.specs.Scratch.{queueStart, queueStart-mark}
+use Rattle.pairs.specs.Scratch.{queueStart, queueStart-mark, queueStart-words}
 use Rattle.pairs.specs.ColumnOrder.{colStart, colStart-next, colStart-mono, colStart-total, colStart-least, columnPlace, columnPlace-column, columnPlace-below}
 use Rattle.pairs.specs.ColumnOrder.{columnMarking, byColumn, columnFirst, columnEnd, setSize, setSize-most}
 use Rattle.marked_pairs.specs.MarkedPairs.{ColumnsReached}
-use Rattle.layout.specs.ColumnRows.{columnTest, ColumnListed}
+use Rattle.set_bits.specs.Listed.{NumbersListed}
+use Rattle.set_bits.specs.BitsListed.{bitsTest, ListInput}
+use Rattle.set_bits.specs.Counted.{maxBits}
+use Rattle.layout.specs.ColumnRows.{columnTest, ColumnRoom, ColumnListed}
 use Rattle.entries.specs.Entries.{columnCount, position}
 use Rattle.entries.specs.Position.{columnCount-none, columnCount-next, columnCount-mono, tally-strict, select-tally}
 use Rattle.layout.specs.Layout.{PositionsRoom, PositionsLaid, LayColumn, ColumnLaid, ReachedColumn, LayOut, LaidOut}
@@ -46,6 +50,56 @@ positions-more {base} {first} {e} {rows} {s₀} {q} {r} {s} O h l at P = record 
   where
     kept : (w : ℕ) → (w ≡ base + r → ⊥) → getD (set s (base + r) q) w 0 ≡ getD s w 0
     kept w d = getD-set-other s (base + r) w q 0 d
+
+-- ---- the marks of a column, as bits from a place on
+
+module _ {n place c first : ℕ} {rows₀ s : List ℕ} (O : ColumnRoom n place c first rows₀ s) where
+  -- the column's places are pairs'
+  column-places : place + (n - c) ≤ pairTotal n
+  column-places = omega (arith, O .start, colStart-next n c, colStart-mono n (c + 1) n (omega (arith, O .inside)), colStart-total n)
+
+  column-words : bitWords (place + (n - c)) ≤ length s
+  unfolding bitWords
+  column-words = omega (arith, column-places, queueStart-words n, O .room)
+
+  -- they can be counted
+  pub column-bits : (place ≤ place + (n - c)) × (place + (n - c) ≤ maxBits) × (bitWords (place + (n - c)) ≤ length s)
+  column-bits = (omega arith, omega (arith, column-places, pairTotal-small n (O .small)), column-words)
+
+  -- as many as the column's rows
+  column-tally : tally (bitAt s) place (place + (n - c)) ≡ tally (columnTest n s c) c n
+  column-tally =
+      let z : place + (n - c) - place ≡ n - c = omega arith in
+      tally-sum (bitAt s) place (place + (n - c)) ∙ ap (sumTo (λ i. bit (bitAt s (place + i)))) z
+      ∙ sumTo-eq _ _ (n - c)
+      (λ i l.
+      let q : place + i ≡ columnPlace n (c + i) c = omega (arith, O .start) in
+      ap (λ (k : ℕ). bit (bitAt s k)) q)
+      ∙ sym (tally-sum (columnTest n s c) c n)
+
+  pub column-next : {m : ℕ} → m ≡ tally (bitAt s) place (place + (n - c)) → first + m ≡ first + tally (columnTest n s c) c n
+  column-next e = ap (λ (k : ℕ). first + k) (e ∙ column-tally)
+
+  -- and listed
+  pub column-input : ListInput n place c first rows₀ s
+  column-input = record {
+    room = record {
+      small = O .small;
+      within = omega (arith, O .inside);
+      fits = subst (λ (p : ℕ). first + tally (bitsTest s p c) c n ≤ length rows₀) (sym (O .start)) (O .fits);
+    };
+    inside = O .inside;
+    stored = column-words;
+  }
+
+  pub column-listed : {rows : List ℕ} {count next : ℕ} → NumbersListed (bitsTest s place c) c n first rows₀ rows count
+      → next ≡ first + tally (columnTest n s c) c n → ColumnListed n c n first rows₀ s rows next
+  column-listed {rows} L e = record {
+    count-is = e;
+    rows-is = subst (λ (p : ℕ). rows ≡ splice first (select (bitsTest s p c) c n) rows₀) (O .start) (L .list-is);
+  }
+
+-- ---- one column
 
 module _ {n place c first : ℕ} {rows₀ s₀ : List ℕ} (O : LayColumn n place c first rows₀ s₀)
     {rows : List ℕ} {next : ℕ} (L : ColumnListed n c n first rows₀ s₀ rows next) where

@@ -1,5 +1,1 @@
-pub mod ZeroLaws
-pub mod ListedLaws
-pub mod WordLaws
-pub mod ColumnLaws
 pub mod LayoutLaws

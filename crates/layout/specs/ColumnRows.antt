@@ -1,13 +1,12 @@
 -- The rows of a column's marked pairs, ascending, listed behind other rows: what listing them asks and leaves.
 -- Assumes nothing.
-use Prim.Native.Nat.{ℕ, _+_, _-_, _*_, _/_, _≤_, _<_}
+use Prim.Native.Nat.{ℕ, _+_, _≤_, _<_}
 use mathlib.Core.Path.{_≡_}
 use mathlib.Core.Bool.{Bool}
 use mathlib.Core.List.{List}
 use lib.ListN.{length}
 use Rattle.lists.specs.Select.{select, tally}
 use Rattle.lists.specs.Overwrite.{splice}
-use Rattle.bits.specs.Bits.{bitAt}
 use Rattle.refusal.specs.Bounds.{maxDimension}
 use Rattle.pairs.specs.Pair.{pairTotal}
 use Rattle.pairs.specs.Scratch.{queueStart}
@@ -29,22 +28,3 @@ pub record ColumnRoom (n place c first : ℕ) (rows s : List ℕ) : Type 0 where
 pub record ColumnListed (n c e first : ℕ) (rows₀ s rows : List ℕ) (count : ℕ) : Type 0 where
   pub count-is : count ≡ first + tally (columnTest n s c) c e
   pub rows-is : rows ≡ splice first (select (columnTest n s c) c e) rows₀
-
--- ---- the rows of bits, a word at a time
-
--- the rows that bits say, bit p being that of `row`
-abbrev pub bitsTest : List ℕ → ℕ → ℕ → ℕ → Bool
-bitsTest s p row r = bitAt s (p + (r - row))
-
--- there is room for the rows below n that bits say
-pub record BitsRoom (n p row first : ℕ) (rows s : List ℕ) : Type 0 where
-  pub small : n ≤ maxDimension
-  pub within : row ≤ n
-  pub fits : first + tally (bitsTest s p row) row n ≤ length rows
-
--- ---- the rows of whole words
-
--- there is room for the rows below n that the bits from a word's first on say
-pub record WordsRoom (n word row first : ℕ) (rows s : List ℕ) : Type 0 where
-  pub room : BitsRoom n (word * 32) row first rows s
-  pub stored : word + (n - row + 31) / 32 ≤ length s

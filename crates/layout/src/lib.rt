@@ -1,15 +1,13 @@
 // The result's layout from the marks of a set of pairs: the starts, the rows, and each member's position in them.
-pub mod column_rows;
 pub mod positions;
-pub mod word_rows;
-pub mod zero_words;
 
 ghost use Prim.Native.Nat.{_≤_, _<_};
 ghost use lib.ListN.{length};
 ghost use Rattle.marked_pairs.specs.MarkedPairs.{ColumnsReached};
 ghost use Rattle.layout.specs.Layout.{PositionsRoom, PositionsLaid, LayColumn, ColumnLaid, ReachedColumn, LayOut, LaidOut};
-use column_rows::list_column;
 use scratch::queue_start;
+use set_bits::count::count_bits;
+use set_bits::list_bits;
 use words::at;
 
 // Writes the position of each row listed from `first` to below `end`, `base` words past the row.
@@ -25,7 +23,7 @@ fn lay_positions(base: usize, first: usize, end: usize, rows: &[u32], scratch: &
     }
 }
 
-// Lists the rows of column c, whose marks start at `place`, behind `first` rows, with their positions; returns how many are listed.
+// Lists the rows of column c, whose marks start at `place`, behind `first` rows, with their positions; returns where the next column starts, by counting the marks.
 fn lay_column(
     n: usize,
     place: usize,
@@ -37,7 +35,8 @@ fn lay_column(
     requires { ⌜ LayColumn n place c first (now rows) (now scratch) ⌝ }
     ensures { λ m. ⌜ ColumnLaid n c first (now (rows .entry)) (now (scratch .entry)) (now (rows .exit)) (now (scratch .exit)) m ⌝ }
 {
-    let next = list_column(n, place, c, first, rows, scratch);
+    let next = first + count_bits(scratch, place, place + (n - c));
+    list_bits(n, place, c, first, rows, scratch);
     lay_positions(queue_start(n) + (place - c), first, next, rows, scratch);
     next
 }

@@ -1,0 +1,5 @@
+pub mod ZeroLaws
+pub mod ListedLaws
+pub mod WordLaws
+pub mod BitsLaws
+pub mod CountLaws
