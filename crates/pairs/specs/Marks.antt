@@ -1,23 +1,27 @@
--- A set of pairs as marks: the word at a pair's place, row by row, is 1 for a member and 0 for another pair.
+-- A set of pairs as marks: the bit at a pair's place, row by row, is set for a member.
 -- Assumes nothing.
-use Prim.Native.Nat.{ℕ, zero, suc, _+_, _≤_, _<_}
+use Prim.Native.Nat.{ℕ, _+_, _-_, _/_, _≤_, _<_}
 use native.Mathlib.Omega.{arith}
-use native.Mathlib.Decide.{ℕ-discrete}
-use mathlib.Core.Path.{_≡_, refl, sym, ap, ap₂, subst, _∙_}
-use mathlib.Core.Bool.{Bool, true, false, _&&_, _||_, or-true, or-false, or-assoc}
+use mathlib.Core.Path.{_≡_, refl, sym, ap, ap₂, _∙_}
+use mathlib.Core.Bool.{Bool, true, false, _&&_, _||_, or-false, or-assoc}
 use mathlib.Core.List.{List}
 use lib.Dec.{eqb}
-use lib.ListN.{length, getD, set, length-set}
-use lib.Seq.{getD-set-same, getD-set-other}
-use borrow.Author.Tests.{eqb-true, eq-eqb, ne-eqb}
-use Rattle.lists.specs.Test.{not-so, and-left, and-right}
-use Rattle.lists.specs.Sum.{bit, sumTo, sumTo-zero, sumTo-most, sumTo-one}
+use lib.ListN.{length, getD, length-set}
+use borrow.Author.Tests.{eqb-true, eq-eqb}
+use Rattle.lists.specs.Test.{and-left, and-right, and-both, same-truth}
+use Rattle.lists.specs.Sum.{bit, sumTo, sumTo-eq}
+use Rattle.lists.specs.Select.{tally, tally-sum}
+use Rattle.bits.specs.Bits.{bitAt, bitWords, withBit, bit-clear, bit-set, word-below}
 use Rattle.refusal.specs.Bounds.{maxDimension}
 use Rattle.pairs.specs.Pair.{pairTotal, rowPlace, rowPlace-below, rowPlace-same, pairCount, pairCount-sum}
 
 -- the set that the marks say
 abbrev pub marking : List ℕ → ℕ → ℕ → Bool
-marking s r c = eqb (getD s (rowPlace r c) 0) 1
+marking s r c = bitAt s (rowPlace r c)
+
+-- the word of a pair's mark is there
+abbrev pub HasMark : List ℕ → ℕ → ℕ → Type 0
+HasMark s r c = rowPlace r c / 32 < length s
 
 -- one set or the other
 abbrev pub either : (ℕ → ℕ → Bool) → (ℕ → ℕ → Bool) → ℕ → ℕ → Bool
@@ -27,149 +31,77 @@ either S R r c = S r c || R r c
 abbrev pub single : ℕ → ℕ → ℕ → ℕ → Bool
 single a b r c = eqb a r && eqb b c
 
--- the words are marks, `count` of them 1
-pub record Marks (s : List ℕ) (count : ℕ) : Type 0 where
-  pub bits : (p : ℕ) → p < length s → getD s p 0 ≤ 1
-  pub size : count ≡ sumTo (λ p. getD s p 0) (length s)
+-- two sets agree on the pairs
+abbrev pub Agree : (ℕ → ℕ → Bool) → (ℕ → ℕ → Bool) → Type 0
+Agree A B = (r c : ℕ) → c ≤ r → A r c ≡ B r c
 
 -- from the marks s to the marks s′ just the pairs of a set are added
-pub record Added (new : ℕ → ℕ → Bool) (s s′ : List ℕ) (count′ : ℕ) : Type 0 where
-  pub marks : Marks s′ count′
-  pub sets : (r c : ℕ) → c ≤ r → rowPlace r c < length s → marking s′ r c ≡ either (marking s) new r c
+pub record Added (new : ℕ → ℕ → Bool) (s s′ : List ℕ) : Type 0 where
+  pub sets : Agree (marking s′) (either (marking s) new)
   pub long : length s′ ≡ length s
-
--- two sets agree on the pairs that have a mark
-abbrev pub Agree : List ℕ → (ℕ → ℕ → Bool) → (ℕ → ℕ → Bool) → Type 0
-Agree s A B = (r c : ℕ) → c ≤ r → rowPlace r c < length s → A r c ≡ B r c
 
 -- ---- the marks of all pairs of n columns
 
-bit-of : (m : ℕ) → m ≤ 1 → m ≡ bit (eqb m 1)
-bit-of m h = elim (ℕ-discrete m 1) [
-  | yes e ↦ e ∙ sym (ap bit (eq-eqb m 1 e))
-  | no d ↦ let z : m ≡ 0 = omega arith in z ∙ sym (ap bit (ne-eqb m 1 d))
-]
+module _ (n : ℕ) (s : List ℕ) where
+  pub pair-marked : length s ≡ bitWords (pairTotal n) → (r c : ℕ) → c ≤ r → r < n → HasMark s r c
+  pair-marked e r c h l = omega (arith, word-below (rowPlace r c) (pairTotal n) (rowPlace-below r c n h l))
 
-module _ (n : ℕ) (s : List ℕ) (e : length s ≡ pairTotal n) where
-  pub pair-marked : (r c : ℕ) → c ≤ r → r < n → rowPlace r c < length s
-  pair-marked r c h l = omega (arith, rowPlace-below r c n h l)
+  -- the bits that are set are as many as the pairs of the set
+  pub marks-count : tally (bitAt s) 0 (pairTotal n) ≡ pairCount n (marking s)
+  marks-count =
+      let z : pairTotal n - 0 ≡ pairTotal n = omega arith in
+      tally-sum (bitAt s) 0 (pairTotal n) ∙ ap (sumTo (λ i. bit (bitAt s (0 + i)))) z
+      ∙ sumTo-eq _ _ (pairTotal n) (λ i _. let q : 0 + i ≡ i = omega arith in ap (λ (k : ℕ). bit (bitAt s k)) q)
+      ∙ sym (pairCount-sum n (marking s) (λ p. bit (bitAt s p)) (λ r c h l. refl))
 
-  -- the count is the number of pairs in the set
-  pub marks-count : {count : ℕ} → Marks s count → count ≡ pairCount n (marking s)
-  marks-count M =
-      M .size ∙ ap (sumTo (λ p. getD s p 0)) e
-      ∙ sym (pairCount-sum n (marking s) (λ p. getD s p 0) (λ r c h l. bit-of (getD s (rowPlace r c) 0) (M .bits (rowPlace r c) (pair-marked r c h l))))
-
--- there are at most as many as words
-pub marks-most : {s : List ℕ} {count : ℕ} → Marks s count → count ≤ length s
-marks-most {s} M = subst (λ (k : ℕ). k ≤ length s) (sym (M .size)) (sumTo-most (λ p. getD s p 0) (length s) (M .bits))
-
--- ---- no pair
-
-module _ (s : List ℕ) (z : (p : ℕ) → p < length s → getD s p 0 ≡ 0) where
-  pub marks-none : Marks s 0
-  marks-none = record {
-    bits = λ p l. omega (arith, z p l);
-    size = sym (sumTo-zero _ (length s) z);
-  }
-
-  pub marking-none : Agree s (marking s) (λ r c. false)
-  marking-none r c h l = ne-eqb (getD s (rowPlace r c) 0) 1 (λ e. omega (arith, z (rowPlace r c) l))
+-- words that are 0 mark no pair
+pub marking-none : (s : List ℕ) → ((p : ℕ) → p < length s → getD s p 0 ≡ 0) → (r c : ℕ) → HasMark s r c → marking s r c ≡ false
+marking-none s z r c l = bit-clear s (rowPlace r c) (z (rowPlace r c / 32) l)
 
 -- ---- sets of pairs, added one after the other
 
-pub added-none : {s : List ℕ} {count : ℕ} (new : ℕ → ℕ → Bool) → Agree s new (λ r c. false) → Marks s count → Added new s s count
-added-none {s} {count} new none M = record {
-  marks = M;
-  sets = λ r c h l. sym (ap (λ (b : Bool). marking s r c || b) (none r c h l) ∙ or-false (marking s r c));
+pub added-none : (s : List ℕ) (new : ℕ → ℕ → Bool) → Agree new (λ r c. false) → Added new s s
+added-none s new none = record {
+  sets = λ r c h. sym (ap (λ (b : Bool). marking s r c || b) (none r c h) ∙ or-false (marking s r c));
   long = refl;
 }
 
-pub added-also : {A B new : ℕ → ℕ → Bool} {s s′ s″ : List ℕ} {count′ count″ : ℕ} → Added A s s′ count′ → Added B s′ s″ count″ → Agree s new (either A B) → Added new s s″ count″
+pub added-also : {A B new : ℕ → ℕ → Bool} {s s′ s″ : List ℕ} → Added A s s′ → Added B s′ s″ → Agree new (either A B) → Added new s s″
 added-also {A} {B} {new} {s} {s′} {s″} P Q e = record {
-  marks = Q .marks;
-  sets = λ r c h l.
-      Q .sets r c h (subst (λ (k : ℕ). rowPlace r c < k) (sym (P .long)) l)
-      ∙ ap (λ (b : Bool). b || B r c) (P .sets r c h l) ∙ or-assoc (marking s r c) (A r c) (B r c)
-      ∙ ap (λ (b : Bool). marking s r c || b) (sym (e r c h l));
+  sets = λ r c h.
+      Q .sets r c h ∙ ap (λ (b : Bool). b || B r c) (P .sets r c h) ∙ or-assoc (marking s r c) (A r c) (B r c)
+      ∙ ap (λ (b : Bool). marking s r c || b) (sym (e r c h));
   long = Q .long ∙ P .long;
 }
 
-pub added-agree : {A new : ℕ → ℕ → Bool} {s s′ : List ℕ} {count′ : ℕ} → Added A s s′ count′ → Agree s new A → Added new s s′ count′
+pub added-agree : {A new : ℕ → ℕ → Bool} {s s′ : List ℕ} → Added A s s′ → Agree new A → Added new s s′
 added-agree {A} {new} {s} P e = record {
-  marks = P .marks;
-  sets = λ r c h l. P .sets r c h l ∙ ap (λ (b : Bool). marking s r c || b) (sym (e r c h l));
+  sets = λ r c h. P .sets r c h ∙ ap (λ (b : Bool). marking s r c || b) (sym (e r c h));
   long = P .long;
 }
 
 -- ---- one pair
 
--- the count and the words after the word at p is set to 1, where it was m
-abbrev pub countWith : ℕ → ℕ → ℕ
-countWith zero count = count + 1
-countWith (suc m) count = count
-
-abbrev pub wordsWith : ℕ → List ℕ → ℕ → List ℕ
-wordsWith zero s p = set s p 1
-wordsWith (suc m) s p = s
-
 -- a pair that has a mark
-pub record MarkPairInput (r c count : ℕ) (s : List ℕ) : Type 0 where
+pub record MarkPairInput (r c : ℕ) (s : List ℕ) : Type 0 where
   pub ordered : c ≤ r
   pub small : r ≤ maxDimension
-  pub inside : rowPlace r c < length s
-  pub marks : Marks s count
+  pub inside : HasMark s r c
 
-module _ (a b : ℕ) (s : List ℕ) (count : ℕ) (M : Marks s count) (h : b ≤ a) (inside : rowPlace a b < length s) where
-  other : (r c : ℕ) → (rowPlace r c ≡ rowPlace a b → ⊥) → single a b r c ≡ false
-  other r c d =
-      not-so (single a b r c)
-      (λ e. d (ap₂ rowPlace (sym (eqb-true _ _ (and-left (eqb a r) _ e))) (sym (eqb-true _ _ (and-right (eqb a r) (eqb b c) e)))))
+-- a place is one pair's
+place-single : (a b r c : ℕ) → b ≤ a → c ≤ r → eqb (rowPlace a b) (rowPlace r c) ≡ single a b r c
+place-single a b r c h l =
+    same-truth _ _
+    (λ e.
+    let q = rowPlace-same a b r c h l (eqb-true _ _ e) in
+    and-both _ _ (eq-eqb a r (q .0)) (eq-eqb b c (q .1)))
+    (λ e. eq-eqb _ _ (ap₂ rowPlace (eqb-true _ _ (and-left (eqb a r) _ e)) (eqb-true _ _ (and-right (eqb a r) (eqb b c) e))))
 
-  same : (r c : ℕ) → c ≤ r → rowPlace r c ≡ rowPlace a b → single a b r c ≡ true
-  same r c m e =
-      let q = rowPlace-same r c a b m h e in
-      ap₂ (λ (x y : Bool). x && y) (eq-eqb a r (sym (q .0))) (eq-eqb b c (sym (q .1)))
-
-  new-mark : getD s (rowPlace a b) 0 ≡ 0 → Added (single a b) s (set s (rowPlace a b) 1) (count + 1)
-  new-mark e = record {
-    marks = record {
-      bits = λ p q. elim (ℕ-discrete p (rowPlace a b)) [
-        | yes d ↦ subst (λ (k : ℕ). k ≤ 1) (sym (ap (λ (j : ℕ). getD (set s (rowPlace a b) 1) j 0) d ∙ getD-set-same s (rowPlace a b) 1 0 inside)) (omega arith)
-        | no d ↦ subst (λ (k : ℕ). k ≤ 1) (sym (getD-set-other s (rowPlace a b) p 1 0 d)) (M .bits p (subst (λ (k : ℕ). p < k) (length-set s (rowPlace a b) 1) q))
-      ];
-      size =
-          ap (λ (k : ℕ). k + 1) (M .size)
-          ∙ sym
-          (ap (sumTo (λ p. getD (set s (rowPlace a b) 1) p 0)) (length-set s (rowPlace a b) 1)
-          ∙ sumTo-one (λ p. getD s p 0) (λ p. getD (set s (rowPlace a b) 1) p 0) (length s) (rowPlace a b) inside e
-          (getD-set-same s (rowPlace a b) 1 0 inside) (λ i _ d. getD-set-other s (rowPlace a b) i 1 0 d));
-    };
-    sets = λ r c m _. elim (ℕ-discrete (rowPlace r c) (rowPlace a b)) [
-      | yes d ↦
-          eq-eqb _ 1 (ap (λ (j : ℕ). getD (set s (rowPlace a b) 1) j 0) d ∙ getD-set-same s (rowPlace a b) 1 0 inside)
-          ∙ sym (ap (λ (x : Bool). marking s r c || x) (same r c m d) ∙ or-true (marking s r c))
-      | no d ↦
-          ap (λ (k : ℕ). eqb k 1) (getD-set-other s (rowPlace a b) (rowPlace r c) 1 0 d)
-          ∙ sym (ap (λ (x : Bool). marking s r c || x) (other r c d) ∙ or-false (marking s r c))
-    ];
-    long = length-set s (rowPlace a b) 1;
-  }
-
-  old-mark : getD s (rowPlace a b) 0 ≡ 1 → Added (single a b) s s count
-  old-mark e = record {
-    marks = M;
-    sets = λ r c m _. elim (ℕ-discrete (rowPlace r c) (rowPlace a b)) [
-      | yes d ↦ let t = eq-eqb _ 1 (ap (λ (j : ℕ). getD s j 0) d ∙ e) in t ∙ sym (ap (λ (x : Bool). x || single a b r c) t)
-      | no d ↦ sym (ap (λ (x : Bool). marking s r c || x) (other r c d) ∙ or-false (marking s r c))
-    ];
-    long = refl;
-  }
-
-  -- what setting the word at the pair's place does
-  pub added-pair : Added (single a b) s (wordsWith (getD s (rowPlace a b) 0) s (rowPlace a b)) (countWith (getD s (rowPlace a b) 0) count)
-  added-pair = go (getD s (rowPlace a b) 0) refl
-    where
-      go : (m : ℕ) → getD s (rowPlace a b) 0 ≡ m → Added (single a b) s (wordsWith m s (rowPlace a b)) (countWith m count)
-      go zero e = new-mark e
-      go (suc m) e = old-mark (omega (arith, M .bits (rowPlace a b) inside))
+-- what setting the bit at the pair's place does
+pub added-pair : {a b : ℕ} {s : List ℕ} → MarkPairInput a b s → Added (single a b) s (withBit s (rowPlace a b))
+added-pair {a} {b} {s} I = record {
+  sets = λ r c h.
+      bit-set s (rowPlace a b) (I .inside) (rowPlace r c)
+      ∙ ap (λ (x : Bool). marking s r c || x) (place-single a b r c (I .ordered) h);
+  long = length-set s (rowPlace a b / 32) _;
+}

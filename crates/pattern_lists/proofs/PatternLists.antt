@@ -12,7 +12,8 @@ use Rattle.lists.specs.Tabulate.{tabulate, tabulate-length}
 use Rattle.lists.specs.Overwrite.{overwrite, filled, cleared, filled-at, filled-length, filled-all}
 use Rattle.refusal.specs.Steps.{first, after, settle, first-hit, first-skip, first-end, first-refused, after-refused, after-passed}
 use Rattle.refusal.specs.declared.Refusal.the-variants.{TooShort}
-use Rattle.pairs.specs.Pair.{pairTotal, pairCount, pairRows, pairColumns, pairCount-cong, pairRows-cong, pairColumns-cong}
+use Rattle.pairs.specs.Scratch.{markWords}
+use Rattle.pairs.specs.Pair.{pairCount, pairRows, pairColumns, pairCount-cong, pairRows-cong, pairColumns-cong}
 use Rattle.pairs.specs.Marks.{Added, marking, marking-none, pair-marked}
 use Rattle.pattern_lists.specs.ListedMarks.{outputSteps, ListedMarks}
 use Rattle.pattern_lists.specs.declared.listed.PatternPairs.{PatternPairs}
@@ -26,16 +27,16 @@ cleared-zero s s′ e p l =
     ∙ filled-at (λ _. 0) (length s) s p 0 (subst (λ (k : ℕ). p < k) (ap length e ∙ filled-length (λ _. 0) (length s) s (omega arith)) l)
 
 -- marks cleared, the pairs of a set marked, and the marked pairs listed: the pairs of the set are listed
-module _ (n : ℕ) (S T : ℕ → ℕ → Bool) (agree : (r c : ℕ) → c ≤ r → r < n → T r c ≡ S r c) (marks rows columns : List ℕ) (all : length marks ≡ pairTotal n) where
-  pub listed-set : {reply : PatternPairs} {clean marked left rows′ columns′ : List ℕ} {count : ℕ} → clean ≡ cleared (length marks) marks → Added T clean marked count
+module _ (n : ℕ) (S T : ℕ → ℕ → Bool) (agree : (r c : ℕ) → c ≤ r → r < n → T r c ≡ S r c) (marks rows columns : List ℕ) (all : length marks ≡ markWords n) where
+  pub listed-set : {reply : PatternPairs} {clean marked left rows′ columns′ : List ℕ} → clean ≡ cleared (length marks) marks → Added T clean marked
       → ListedMarks n (marking marked) reply marked rows columns left rows′ columns′ → ListedMarks n S reply marks rows columns left rows′ columns′
   listed-set {reply} {clean} {marked} {left} {rows′} {columns′} c A L =
       let long : length clean ≡ length marks = ap length c ∙ filled-length (λ _. 0) (length marks) marks (omega arith) in
       let same : (r c : ℕ) → c ≤ r → r < n → marking marked r c ≡ S r c =
       λ r k h l.
       let inside = pair-marked n clean (long ∙ all) r k h l in
-      A .sets r k h inside
-      ∙ ap (λ (b : Bool). b || T r k) (marking-none clean (cleared-zero marks clean c) r k h inside)
+      A .sets r k h
+      ∙ ap (λ (b : Bool). b || T r k) (marking-none clean (cleared-zero marks clean c) r k inside)
       ∙ agree r k h l in
       let count-same = pairCount-cong n (marking marked) S same in
       record {
@@ -61,31 +62,31 @@ cleared-front m s h =
     ∙ ap (λ (k : ℕ). tabulate (λ _. 0) m ++ drop k s) (sym (tabulate-length (λ _. 0) m))
 
 module _ (n : ℕ) (S : ℕ → ℕ → Bool) (scratch rows columns : List ℕ) where
-  -- 7: the scratch is below T
-  pub scratch-short : length scratch < pairTotal n → PatternLists [] n S (Refused TooShort) scratch rows columns scratch rows columns
+  -- 7: the scratch is below the marks' words
+  pub scratch-short : length scratch < markWords n → PatternLists [] n S (Refused TooShort) scratch rows columns scratch rows columns
   scratch-short h =
-      let t = lt-ltb (length scratch) (pairTotal n) h in
+      let t = lt-ltb (length scratch) (markWords n) h in
       let whole = first-hit 7 (outputSteps (pairCount n S) (length rows) (length columns)) tt t in
       record {
         replies = sym (first-refused _ 7 (pairCount n S) whole);
-        scratch-is = sym (after-refused _ 7 (cleared (pairTotal n) scratch) scratch (first-hit 7 [] tt t));
+        scratch-is = sym (after-refused _ 7 (cleared (markWords n) scratch) scratch (first-hit 7 [] tt t));
         rows-are = sym (after-refused _ 7 (overwrite (pairRows n S) rows) rows whole);
         columns-are = sym (after-refused _ 7 (overwrite (pairColumns n S) columns) columns whole);
       }
 
-  -- the marks are the scratch's first T words
-  pub scratch-part : {reply : PatternPairs} {part left scratch′ rows′ columns′ : List ℕ} → pairTotal n ≤ length scratch → part ≡ take (pairTotal n) scratch → scratch′ ≡ left ++ drop (pairTotal n) scratch
+  -- the marks are the scratch's first words
+  pub scratch-part : {reply : PatternPairs} {part left scratch′ rows′ columns′ : List ℕ} → markWords n ≤ length scratch → part ≡ take (markWords n) scratch → scratch′ ≡ left ++ drop (markWords n) scratch
       → ListedMarks n S reply part rows columns left rows′ columns′ → PatternLists [] n S reply scratch rows columns scratch′ rows′ columns′
   unfolding after
   scratch-part {reply} {part} h p q L =
-      let t = le-ltb (length scratch) (pairTotal n) h in
+      let t = le-ltb (length scratch) (markWords n) h in
       let rest = outputSteps (pairCount n S) (length rows) (length columns) in
       record {
         replies = L .replies ∙ sym (first-skip 7 rest (pairCount n S) t refl);
         scratch-is =
-            q ∙ ap (λ (l : List ℕ). l ++ drop (pairTotal n) scratch) (L .clears ∙ ap (λ (l : List ℕ). cleared (length l) l) p)
-            ∙ cleared-front (pairTotal n) scratch h
-            ∙ sym (after-passed (scratchStep n (length scratch) ∷ []) (cleared (pairTotal n) scratch) scratch (first-skip 7 [] tt t (first-end tt)));
+            q ∙ ap (λ (l : List ℕ). l ++ drop (markWords n) scratch) (L .clears ∙ ap (λ (l : List ℕ). cleared (length l) l) p)
+            ∙ cleared-front (markWords n) scratch h
+            ∙ sym (after-passed (scratchStep n (length scratch) ∷ []) (cleared (markWords n) scratch) scratch (first-skip 7 [] tt t (first-end tt)));
         rows-are = L .rows-are ∙ ap (settle rows) (sym (first-skip 7 rest (overwrite (pairRows n S) rows) t refl));
         columns-are = L .columns-are ∙ ap (settle columns) (sym (first-skip 7 rest (overwrite (pairColumns n S) columns) t refl));
       }

@@ -12,8 +12,9 @@ use lib.ListN.{length, getD}
 use borrow.Author.Tests.{le-leb, lt-leb, eqb-true, eq-eqb}
 use Rattle.lists.specs.Test.{any, anyIn, any-none, any-next, any-hit, any-found, anyIn-none, anyIn-next, anyIn-hit, anyIn-found, and-left, and-right, and-both, same-truth}
 use Rattle.refusal.specs.Bounds.{maxDimension}
-use Rattle.pairs.specs.Pair.{pairTotal, rowPlace, rowPlace-below, ordered, ordered-is, is-ordered}
-use Rattle.pairs.specs.Marks.{Marks, Added, Agree, MarkPairInput, single, either, added-none, added-also, added-agree}
+use Rattle.pairs.specs.Scratch.{markWords}
+use Rattle.pairs.specs.Pair.{ordered, ordered-is, is-ordered}
+use Rattle.pairs.specs.Marks.{Added, HasMark, single, pair-marked, added-none, added-also, added-agree}
 use Rattle.columns.specs.Columns.{start, row}
 use Rattle.columns.specs.Kept.{kept, keptRow, keptPair}
 use Rattle.columns.specs.Factor.{Starts, Factor, Column, factor-column}
@@ -46,28 +47,27 @@ module _ (rows : List ℕ) (nz : ℕ → Bool) (c p : ℕ) where
   pub kept-entry : c ≤ row rows p → nz p ≡ true → kept rows nz c p ≡ true
   kept-entry h e = and-both (leb c (row rows p)) (nz p) (le-leb c (row rows p) h) e
 
-  pub entry-dropped : {s : List ℕ} {count : ℕ} → kept rows nz c p ≡ false → Marks s count → Added (entrySet rows nz c p) s s count
-  entry-dropped e M = added-none _ (λ r c′ _ _. ap (λ (b : Bool). b && single (row rows p) c r c′) e) M
+  pub entry-dropped : (s : List ℕ) → kept rows nz c p ≡ false → Added (entrySet rows nz c p) s s
+  entry-dropped s e = added-none s _ (λ r c′ _. ap (λ (b : Bool). b && single (row rows p) c r c′) e)
 
-  pub entry-kept : {s s′ : List ℕ} {count : ℕ} → kept rows nz c p ≡ true → Added (single (row rows p) c) s s′ count → Added (entrySet rows nz c p) s s′ count
-  entry-kept e A = added-agree A (λ r c′ _ _. ap (λ (b : Bool). b && single (row rows p) c r c′) e)
+  pub entry-kept : {s s′ : List ℕ} → kept rows nz c p ≡ true → Added (single (row rows p) c) s s′ → Added (entrySet rows nz c p) s s′
+  entry-kept e A = added-agree A (λ r c′ _. ap (λ (b : Bool). b && single (row rows p) c r c′) e)
 
 -- the entry at p, if it is kept, has a mark
 abbrev pub EntryFits : ℕ → List ℕ → List ℕ → ℕ → Type 0
-EntryFits c rows marks p = (row rows p ≤ maxDimension) × (c ≤ row rows p → rowPlace (row rows p) c < length marks)
+EntryFits c rows marks p = (row rows p ≤ maxDimension) × (c ≤ row rows p → HasMark marks (row rows p) c)
 
 -- what marking the entries of column c from s to below e asks
-pub record ColumnFits (c : ℕ) (rows : List ℕ) (values s e : ℕ) (marks : List ℕ) (count : ℕ) : Type 0 where
+pub record ColumnFits (c : ℕ) (rows : List ℕ) (values s e : ℕ) (marks : List ℕ) : Type 0 where
   pub ordered : s ≤ e
   pub stored : e ≤ length rows
   pub valued : e ≤ values
   pub fits : (p : ℕ) → s ≤ p → p < e → EntryFits c rows marks p
-  pub marked : Marks marks count
 
 -- the entries of a factor's column have marks
-pub column-fits : {n : ℕ} {starts rows : List ℕ} {values : ℕ} → Factor n starts rows values → n ≤ maxDimension → (marks : List ℕ) → length marks ≡ pairTotal n → (count : ℕ) → Marks marks count → (c : ℕ) → c < n
-    → ColumnFits c rows values (start starts c) (start starts (c + 1)) marks count
-column-fits {n} {starts} {rows} F small marks e count M c h =
+pub column-fits : {n : ℕ} {starts rows : List ℕ} {values : ℕ} → Factor n starts rows values → n ≤ maxDimension → (marks : List ℕ) → length marks ≡ markWords n → (c : ℕ) → c < n
+    → ColumnFits c rows values (start starts c) (start starts (c + 1)) marks
+column-fits {n} {starts} {rows} F small marks e c h =
     let C = factor-column F c h in
     record {
       ordered = C .ordered;
@@ -75,24 +75,23 @@ column-fits {n} {starts} {rows} F small marks e count M c h =
       valued = C .weighed;
       fits = λ p lo hi.
           let r = F .rows-ascend .inside p (omega (arith, C .stored)) in
-          (omega arith, λ q. omega (arith, rowPlace-below (row rows p) c n q r));
-      marked = M;
+          (omega arith, λ q. pair-marked n marks e (row rows p) c q r);
     }
 
 -- the loops' first and next sets
-module _ {s : List ℕ} {count : ℕ} (test : ℕ → ℕ → ℕ → Bool) where
-  pub range-none : (a : ℕ) → Marks s count → Added (λ r c. anyIn (λ p. test p r c) a a) s s count
-  range-none a M = added-none _ (λ r c _ _. anyIn-none (λ p. test p r c) a) M
+module _ (s : List ℕ) (test : ℕ → ℕ → ℕ → Bool) where
+  pub range-none : (a : ℕ) → Added (λ r c. anyIn (λ p. test p r c) a a) s s
+  range-none a = added-none s _ (λ r c _. anyIn-none (λ p. test p r c) a)
 
-  pub below-none : Marks s count → Added (λ r c. any (λ p. test p r c) 0) s s count
-  below-none M = added-none _ (λ r c _ _. any-none (λ p. test p r c)) M
+  pub below-none : Added (λ r c. any (λ p. test p r c) 0) s s
+  below-none = added-none s _ (λ r c _. any-none (λ p. test p r c))
 
-module _ {s s′ s″ : List ℕ} {count′ count″ : ℕ} (test : ℕ → ℕ → ℕ → Bool) (k : ℕ) where
-  pub range-more : (a : ℕ) → a ≤ k → Added (λ r c. anyIn (λ p. test p r c) a k) s s′ count′ → Added (test k) s′ s″ count″ → Added (λ r c. anyIn (λ p. test p r c) a (k + 1)) s s″ count″
-  range-more a h P Q = added-also P Q (λ r c _ _. anyIn-next (λ p. test p r c) a k h)
+module _ {s s′ s″ : List ℕ} (test : ℕ → ℕ → ℕ → Bool) (k : ℕ) where
+  pub range-more : (a : ℕ) → a ≤ k → Added (λ r c. anyIn (λ p. test p r c) a k) s s′ → Added (test k) s′ s″ → Added (λ r c. anyIn (λ p. test p r c) a (k + 1)) s s″
+  range-more a h P Q = added-also P Q (λ r c _. anyIn-next (λ p. test p r c) a k h)
 
-  pub below-more : Added (λ r c. any (λ p. test p r c) k) s s′ count′ → Added (test k) s′ s″ count″ → Added (λ r c. any (λ p. test p r c) (k + 1)) s s″ count″
-  below-more P Q = added-also P Q (λ r c _ _. any-next (λ p. test p r c) k)
+  pub below-more : Added (λ r c. any (λ p. test p r c) k) s s′ → Added (test k) s′ s″ → Added (λ r c. any (λ p. test p r c) (k + 1)) s s″
+  below-more P Q = added-also P Q (λ r c _. any-next (λ p. test p r c) k)
 
 -- the pairs of all columns are the factor's
 pub columnsSet-keptPair : (starts rows : List ℕ) (nz : ℕ → Bool) (n r c : ℕ) → c < n → columnsSet starts rows nz n r c ≡ keptPair starts rows nz r c
@@ -140,52 +139,47 @@ abbrev pub rowsSet : List ℕ → List ℕ → ℕ → ℕ → ℕ → Bool
 rowsSet rowStarts columns m r c = any (λ i. rowSet columns (start rowStarts i) (start rowStarts (i + 1)) r c) m
 
 -- what marking the columns from s to below e asks
-pub record TermsFit (columns : List ℕ) (s e : ℕ) (marks : List ℕ) (count : ℕ) : Type 0 where
+pub record TermsFit (columns : List ℕ) (s e : ℕ) (marks : List ℕ) : Type 0 where
   pub ordered : s ≤ e
   pub stored : e ≤ length columns
   pub small : (a : ℕ) → s ≤ a → a < e → getD columns a 0 ≤ maxDimension
-  pub fits : (a b : ℕ) → s ≤ a → a < e → s ≤ b → b < e → getD columns b 0 ≤ getD columns a 0 → rowPlace (getD columns a 0) (getD columns b 0) < length marks
-  pub marked : Marks marks count
+  pub fits : (a b : ℕ) → s ≤ a → a < e → s ≤ b → b < e → getD columns b 0 ≤ getD columns a 0 → HasMark marks (getD columns a 0) (getD columns b 0)
 
 -- the pair of x and y, put in order, has a mark
-pub record TermSpot (x y count : ℕ) (marks : List ℕ) : Type 0 where
+pub record TermSpot (x y : ℕ) (marks : List ℕ) : Type 0 where
   pub first-small : x ≤ maxDimension
   pub second-small : y ≤ maxDimension
-  pub below : y ≤ x → rowPlace x y < length marks
-  pub above : x ≤ y → rowPlace y x < length marks
-  pub marked : Marks marks count
+  pub below : y ≤ x → HasMark marks x y
+  pub above : x ≤ y → HasMark marks y x
 
-pub terms-spot : {columns : List ℕ} {s e : ℕ} {marks : List ℕ} {count : ℕ} → TermsFit columns s e marks count → (a b : ℕ) → s ≤ a → a < e → s ≤ b → b < e → TermSpot (getD columns a 0) (getD columns b 0) count marks
+pub terms-spot : {columns : List ℕ} {s e : ℕ} {marks : List ℕ} → TermsFit columns s e marks → (a b : ℕ) → s ≤ a → a < e → s ≤ b → b < e → TermSpot (getD columns a 0) (getD columns b 0) marks
 terms-spot F a b i j k m = record {
   first-small = F .small a i j;
   second-small = F .small b k m;
   below = λ q. F .fits a b i j k m q;
   above = λ q. F .fits b a k m i j q;
-  marked = F .marked;
 }
 
 -- a part of the columns, with the marks of a later turn
-pub terms-part : {columns : List ℕ} {s e : ℕ} {marks marks′ : List ℕ} {count count′ : ℕ} → TermsFit columns s e marks count → length marks′ ≡ length marks → Marks marks′ count′ → (k : ℕ) → s ≤ k → k ≤ e → TermsFit columns s k marks′ count′
-terms-part F l M k lo hi = record {
+pub terms-part : {columns : List ℕ} {s e : ℕ} {marks marks′ : List ℕ} → TermsFit columns s e marks → length marks′ ≡ length marks → (k : ℕ) → s ≤ k → k ≤ e → TermsFit columns s k marks′
+terms-part F l k lo hi = record {
   ordered = lo;
   stored = omega (arith, F .stored);
   small = λ a i j. F .small a i (omega arith);
   fits = λ a b i j p m q. omega (arith, F .fits a b i (omega arith) p (omega arith) q);
-  marked = M;
 }
 
 -- the columns of an operator's row have marks
-pub row-fits : {n : ℕ} {rowStarts columns : List ℕ} {weights : ℕ} → OperatorRows n rowStarts columns weights → n ≤ maxDimension → (marks : List ℕ) → length marks ≡ pairTotal n → (count : ℕ) → Marks marks count → (i : ℕ) → i < operatorRows rowStarts
-    → TermsFit columns (start rowStarts i) (start rowStarts (i + 1)) marks count
-row-fits {n} {rowStarts} {columns} O small marks e count M i h =
+pub row-fits : {n : ℕ} {rowStarts columns : List ℕ} {weights : ℕ} → OperatorRows n rowStarts columns weights → n ≤ maxDimension → (marks : List ℕ) → length marks ≡ markWords n → (i : ℕ) → i < operatorRows rowStarts
+    → TermsFit columns (start rowStarts i) (start rowStarts (i + 1)) marks
+row-fits {n} {rowStarts} {columns} O small marks e i h =
     let S = O .starts-rise in
     let end = Rattle.columns.specs.Factor.starts-end S (i + 1) (omega arith) in
     record {
       ordered = S .rising i h;
       stored = end;
       small = λ a lo hi. omega (arith, O .inside a (omega arith));
-      fits = λ a b la ha lb hb q. omega (arith, rowPlace-below (getD columns a 0) (getD columns b 0) n q (O .inside a (omega arith)));
-      marked = M;
+      fits = λ a b la ha lb hb q. pair-marked n marks e (getD columns a 0) (getD columns b 0) q (O .inside a (omega arith));
     }
 
 -- the column at p

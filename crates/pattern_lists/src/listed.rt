@@ -3,11 +3,13 @@ ghost use mathlib.Core.Path.{_≡_};
 ghost use Prim.Native.Nat.{_≤_};
 ghost use lib.ListN.{length};
 ghost use Rattle.refusal.specs.Bounds.{maxDimension};
-ghost use Rattle.pairs.specs.Pair.{pairTotal};
-ghost use Rattle.pairs.specs.Marks.{Marks, marking};
+ghost use Rattle.pairs.specs.Scratch.{markWords};
+ghost use Rattle.pairs.specs.Marks.{marking};
 ghost use Rattle.pattern_lists.specs.ListedMarks.{ListedMarks};
 use super::marks::list_pairs;
 use refusal::Refusal;
+use scratch::pair_total;
+use set_bits::count::count_bits;
 use words::clear;
 
 // How many pairs are listed, or why none is.
@@ -16,17 +18,17 @@ pub enum PatternPairs {
     Refused(Refusal),
 }
 
-// Lists the `count` marked pairs if there is room for them, and clears the marks.
+// Lists the marked pairs if there is room for them, and clears the marks.
 pub fn list_marked(
     n: usize,
-    count: usize,
     marks: &mut [u32],
     rows: &mut [u32],
     columns: &mut [u32],
 ) -> PatternPairs
-    requires { ⌜ (n ≤ maxDimension) × (length (now marks) ≡ pairTotal n) × Marks (now marks) count ⌝ }
+    requires { ⌜ (n ≤ maxDimension) × (length (now marks) ≡ markWords n) ⌝ }
     ensures { λ r. ⌜ ListedMarks n (marking (now (marks .entry))) r (now (marks .entry)) (now (rows .entry)) (now (columns .entry)) (now (marks .exit)) (now (rows .exit)) (now (columns .exit)) ⌝ }
 {
+    let count = count_bits(marks, 0, pair_total(n));
     if rows.len() < count {
         clear(marks, marks.len());
         return PatternPairs::Refused(Refusal::TooShort);

@@ -4,7 +4,7 @@ ghost use Prim.Native.Nat.{_≤_};
 ghost use mathlib.Core.List.{[]};
 ghost use lib.ListN.{length};
 ghost use Rattle.refusal.specs.Bounds.{maxDimension};
-ghost use Rattle.pairs.specs.Pair.{pairTotal};
+ghost use Rattle.pairs.specs.Scratch.{markWords};
 ghost use Rattle.columns.specs.Kept.{nonzero, keptPair};
 ghost use Rattle.columns.specs.Factor.{Factor};
 ghost use Rattle.columns.specs.Operator.{OperatorRows};
@@ -16,7 +16,7 @@ use super::listed::list_marked;
 use super::marking::mark_factor;
 use super::marking::mark_operator;
 use refusal::Refusal;
-use scratch::pair_total;
+use scratch::mark_words;
 use words::clear;
 
 // The pairs of a factor's kept entries, marked and listed.
@@ -30,13 +30,13 @@ fn list_factor(
     pair_columns: &mut [u32],
 ) -> PatternPairs
     requires { ⌜ Factor n (now starts) (now rows) (length (now values)) ⌝ }
-    requires { ⌜ (n ≤ maxDimension) × (length (now marks) ≡ pairTotal n) ⌝ }
+    requires { ⌜ (n ≤ maxDimension) × (length (now marks) ≡ markWords n) ⌝ }
     ensures { λ r. ⌜ ListedMarks n (keptPair (now (starts .entry)) (now (rows .entry)) (nonzero (now (values .entry)))) r
         (now (marks .entry)) (now («pair_rows» .entry)) (now («pair_columns» .entry)) (now (marks .exit)) (now («pair_rows» .exit)) (now («pair_columns» .exit)) ⌝ }
 {
     clear(marks, marks.len());
-    let count = mark_factor(n, starts, rows, values, marks);
-    list_marked(n, count, marks, pair_rows, pair_columns)
+    mark_factor(n, starts, rows, values, marks);
+    list_marked(n, marks, pair_rows, pair_columns)
 }
 
 // The same from an operator.
@@ -49,16 +49,16 @@ fn list_operator(
     pair_columns: &mut [u32],
 ) -> PatternPairs
     requires { ⌜ OperatorRows n (now «row_starts») (now columns) (length (now columns)) ⌝ }
-    requires { ⌜ (n ≤ maxDimension) × (length (now marks) ≡ pairTotal n) ⌝ }
+    requires { ⌜ (n ≤ maxDimension) × (length (now marks) ≡ markWords n) ⌝ }
     ensures { λ r. ⌜ ListedMarks n (operatorPair (now («row_starts» .entry)) (now (columns .entry))) r
         (now (marks .entry)) (now («pair_rows» .entry)) (now («pair_columns» .entry)) (now (marks .exit)) (now («pair_rows» .exit)) (now («pair_columns» .exit)) ⌝ }
 {
     clear(marks, marks.len());
-    let count = mark_operator(n, row_starts, columns, marks);
-    list_marked(n, count, marks, pair_rows, pair_columns)
+    mark_operator(n, row_starts, columns, marks);
+    list_marked(n, marks, pair_rows, pair_columns)
 }
 
-// A factor that passes 1, 2 and 3: 7 for the scratch, then its pairs, with the marks in the scratch's first T words.
+// A factor that passes 1, 2 and 3: 7 for the scratch, then its pairs, with the marks in the scratch's first ceil(T/32) words.
 pub fn factor_lists(
     n: usize,
     starts: &[u32],
@@ -73,8 +73,8 @@ pub fn factor_lists(
     ensures { λ r. ⌜ PatternLists [] n (keptPair (now (starts .entry)) (now (rows .entry)) (nonzero (now (values .entry)))) r
         (now (scratch .entry)) (now («pair_rows» .entry)) (now («pair_columns» .entry)) (now (scratch .exit)) (now («pair_rows» .exit)) (now («pair_columns» .exit)) ⌝ }
 {
-    let total = pair_total(n);
-    if scratch.len() < total {
+    let words = mark_words(n);
+    if scratch.len() < words {
         return PatternPairs::Refused(Refusal::TooShort);
     }
     list_factor(
@@ -82,7 +82,7 @@ pub fn factor_lists(
         starts,
         rows,
         values,
-        &mut scratch[0..total],
+        &mut scratch[0..words],
         pair_rows,
         pair_columns,
     )
@@ -102,15 +102,15 @@ pub fn operator_lists(
     ensures { λ r. ⌜ PatternLists [] n (operatorPair (now («row_starts» .entry)) (now (columns .entry))) r
         (now (scratch .entry)) (now («pair_rows» .entry)) (now («pair_columns» .entry)) (now (scratch .exit)) (now («pair_rows» .exit)) (now («pair_columns» .exit)) ⌝ }
 {
-    let total = pair_total(n);
-    if scratch.len() < total {
+    let words = mark_words(n);
+    if scratch.len() < words {
         return PatternPairs::Refused(Refusal::TooShort);
     }
     list_operator(
         n,
         row_starts,
         columns,
-        &mut scratch[0..total],
+        &mut scratch[0..words],
         pair_rows,
         pair_columns,
     )

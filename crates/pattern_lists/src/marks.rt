@@ -1,13 +1,16 @@
-// Marks of pairs, row by row: a pair is marked, and the marked pairs are listed ascending by row then column.
+// Marks of pairs, one bit for each, row by row: a pair is marked, and the marked pairs are listed ascending by row then column.
 ghost use mathlib.Core.Path.{_≡_};
-ghost use Prim.Native.Nat.{ℕ, _+_, _<_, _≤_};
-ghost use lib.Dec.{eqb};
-ghost use lib.ListN.{length, getD};
+ghost use Prim.Native.Nat.{_-_, _≤_};
+ghost use lib.ListN.{length};
+ghost use Rattle.lists.specs.Tabulate.{tabulate};
+ghost use Rattle.lists.specs.Overwrite.{splice};
 ghost use Rattle.refusal.specs.Bounds.{maxDimension};
 ghost use Rattle.pairs.specs.Pair.{rowPlace};
-ghost use Rattle.pairs.specs.Marks.{Added, MarkPairInput, single, countWith, wordsWith};
-ghost use Rattle.pattern_lists.specs.Listing.{PairRoom, PairListed, RowRoom, RowListed, PairsRoom, PairsListed};
+ghost use Rattle.pairs.specs.Marks.{Added, MarkPairInput, single};
+ghost use Rattle.pattern_lists.specs.Listing.{RowRoom, RowListed, PairsRoom, PairsListed};
 use scratch::pair_total;
+use set_bits::list_bits;
+use words::bit_words::set_bit;
 
 // The place of (r, c).
 fn row_place(r: usize, c: usize) -> usize
@@ -17,60 +20,34 @@ fn row_place(r: usize, c: usize) -> usize
     pair_total(r) + c
 }
 
-// Sets the word at p to 1; returns the count, one more where the word was 0.
-fn set_mark(p: usize, count: usize, marks: &mut [u32]) -> usize
-    requires { ⌜ (p < length (now marks)) × (count ≤ length (now marks)) ⌝ }
-    ensures { λ r. ⌜ (r ≡ countWith (getD (now (marks .entry)) p 0) count) × (now (marks .exit) ≡ wordsWith (getD (now (marks .entry)) p 0) (now (marks .entry)) p) ⌝ }
+// Marks the pair (r, c).
+pub fn mark_pair(r: usize, c: usize, marks: &mut [u32])
+    requires { ⌜ MarkPairInput r c (now marks) ⌝ }
+    ensures { λ _. ⌜ Added (single r c) (now (marks .entry)) (now (marks .exit)) ⌝ }
 {
-    if marks[p] != 0 {
-        return count;
-    }
-    marks[p] = 1;
-    count + 1
+    set_bit(marks, row_place(r, c));
 }
 
-// Marks the pair (r, c); returns how many pairs are marked.
-pub fn mark_pair(r: usize, c: usize, count: usize, marks: &mut [u32]) -> usize
-    requires { ⌜ MarkPairInput r c count (now marks) ⌝ }
-    ensures { λ m. ⌜ Added (single r c) (now (marks .entry)) (now (marks .exit)) m ⌝ }
+// Writes r at the places from s to below e.
+fn repeat_row(r: usize, s: usize, e: usize, rows: &mut [u32])
+    requires { ⌜ (r ≤ maxDimension) × (s ≤ e) × (e ≤ length (now rows)) ⌝ }
+    ensures { λ _. ⌜ now (rows .exit) ≡ splice s (tabulate (λ _. r) (e - s)) (now (rows .entry)) ⌝ }
 {
-    set_mark(row_place(r, c), count, marks)
-}
-
-// Lists the pair (r, c), whose mark is at p, behind `count` pairs if it is marked; returns how many are listed.
-fn list_pair(
-    r: usize,
-    c: usize,
-    p: usize,
-    count: usize,
-    marks: &[u32],
-    rows: &mut [u32],
-    columns: &mut [u32],
-) -> usize
-    requires { ⌜ PairRoom r c p count (now marks) (now rows) (now columns) ⌝ }
-    ensures { λ m. ⌜ PairListed (eqb (getD (now (marks .entry)) p 0) 1) r c count (now (rows .entry)) (now (columns .entry)) (now (rows .exit)) (now (columns .exit)) m ⌝ }
-{
-    if marks[p] != 1 {
-        return count;
+    let row = r as u32;
+    let mut k = s;
+    while k < e {
+        rows[k] = row;
+        k += 1;
     }
-    rows[count] = r as u32;
-    columns[count] = c as u32;
-    count + 1
 }
 
 // Lists the marked pairs of row r behind `first` pairs; returns how many are listed.
 fn list_row(r: usize, first: usize, marks: &[u32], rows: &mut [u32], columns: &mut [u32]) -> usize
     requires { ⌜ RowRoom (now marks) r first (now rows) (now columns) ⌝ }
-    ensures { λ m. ⌜ RowListed (now (marks .entry)) r (r + 1) first (now (rows .entry)) (now (columns .entry)) (now (rows .exit)) (now (columns .exit)) m ⌝ }
+    ensures { λ m. ⌜ RowListed (now (marks .entry)) r first (now (rows .entry)) (now (columns .entry)) (now (rows .exit)) (now (columns .exit)) m ⌝ }
 {
-    let mut count = first;
-    let mut p = pair_total(r);
-    let mut c = 0;
-    while c <= r {
-        count = list_pair(r, c, p, count, marks, rows, columns);
-        p += 1;
-        c += 1;
-    }
+    let count = list_bits(r + 1, pair_total(r), 0, first, columns, marks);
+    repeat_row(r, first, count, rows);
     count
 }
 

@@ -4,19 +4,30 @@ use mathlib.Core.Path.{_≡_, refl, sym, ap, _∙_}
 use lib.ListN.{length}
 use denote.Ref.{now}
 use borrow.Author.Needs.{needs}
-use Rattle.lists.specs.Overwrite.{cleared}
+use Rattle.lists.specs.Select.{tally}
+use Rattle.bits.specs.Bits.{bitAt, bitWords}
+use Rattle.pairs.specs.Pair.{pairCount}
 use Rattle.pairs.specs.Marks.{marking, marks-count}
-use Rattle.pattern_lists.specs.Listing.{PairsRoom}
 use Rattle.pattern_lists.proofs.ListedPairs.{rows-short, columns-short, listed-all}
 use Rattle.pattern_lists.proofs.listed.list_marked.Statement.{statement}
 use Rattle.pattern_lists.proofs.listed.list_marked.Tie as tie
 
-abbrev start : tie.After-slice-known3 → tie.Start
-start q = q .before .before .before
+abbrev start : tie.After-count-bits → tie.Start
+start q = q .before .before .before .before .before .before
 
 -- the count is the number of marked pairs
-counted : (s : tie.Start) → s .args .count ≡ Rattle.pairs.specs.Pair.pairCount (s .args .n) (marking (now (s .args .marks)))
-counted s = marks-count (s .args .n) (now (s .args .marks)) (s .pre .1) (s .pre .2)
+counted : (c : tie.After-count-bits) → c .count-bits .result ≡ pairCount (start c .args .n) (marking (now (start c .args .marks)))
+counted c =
+    let a = start c .args in
+    c .count-bits .ensures ∙ ap (tally (bitAt (now (a .marks))) 0) (c .before .pair-total .ensures .0) ∙ marks-count (a .n) (now (a .marks))
+
+pair-total-requires : tie.Need-pair-total-requires
+pair-total-requires c κs = search needs
+
+count-bits-requires : tie.Need-count-bits-requires
+count-bits-requires c κs =
+    let t = c .pair-total .ensures in
+    (omega arith, omega (arith, t .1), omega (arith, ap bitWords (t .0), c .before .before .before .before .before .pre .1))
 
 clear-requires : tie.Need-clear-requires
 clear-requires c κs = search needs
@@ -29,7 +40,7 @@ returns c =
     let v = c .before .before in
     let t = v .before .before in
     let s = start (t .before) in
-    rows-short (s .args .n) _ (now (s .args .marks)) (now (s .args .rows)) (now (s .args .columns)) (s .args .count) (counted s) (v .clear .ensures) (t .if1 .taken)
+    rows-short (s .args .n) _ (now (s .args .marks)) (now (s .args .rows)) (now (s .args .columns)) _ (counted (t .before)) (v .clear .ensures) (t .if1 .taken)
 
 clear-requires-2 : tie.Need-clear-requires-2
 clear-requires-2 c κs = search needs
@@ -42,13 +53,13 @@ returns-2 c =
     let v = c .before .before in
     let t = v .before .before in
     let s = start (t .before .before) in
-    columns-short (s .args .n) _ (now (s .args .marks)) (now (s .args .rows)) (now (s .args .columns)) (s .args .count) (counted s) (v .clear2 .ensures) (t .before .if1 .left) (t .if2 .taken)
+    columns-short (s .args .n) _ (now (s .args .marks)) (now (s .args .rows)) (now (s .args .columns)) _ (counted (t .before .before)) (v .clear2 .ensures) (t .before .if1 .left) (t .if2 .taken)
 
 list-pairs-requires : tie.Need-list-pairs-requires
 list-pairs-requires c κs =
     let t = c .before .before .before in
     let s = start (t .before .before) in
-    record { small = s .pre .0; all = s .pre .1; rows-fit = omega (arith, counted s, t .before .if1 .left); columns-fit = omega (arith, counted s, t .if2 .left) }
+    record { small = s .pre .0; all = s .pre .1; rows-fit = omega (arith, counted (t .before .before), t .before .if1 .left); columns-fit = omega (arith, counted (t .before .before), t .if2 .left) }
 
 clear-requires-3 : tie.Need-clear-requires-3
 clear-requires-3 c κs = search needs
@@ -69,12 +80,14 @@ returns-3 c =
     let t = p .before .before .before .before in
     let s = start (t .before .before) in
     let L = p .list-pairs .ensures in
-    listed-all (s .args .n) _ (now (s .args .marks)) (now (s .args .rows)) (now (s .args .columns)) (s .args .count) (counted s) (v .clear3 .ensures) (t .before .if1 .left) (t .if2 .left) (L .count-is) (L .rows-is) (L .columns-is)
+    listed-all (s .args .n) _ (now (s .args .marks)) (now (s .args .rows)) (now (s .args .columns)) _ (counted (t .before .before)) (v .clear3 .ensures) (t .before .if1 .left) (t .if2 .left) (L .count-is) (L .rows-is) (L .columns-is)
 
 pub list-marked-spec : {M : Type 1} → statement M
 list-marked-spec =
     tie.close
     (tie.spec
+    pair-total-requires
+    count-bits-requires
     clear-requires
     same-length
     returns

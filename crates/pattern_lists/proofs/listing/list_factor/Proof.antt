@@ -4,10 +4,9 @@ use lib.ListN.{length}
 use denote.Ref.{now}
 use borrow.Author.Needs.{needs}
 use Rattle.lists.specs.Overwrite.{filled-length}
-use Rattle.pairs.specs.Marks.{marks-none}
 use Rattle.columns.specs.Kept.{nonzero}
 use Rattle.pattern_lists.specs.PatternMarks.{columnsSet-keptPair}
-use Rattle.pattern_lists.proofs.PatternLists.{cleared-zero, listed-set}
+use Rattle.pattern_lists.proofs.PatternLists.{listed-set}
 use Rattle.pattern_lists.proofs.listing.list_factor.Statement.{statement}
 use Rattle.pattern_lists.proofs.listing.list_factor.Tie as tie
 
@@ -25,14 +24,14 @@ mark-factor-requires : tie.Need-mark-factor-requires
 mark-factor-requires c κs =
     let d = c .before .before .before in
     let s = start d in
-    (s .pre .0, (s .pre .1 .0, long d ∙ s .pre .1 .1, marks-none _ (cleared-zero (now (s .args .marks)) _ (d .clear .ensures))))
+    (s .pre .0, (s .pre .1 .0, long d ∙ s .pre .1 .1))
 
 list-marked-requires : tie.Need-list-marked-requires
 list-marked-requires c κs =
     let m = c .before .before .before .before .before in
     let d = m .before .before .before .before in
     let s = start d in
-    (s .pre .1 .0, m .mark-factor .ensures .long ∙ long d ∙ s .pre .1 .1, m .mark-factor .ensures .marks)
+    (s .pre .1 .0, m .mark-factor .ensures .long ∙ long d ∙ s .pre .1 .1)
 
 same-length : tie.Need-same-length
 same-length c = search needs

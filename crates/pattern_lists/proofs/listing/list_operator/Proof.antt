@@ -4,9 +4,8 @@ use lib.ListN.{length}
 use denote.Ref.{now}
 use borrow.Author.Needs.{needs}
 use Rattle.lists.specs.Overwrite.{filled-length}
-use Rattle.pairs.specs.Marks.{marks-none}
 use Rattle.pattern_lists.specs.PatternMarks.{rowsSet-operatorPair}
-use Rattle.pattern_lists.proofs.PatternLists.{cleared-zero, listed-set}
+use Rattle.pattern_lists.proofs.PatternLists.{listed-set}
 use Rattle.pattern_lists.proofs.listing.list_operator.Statement.{statement}
 use Rattle.pattern_lists.proofs.listing.list_operator.Tie as tie
 
@@ -24,14 +23,14 @@ mark-operator-requires : tie.Need-mark-operator-requires
 mark-operator-requires c κs =
     let d = c .before .before .before in
     let s = start d in
-    (s .pre .0, (s .pre .1 .0, long d ∙ s .pre .1 .1, marks-none _ (cleared-zero (now (s .args .marks)) _ (d .clear .ensures))))
+    (s .pre .0, (s .pre .1 .0, long d ∙ s .pre .1 .1))
 
 list-marked-requires : tie.Need-list-marked-requires
 list-marked-requires c κs =
     let m = c .before .before .before .before .before in
     let d = m .before .before .before .before in
     let s = start d in
-    (s .pre .1 .0, m .mark-operator .ensures .long ∙ long d ∙ s .pre .1 .1, m .mark-operator .ensures .marks)
+    (s .pre .1 .0, m .mark-operator .ensures .long ∙ long d ∙ s .pre .1 .1)
 
 same-length : tie.Need-same-length
 same-length c = search needs

@@ -5,8 +5,7 @@ use mathlib.Core.List.{List}
 use lib.ListN.{length, getD}
 use denote.Ref.{now}
 use borrow.Author.Needs.{needs}
-use Rattle.pairs.specs.Pair.{rowPlace}
-use Rattle.pairs.specs.Marks.{Added, single}
+use Rattle.pairs.specs.Marks.{Added, HasMark, single}
 use Rattle.columns.specs.Columns.{row}
 use Rattle.columns.specs.Kept.{nonzero}
 use Rattle.pattern_lists.specs.PatternMarks.{dropped-above, dropped-zero, kept-entry, entry-dropped, entry-kept}
@@ -23,8 +22,8 @@ returns : tie.Need-returns
 returns c =
     let s = start (c .before) in
     let a = s .args in
-    entry-dropped (now (a .rows)) (nonzero (now (a .values))) (a .c) (a .p)
-    (dropped-above (now (a .rows)) (nonzero (now (a .values))) (a .c) (a .p) (omega (arith, c .if1 .taken, c .before .at .ensures))) (s .pre .1 .1)
+    entry-dropped (now (a .rows)) (nonzero (now (a .values))) (a .c) (a .p) (now (a .marks))
+    (dropped-above (now (a .rows)) (nonzero (now (a .values))) (a .c) (a .p) (omega (arith, c .if1 .taken, c .before .at .ensures)))
 
 mul-if2 : tie.Need-mul-if2
 mul-if2 c = search needs
@@ -38,12 +37,11 @@ mark-pair-requires c κs =
     let s = start (e .before) in
     let a = s .args in
     let q = e .before .at .ensures in
-    let F = s .pre .1 .0 in
+    let F = s .pre .1 in
     record {
       ordered = e .if1 .left;
       small = omega (arith, q, F .0);
-      inside = subst (λ (r : ℕ). Prim.Native.Nat._<_ (rowPlace r (a .c)) (length (now (a .marks)))) (sym q) (F .1 (omega (arith, e .if1 .left)));
-      marks = s .pre .1 .1;
+      inside = subst (λ (r : ℕ). HasMark (now (a .marks)) r (a .c)) (sym q) (F .1 (omega (arith, e .if1 .left)));
     }
 
 same-length : tie.Need-same-length
@@ -58,14 +56,14 @@ returns-2 c =
     let a = s .args in
     entry-kept (now (a .rows)) (nonzero (now (a .values))) (a .c) (a .p)
     (kept-entry (now (a .rows)) (nonzero (now (a .values))) (a .c) (a .p) (omega (arith, e .if1 .left, e .before .at .ensures)) (t .if2 .taken))
-    (subst (λ (r : ℕ). Added (single r (a .c)) (now (a .marks)) (v .mark-pair .last .1 .1 .1 .0) (v .mark-pair .result)) (e .before .at .ensures) (v .mark-pair .ensures))
+    (subst (λ (r : ℕ). Added (single r (a .c)) (now (a .marks)) (v .mark-pair .last .1 .1 .0)) (e .before .at .ensures) (v .mark-pair .ensures))
 
 returns-3 : tie.Need-returns-3
 returns-3 c =
     let s = start (c .before .before .before) in
     let a = s .args in
-    entry-dropped (now (a .rows)) (nonzero (now (a .values))) (a .c) (a .p)
-    (dropped-zero (now (a .rows)) (nonzero (now (a .values))) (a .c) (a .p) (c .if2 .left)) (s .pre .1 .1)
+    entry-dropped (now (a .rows)) (nonzero (now (a .values))) (a .c) (a .p) (now (a .marks))
+    (dropped-zero (now (a .rows)) (nonzero (now (a .values))) (a .c) (a .p) (c .if2 .left))
 
 pub mark-entry-spec : {M : Type 1} → statement M
 mark-entry-spec =

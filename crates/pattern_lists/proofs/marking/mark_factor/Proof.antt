@@ -12,11 +12,11 @@ use Rattle.pattern_lists.proofs.marking.mark_factor.Statement.{statemen
 use Rattle.pattern_lists.proofs.marking.mark_factor.Tie as tie
 
 abbrev Inv-loop : tie.InvT-loop
-Inv-loop n starts rows values marks₀ count₀ c₀ marks count c =
-    (length marks ≡ length marks₀) × (c ≤ n) × Added (columnsSet starts rows (nonzero values) c) marks₀ marks count
+Inv-loop n starts rows values marks₀ c₀ marks c =
+    (length marks ≡ length marks₀) × (c ≤ n) × Added (columnsSet starts rows (nonzero values) c) marks₀ marks
 
 abbrev μ-loop : tie.MeasureT-loop
-μ-loop n starts rows values marks₀ count₀ c₀ marks count c = n - c
+μ-loop n starts rows values marks₀ c₀ marks c = n - c
 
 abbrev start : tie.At-loop Inv-loop μ-loop → tie.Start Inv-loop μ-loop
 start q = q .before .before .before .before .before
@@ -25,7 +25,7 @@ loop-holds : tie.Need-loop-holds Inv-loop μ-loop
 loop-holds c =
     let s = c .before .before .before .before in
     let a = s .args in
-    (refl, omega arith, below-none (λ c. columnSet (now (a .rows)) (nonzero (now (a .values))) c (columns.start (now (a .starts)) c) (columns.start (now (a .starts)) (c + 1))) (s .pre .1 .2))
+    (refl, omega arith, below-none (now (a .marks)) (λ c. columnSet (now (a .rows)) (nonzero (now (a .values))) c (columns.start (now (a .starts)) c) (columns.start (now (a .starts)) (c + 1))))
 
 at-requires : tie.Need-at-requires Inv-loop μ-loop
 at-requires c κs = omega (arith, c .loop-test .taken, start (c .before) .pre .0 .starts-rise .columns)
@@ -42,8 +42,8 @@ mark-column-requires c κs =
     let t = d .before .before in
     let l = t .before .loop in
     let s = start (t .before) in
-    subst₂ (λ (x y : ℕ). ColumnFits (l .c) (now (s .args .rows)) (length (now (s .args .values))) x y (l .marks) (l .count)) (sym (d .before .at .ensures)) (sym (d .at2 .ensures))
-    (column-fits (s .pre .0) (s .pre .1 .0) (l .marks) (l .inv .0 ∙ s .pre .1 .1) (l .count) (l .inv .2 .marks) (l .c) (t .loop-test .taken))
+    subst₂ (λ (x y : ℕ). ColumnFits (l .c) (now (s .args .rows)) (length (now (s .args .values))) x y (l .marks)) (sym (d .before .at .ensures)) (sym (d .at2 .ensures))
+    (column-fits (s .pre .0) (s .pre .1 .0) (l .marks) (l .inv .0 ∙ s .pre .1 .1) (l .c) (t .loop-test .taken))
 
 add-c : tie.Need-add-c Inv-loop μ-loop
 add-c c =
@@ -62,8 +62,8 @@ loop-again c =
     let t = d .before .before in
     let l = t .before .loop in
     let a = start (t .before) .args in
-    let step = subst₂ (λ (x y : ℕ). Added (columnSet (now (a .rows)) (nonzero (now (a .values))) (l .c) x y) (l .marks) (v .mark-column .last .1 .1 .1 .1 .1 .1 .0) (v .mark-column .result)) (d .before .at .ensures) (d .at2 .ensures) (v .mark-column .ensures) in (
-      v .mark-column .kept .1 .1 .1 .1 .1 .1 .0 ∙ l .inv .0,
+    let step = subst₂ (λ (x y : ℕ). Added (columnSet (now (a .rows)) (nonzero (now (a .values))) (l .c) x y) (l .marks) (v .mark-column .last .1 .1 .1 .1 .1 .0)) (d .before .at .ensures) (d .at2 .ensures) (v .mark-column .ensures) in (
+      v .mark-column .kept .1 .1 .1 .1 .1 .0 ∙ l .inv .0,
       omega (arith, t .loop-test .taken),
       below-more (λ c. columnSet (now (a .rows)) (nonzero (now (a .values))) c (columns.start (now (a .starts)) c) (columns.start (now (a .starts)) (c + 1))) (l .c) (l .inv .2) step,
     )
@@ -76,7 +76,7 @@ returns c =
     let l = c .before .loop in
     let a = start (c .before) .args in
     let e : l .c ≡ a .n = omega (arith, c .loop-test .left, l .inv .1) in
-    subst (λ (k : ℕ). Added (columnsSet (now (a .starts)) (now (a .rows)) (nonzero (now (a .values))) k) (now (a .marks)) (l .marks) (l .count)) e (l .inv .2)
+    subst (λ (k : ℕ). Added (columnsSet (now (a .starts)) (now (a .rows)) (nonzero (now (a .values))) k) (now (a .marks)) (l .marks)) e (l .inv .2)
 
 pub mark-factor-spec : {M : Type 1} → statement M
 mark-factor-spec =

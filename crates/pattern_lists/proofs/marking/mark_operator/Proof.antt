@@ -12,11 +12,11 @@ use Rattle.pattern_lists.proofs.marking.mark_operator.Statement.{statem
 use Rattle.pattern_lists.proofs.marking.mark_operator.Tie as tie
 
 abbrev Inv-loop : tie.InvT-loop
-Inv-loop n row-starts columns marks₀ last count₀ i₀ marks count i =
-    (length marks ≡ length marks₀) × (i ≤ operatorRows row-starts) × Added (rowsSet row-starts columns i) marks₀ marks count
+Inv-loop n row-starts columns marks₀ last i₀ marks i =
+    (length marks ≡ length marks₀) × (i ≤ operatorRows row-starts) × Added (rowsSet row-starts columns i) marks₀ marks
 
 abbrev μ-loop : tie.MeasureT-loop
-μ-loop n row-starts columns marks₀ last count₀ i₀ marks count i = operatorRows row-starts - i
+μ-loop n row-starts columns marks₀ last i₀ marks i = operatorRows row-starts - i
 
 abbrev start : tie.At-loop Inv-loop μ-loop → tie.Start Inv-loop μ-loop
 start q = q .before .before .before .before .before
@@ -32,7 +32,7 @@ loop-holds : tie.Need-loop-holds Inv-loop μ-loop
 loop-holds c =
     let s = c .before .before .before .before in
     let a = s .args in
-    (refl, omega arith, below-none (λ i. rowSet (now (a .columns)) (columns.start (now (a .row-starts)) i) (columns.start (now (a .row-starts)) (i + 1))) (s .pre .1 .2))
+    (refl, omega arith, below-none (now (a .marks)) (λ i. rowSet (now (a .columns)) (columns.start (now (a .row-starts)) i) (columns.start (now (a .row-starts)) (i + 1))))
 
 at-requires : tie.Need-at-requires Inv-loop μ-loop
 at-requires c κs = omega (arith, row c)
@@ -49,8 +49,8 @@ mark-row-requires c κs =
     let t = d .before .before in
     let l = t .before .loop in
     let s = start (t .before) in
-    subst₂ (λ (x y : ℕ). TermsFit (now (s .args .columns)) x y (l .marks) (l .count)) (sym (d .before .at .ensures)) (sym (d .at2 .ensures))
-    (row-fits (s .pre .0) (s .pre .1 .0) (l .marks) (l .inv .0 ∙ s .pre .1 .1) (l .count) (l .inv .2 .marks) (l .i) (row t))
+    subst₂ (λ (x y : ℕ). TermsFit (now (s .args .columns)) x y (l .marks)) (sym (d .before .at .ensures)) (sym (d .at2 .ensures))
+    (row-fits (s .pre .0) (s .pre .1 .0) (l .marks) (l .inv .0 ∙ s .pre .1 .1) (l .i) (row t))
 
 add-i : tie.Need-add-i Inv-loop μ-loop
 add-i c = omega (arith, row (c .before .before .before .before .before .before))
@@ -65,8 +65,8 @@ loop-again c =
     let t = d .before .before in
     let l = t .before .loop in
     let a = start (t .before) .args in
-    let step = subst₂ (λ (x y : ℕ). Added (rowSet (now (a .columns)) x y) (l .marks) (v .mark-row .last .1 .1 .1 .1 .0) (v .mark-row .result)) (d .before .at .ensures) (d .at2 .ensures) (v .mark-row .ensures) in (
-      v .mark-row .kept .1 .1 .1 .1 .0 ∙ l .inv .0,
+    let step = subst₂ (λ (x y : ℕ). Added (rowSet (now (a .columns)) x y) (l .marks) (v .mark-row .last .1 .1 .1 .0)) (d .before .at .ensures) (d .at2 .ensures) (v .mark-row .ensures) in (
+      v .mark-row .kept .1 .1 .1 .0 ∙ l .inv .0,
       omega (arith, row t),
       below-more (λ i. rowSet (now (a .columns)) (columns.start (now (a .row-starts)) i) (columns.start (now (a .row-starts)) (i + 1))) (l .i) (l .inv .2) step,
     )
@@ -79,7 +79,7 @@ returns c =
     let l = c .before .loop in
     let a = start (c .before) .args in
     let e : l .i ≡ operatorRows (now (a .row-starts)) = omega (arith, c .loop-test .left, l .inv .1, c .before .before .operator-rows .ensures) in
-    subst (λ (k : ℕ). Added (rowsSet (now (a .row-starts)) (now (a .columns)) k) (now (a .marks)) (l .marks) (l .count)) e (l .inv .2)
+    subst (λ (k : ℕ). Added (rowsSet (now (a .row-starts)) (now (a .columns)) k) (now (a .marks)) (l .marks)) e (l .inv .2)
 
 pub mark-operator-spec : {M : Type 1} → statement M
 mark-operator-spec =

@@ -10,11 +10,11 @@ use Rattle.pattern_lists.proofs.marking.mark_row.Statement.{statement}
 use Rattle.pattern_lists.proofs.marking.mark_row.Tie as tie
 
 abbrev Inv-loop : tie.InvT-loop
-Inv-loop columns s e first marks₀ count₀ a₀ marks count a =
-    (length marks ≡ length marks₀) × (s ≤ a) × (a ≤ e) × Added (rowSet columns s a) marks₀ marks count
+Inv-loop columns s e marks₀ a₀ marks a =
+    (length marks ≡ length marks₀) × (s ≤ a) × (a ≤ e) × Added (rowSet columns s a) marks₀ marks
 
 abbrev μ-loop : tie.MeasureT-loop
-μ-loop columns s e first marks₀ count₀ a₀ marks count a = e - a
+μ-loop columns s e marks₀ a₀ marks a = e - a
 
 abbrev start : tie.At-loop Inv-loop μ-loop → tie.Start Inv-loop μ-loop
 start q = q .before .before .before
@@ -22,14 +22,14 @@ start q = q .before .before .before
 loop-holds : tie.Need-loop-holds Inv-loop μ-loop
 loop-holds c =
     let s = c .before .before in
-    (refl, omega arith, s .pre .ordered, range-none (termsSet (now (s .args .columns)) (s .args .s)) (s .args .s) (s .pre .marked))
+    (refl, omega arith, s .pre .ordered, range-none (now (s .args .marks)) (termsSet (now (s .args .columns)) (s .args .s)) (s .args .s))
 
 mark-terms-requires : tie.Need-mark-terms-requires Inv-loop μ-loop
 mark-terms-requires c κs =
     let t = c .before in
     let l = t .before .loop in
     let s = start (t .before) in
-    terms-part (s .pre) (l .inv .0) (l .inv .3 .marks) (l .a + 1) (omega (arith, l .inv .1)) (omega (arith, t .loop-test .taken))
+    terms-part (s .pre) (l .inv .0) (l .a + 1) (omega (arith, l .inv .1)) (omega (arith, t .loop-test .taken))
 
 add-a : tie.Need-add-a Inv-loop μ-loop
 add-a c =
@@ -47,7 +47,7 @@ loop-again c =
     let t = v .before .before in
     let l = t .before .loop in
     let a = start (t .before) .args in (
-      v .mark-terms .kept .1 .1 .1 .1 .0 ∙ l .inv .0,
+      v .mark-terms .kept .1 .1 .1 .0 ∙ l .inv .0,
       omega (arith, l .inv .1),
       omega (arith, t .loop-test .taken),
       range-more (termsSet (now (a .columns)) (a .s)) (l .a) (a .s) (l .inv .1) (l .inv .3) (v .mark-terms .ensures),
@@ -61,7 +61,7 @@ returns c =
     let l = c .before .loop in
     let a = start (c .before) .args in
     let e : l .a ≡ a .e = omega (arith, c .loop-test .left, l .inv .2) in
-    subst (λ (k : ℕ). Added (rowSet (now (a .columns)) (a .s) k) (now (a .marks)) (l .marks) (l .count)) e (l .inv .3)
+    subst (λ (k : ℕ). Added (rowSet (now (a .columns)) (a .s) k) (now (a .marks)) (l .marks)) e (l .inv .3)
 
 pub mark-row-spec : {M : Type 1} → statement M
 mark-row-spec =

@@ -1,102 +1,66 @@
 use Prim.Native.Nat.{ℕ, _≤_, _<_, _-_, _+_}
 use native.Mathlib.Omega.{arith}
 use mathlib.Core.Path.{_≡_, refl, sym, ap, subst, _∙_}
-use mathlib.Core.List.{List}
-use mathlib.Core.Bool.{Bool}
-use lib.Dec.{eqb}
-use lib.ListN.{length, getD}
+use lib.ListN.{length}
 use denote.Ref.{now}
 use borrow.Author.Needs.{needs}
-use Rattle.lists.specs.Select.{tally, tally-mono}
-use Rattle.pairs.specs.Pair.{pairTotal, rowPlace}
-use Rattle.pairs.specs.Marks.{marking}
-use Rattle.pattern_lists.specs.Listing.{PairRoom, PairListed, RowRoom, RowListed, row-none, row-more, row-room}
+use Rattle.pairs.specs.Pair.{pairTotal}
+use Rattle.set_bits.specs.Listed.{NumbersListed}
+use Rattle.set_bits.specs.BitsListed.{bitsTest, ListInput}
+use Rattle.pattern_lists.specs.Listing.{row-room, row-count, row-listed}
 use Rattle.pattern_lists.proofs.marks.list_row.Statement.{statement}
 use Rattle.pattern_lists.proofs.marks.list_row.Tie as tie
 
-abbrev Inv-loop : tie.InvT-loop
-Inv-loop r first marks rows₀ columns₀ count₀ p₀ c₀ rows columns count p c =
-    (length rows ≡ length rows₀) × (length columns ≡ length columns₀) × (c ≤ r + 1) × (p ≡ rowPlace r c) × RowListed marks r c first rows₀ columns₀ rows columns count
+abbrev start : tie.After-list-bits → tie.Start
+start q = q .before .before .before .before .before .before
 
-abbrev μ-loop : tie.MeasureT-loop
-μ-loop r first marks rows₀ columns₀ count₀ p₀ c₀ rows columns count p c = r + 1 - c
+-- the row's columns
+columns : (c : tie.After-list-bits) → NumbersListed (bitsTest (now (start c .args .marks)) (pairTotal (start c .args .r)) 0) 0 (start c .args .r + 1) (start c .args .first) (now (start c .args .columns)) (c .list-bits .last .1 .1 .1 .1 .0) (c .list-bits .result)
+columns c =
+    let a = start c .args in
+    subst (λ (p : ℕ). NumbersListed (bitsTest (now (a .marks)) p 0) 0 (a .r + 1) (a .first) (now (a .columns)) (c .list-bits .last .1 .1 .1 .1 .0) (c .list-bits .result)) (c .before .before .pair-total .ensures .0) (c .list-bits .ensures)
 
-abbrev start : tie.At-loop Inv-loop μ-loop → tie.Start Inv-loop μ-loop
-start q = q .before .before .before .before .before
+add-list-bits : tie.Need-add-list-bits
+add-list-bits c = omega (arith, c .before .before .before .pre .small)
 
-room : (c : tie.In-loop Inv-loop μ-loop) → PairRoom (start (c .before) .args .r) (c .before .loop .c) (c .before .loop .p) (c .before .loop .count) (now (start (c .before) .args .marks)) (c .before .loop .rows) (c .before .loop .columns)
-room c =
-    let l = c .before .loop in
-    row-room (start (c .before) .pre) (omega (arith, c .loop-test .taken)) (l .inv .4) (l .inv .0) (l .inv .1) (l .p) (l .inv .3)
+pair-total-requires : tie.Need-pair-total-requires
+pair-total-requires c κs = omega (arith, c .before .before .before .pre .small)
 
-pair-total-requires : tie.Need-pair-total-requires Inv-loop μ-loop
-pair-total-requires c κs = search needs
+list-bits-requires : tie.Need-list-bits-requires
+list-bits-requires c κs =
+    let t = c .before in
+    let s = t .before .before .before .before in
+    let a = s .args in
+    subst (λ (p : ℕ). ListInput (a .r + 1) p 0 (a .first) (now (a .columns)) (now (a .marks))) (sym (t .pair-total .ensures .0)) (row-room (s .pre))
 
-loop-holds : tie.Need-loop-holds Inv-loop μ-loop
-loop-holds c = (refl, refl, omega arith, omega (arith, c .pair-total .ensures .0), row-none _ _ _ _ _)
+repeat-row-requires : tie.Need-repeat-row-requires
+repeat-row-requires c κs =
+    let v = c .before .before .before in
+    let s = start v in
+    let P = s .pre in
+    let m = row-count (now (s .args .marks)) (s .args .r) (columns v) in
+    (omega (arith, P .small), omega arith, omega (arith, P .rows-fit))
 
-list-pair-requires : tie.Need-list-pair-requires Inv-loop μ-loop
-list-pair-requires c κs = room (c .before .before)
-
-add-p : tie.Need-add-p Inv-loop μ-loop
-add-p c =
-    let t = c .before .before .before .before .before .before .before in
-    omega (arith, room t .inside)
-
-add-c : tie.Need-add-c Inv-loop μ-loop
-add-c c =
-    let t = c .before .before .before .before .before .before .before in
-    omega (arith, t .loop-test .taken, start (t .before) .pre .small)
-
-loop-less : tie.Need-loop-less Inv-loop μ-loop
-loop-less c =
-    let t = c .before .before .before .before .before .before .before in
-    omega (arith, t .loop-test .taken)
-
-loop-again : tie.Need-loop-again Inv-loop μ-loop
-loop-again c =
-    let v = c .before .before .before .before in
-    let t = v .before .before .before in
-    let l = t .before .loop in
-    let s = start (t .before) in
-    let r = s .args .r in
-    let ms = now (s .args .marks) in
-    let mono = tally-mono (marking ms r) 0 (l .c + 1) (r + 1) (omega arith) (omega (arith, t .loop-test .taken)) in
-    let P : PairListed (marking ms r (l .c)) r (l .c) (l .count) (l .rows) (l .columns) (v .list-pair .last .1 .1 .1 .1 .1 .0) (v .list-pair .last .1 .1 .1 .1 .1 .1 .0) (v .list-pair .result) =
-    subst (λ (k : ℕ). PairListed (eqb (getD ms k 0) 1) r (l .c) (l .count) (l .rows) (l .columns) (v .list-pair .last .1 .1 .1 .1 .1 .0) (v .list-pair .last .1 .1 .1 .1 .1 .1 .0) (v .list-pair .result)) (l .inv .3) (v .list-pair .ensures) in (
-      v .list-pair .kept .1 .1 .1 .1 .1 .0 ∙ l .inv .0,
-      v .list-pair .kept .1 .1 .1 .1 .1 .1 .0 ∙ l .inv .1,
-      omega (arith, t .loop-test .taken),
-      omega (arith, l .inv .3),
-      row-more (l .inv .4) (omega (arith, s .pre .rows-fit)) (omega (arith, s .pre .columns-fit)) P,
-    )
-
-same-length : tie.Need-same-length Inv-loop μ-loop
+same-length : tie.Need-same-length
 same-length c = search needs
 
-same-length-2 : tie.Need-same-length-2 Inv-loop μ-loop
+same-length-2 : tie.Need-same-length-2
 same-length-2 c = search needs
 
-returns : tie.Need-returns Inv-loop μ-loop
+returns : tie.Need-returns
 returns c =
-    let l = c .before .loop in
-    let s = start (c .before) in
-    let e : l .c ≡ s .args .r + 1 = omega (arith, c .loop-test .left, l .inv .2) in
-    subst (λ (k : ℕ). RowListed (now (s .args .marks)) (s .args .r) k (s .args .first) (now (s .args .rows)) (now (s .args .columns)) (l .rows) (l .columns) (l .count)) e (l .inv .4)
+    let w = c .before .before in
+    let v = w .before .before .before .before in
+    row-listed (columns v) (w .repeat-row .ensures)
 
 pub list-row-spec : {M : Type 1} → statement M
 list-row-spec =
     tie.close
     (tie.spec
-    Inv-loop
-    μ-loop
+    add-list-bits
     pair-total-requires
-    loop-holds
-    list-pair-requires
-    add-p
-    add-c
-    loop-less
-    loop-again
+    list-bits-requires
+    repeat-row-requires
     same-length
     same-length-2
     returns)
