@@ -132,6 +132,9 @@ const PARTS: usize = 60;
 /// How many bends of a curve are tried on each side.
 const BENDS: usize = 24;
 
+/// Up to so many steps a curve looks for a way beside the marks of other cells; with more there is hardly one.
+const SPARSE: usize = 200;
+
 fn inside(point: Point, middle: Point, half: Point) -> bool {
     (point.0 - middle.0).abs() <= half.0 && (point.1 - middle.1).abs() <= half.1
 }
@@ -387,6 +390,9 @@ impl<'a> Trail<'a> {
 
     /// The marks of other cells that a curve may meet, with their half sides.
     fn marks_between(&self, step: &Coupling, from: Point, to: Point) -> Vec<(Point, Point)> {
+        if self.why.couplings.len() > SPARSE {
+            return Vec::new();
+        }
         let reach = 3.0 * self.frame.side;
         let near = |one: f64, other: f64, at: f64| at > one.min(other) - reach && at < one.max(other) + reach;
         let others = self
