@@ -295,7 +295,16 @@ def triangle(n):
     return n * (n + 1) // 2
 
 
+def mark_words(n):
+    """A bit for each pair."""
+    return -(-triangle(n) // 32)
+
+
 def scratch_words(n):
+    return mark_words(n) + triangle(n) + 4 * n
+
+
+def chain_words(n):
     return 2 * triangle(n) + 4 * n
 
 
@@ -434,7 +443,7 @@ def diag_refusals(f):
 
 
 def pattern_refusals(kind, f, n, pattern):
-    if room(kind, f, "lscratch") < triangle(n):
+    if room(kind, f, "lscratch") < mark_words(n):
         yield 7
     pairs = len(pattern(f))
     if room(kind, f, "lprows") < pairs or room(kind, f, "lpcols") < pairs:
@@ -679,7 +688,7 @@ def chain_of(f):
 def chain_refusals(f):
     n = f["n"]
     yield from request_refusals(f)
-    if room("chain", f, "lscratch") < scratch_words(n):
+    if room("chain", f, "lscratch") < chain_words(n):
         yield 7
     if max(f["prow"], f["pcol"]) >= n:
         yield 5
@@ -846,7 +855,8 @@ def error_number(kind, word):
 def cleared(kind, f, number):
     """How many words of the scratch end 0."""
     pattern = kind in ("patfactor", "patoperator")
-    words = triangle(f[READ[kind][0]]) if pattern else scratch_words(f["n"])
+    needed = mark_words if pattern else chain_words if kind == "chain" else scratch_words
+    words = needed(f[READ[kind][0]])
     # the pairs alone have no room
     short = number == 7 and (pattern or kind == "chain") and room(kind, f, "lscratch") >= words
     return words if number in (0, 8) or short else 0
@@ -1168,7 +1178,7 @@ def some_chain(chance):
     if chance.one_of(2):
         most = dict.fromkeys(CHAIN, [7777] * CHAIN["lscratch"])
         pairs = len(chain_of(f)) if not refusal("chain", {**f, **most}) else 3
-        needs = {"lscratch": scratch_words(n), "lcrows": pairs, "lccols": pairs}
+        needs = {"lscratch": chain_words(n), "lcrows": pairs, "lccols": pairs}
         for name, need in needs.items():
             f[name] = [7777] * max(need + (-1 if chance.one_of(8) else chance.pick((0, 0, 1, 3))), 0)
     return f
@@ -1284,7 +1294,7 @@ def some_covar(programs, *seed):
 def some_lists(chance, f):
     """Result lists, scratch and output as long as needed, a few places more, or now and then one less."""
     n, entries = f["n"], min(10 * len(f["rows"]), triangle(f["n"]))
-    needs = {"lstarts": n + 1, "lrows": entries, "lvalues": entries, "lscratch": 2 * triangle(n) + 4 * n, "lout": len(f["arows"])}
+    needs = {"lstarts": n + 1, "lrows": entries, "lvalues": entries, "lscratch": scratch_words(n), "lout": len(f["arows"])}
     lists = {}
     for name, need in needs.items():
         length = max(need + (-1 if chance.one_of(20) else chance.pick((0, 0, 1, 3))), 0)

@@ -1345,6 +1345,53 @@ fn a_chain_on_a_map() {
     assert!(!folder.read("map.html").contains("id=\"why\"") && !folder.read("map.svg").contains("chain"));
 }
 
+/// Where marks with all numbers would lie over one another, they have the first, and the legend says so.
+#[test]
+fn a_long_chain_on_small_cells() {
+    let folder = Folder::new("small-cells");
+    let head = "%%MatrixMarket matrix coordinate real general\n";
+    let below = (2..=60).map(|row| format!("{row} {} 1\n", row - 1)).collect::<String>();
+    let diagonal = (1..=60).map(|row| format!("{row} {row} 1\n")).collect::<String>();
+    folder.write("path.mtx", format!("{head}60 60 119\n{diagonal}{below}"));
+    folder.write("pairs.txt", "1 1\n");
+    let words = [
+        "path.mtx",
+        "--requests=pairs.txt",
+        "--svg=map.svg",
+        "--html=map.html",
+        "--why=5,5",
+    ];
+    for (grid, expected, number) in [
+        ("60x1", ["1", "2", "4", "6", "8"], "number of its"),
+        (
+            "10x6",
+            ["1\u{2013}2", "2\u{2013}4", "4\u{2013}6", "6\u{2013}8", "8\u{2013}9"],
+            "numbers of its",
+        ),
+    ] {
+        let printed = folder.prints(&[&words[..], &["--grid", grid]].concat());
+        assert!(
+            printed.ends_with("\n1 1 1 1-2\n2 2 1 2-4\n3 3 1 4-6\n4 4 1 6-8\n5 5 1 8-9\n"),
+            "{printed}"
+        );
+        for document in [folder.read("map.svg"), folder.read("map.html")] {
+            assert_eq!(marks(&document), expected, "{grid}");
+            assert_eq!(document.matches(&format!(">A cell has the {number}")).count(), 1);
+            // Both cells of a pair go the same way, on its two sides.
+            let (_, chain) = document.split_once("<g id=\"chain\"").unwrap();
+            let (chain, _) = chain.split_once("</g>").unwrap();
+            let steps = chain.lines().filter_map(|line| line.split_once("class=\"step\" d=\""));
+            let mut curves = steps
+                .map(|(_, line)| line.split_once('"').unwrap().0)
+                .collect::<Vec<_>>();
+            assert_eq!(curves.len(), 8);
+            curves.sort_unstable();
+            curves.dedup();
+            assert_eq!(curves.len(), 8, "{grid}");
+        }
+    }
+}
+
 /// The marks lie on the cells' places, also where cells and grid are numbered differently.
 #[test]
 fn a_chain_in_the_harbour() {

@@ -7,7 +7,7 @@ use crate::grid::Grid;
 use crate::map::{deviation, fill, Cell, Fill, Map};
 use crate::markup::{escaped, fill_value, pattern};
 use crate::scale::{short, Scale};
-use crate::trail::{self, Frame};
+use crate::trail::{Frame, Trail};
 use redstartgilt::count_and_least;
 use std::fmt::Write;
 
@@ -21,7 +21,7 @@ const SCREEN_SIDES: (usize, usize) = (6, 40);
 /// The longer side of a map on the screen, where cells of the least side allow it.
 const SCREEN_MAP: usize = 860;
 /// The least height of the text of marks on a large screen, and the largest in the map's own units.
-const MARK_TEXTS: (f64, f64) = (9.0, 8.0);
+const MARK_TEXTS: (f64, f64) = (8.0, 8.0);
 
 /// Nothing is fetched: only the page's own style and script are used.
 const POLICY: &str = "default-src 'none'; style-src 'unsafe-inline'; script-src 'unsafe-inline'";
@@ -59,10 +59,28 @@ fn numbers<'a>(map: &'a Map<'_>) -> impl Iterator<Item = Option<usize>> + 'a {
     })
 }
 
+/// The largest side of a cell on the screen.
+fn screen_side(grid: Grid) -> usize {
+    let (least, largest) = SCREEN_SIDES;
+    (SCREEN_MAP / grid.width.max(grid.height)).clamp(least, largest)
+}
+
+/// The chain in the map's own units.
+fn trail<'a>(map: &'a Map<'a>) -> Option<Trail<'a>> {
+    let least_text = MARK_TEXTS.0 * SIDE as f64 / screen_side(map.placed.grid) as f64;
+    Trail::new(
+        map,
+        Frame {
+            left: 0.0,
+            top: 0.0,
+            side: SIDE as f64,
+            texts: (least_text, MARK_TEXTS.1.max(least_text)),
+        },
+    )
+}
+
 fn drawing(html: &mut String, map: &Map<'_>, scale: Option<&Scale>) {
     let Grid { width, height } = map.placed.grid;
-    let (least, largest) = SCREEN_SIDES;
-    let side = (SCREEN_MAP / width.max(height)).clamp(least, largest);
     let _ = write!(
         html,
         "<section id=\"chart\" aria-label=\"Map\">\n<div id=\"frame\">\n\
@@ -71,8 +89,8 @@ fn drawing(html: &mut String, map: &Map<'_>, scale: Option<&Scale>) {
          aria-label=\"Map of variances, {width} columns and {height} rows\" aria-describedby=\"keys\">\n<defs>\n",
         width * SIDE,
         height * SIDE,
-        width * least,
-        width * side
+        width * SCREEN_SIDES.0,
+        width * screen_side(map.placed.grid)
     );
     html.extend(map.patterns().map(|used| pattern(used, SIDE)));
     html.push_str("</defs>\n<g id=\"cells\">\n");
@@ -100,14 +118,9 @@ fn drawing(html: &mut String, map: &Map<'_>, scale: Option<&Scale>) {
         }
         html.push_str("/>\n");
     }
-    let least_text = MARK_TEXTS.0 * SIDE as f64 / side as f64;
-    let frame = Frame {
-        left: 0.0,
-        top: 0.0,
-        side: SIDE as f64,
-        texts: (least_text, MARK_TEXTS.1.max(least_text)),
-    };
-    html.push_str(&trail::draw(map, &frame));
+    if let Some(trail) = trail(map) {
+        html.push_str(&trail.drawn());
+    }
     for cursor in ["pointed", "selected"] {
         let _ = writeln!(
             html,
@@ -230,17 +243,17 @@ fn legend(html: &mut String, map: &Map<'_>, scale: Option<&Scale>) {
     html.push_str("</section>\n");
 }
 
-/// The marks of the chain, and a step.
+/// The signs of the chain, and what its numbers are.
 fn chain_legend(html: &mut String, map: &Map<'_>) {
-    if map.chain().is_none() {
+    let Some(trail) = trail(map) else {
         return;
-    }
+    };
     html.push_str("<ul id=\"chain-legend\">\n");
-    for (sign, words) in trail::keys(map) {
+    for sign in trail.signs() {
         let drawn = sign.drawn((4.0, 2.0), (24.0, 16.0), 11.0);
-        let _ = writeln!(html, "<li>{} {words}</li>", drawn_swatch(drawn.trim_end()));
+        let _ = writeln!(html, "<li>{} {}</li>", drawn_swatch(drawn.trim_end()), sign.words);
     }
-    let _ = writeln!(html, "</ul>\n<p>{}</p>", trail::NUMBER_WORDS.join(" "));
+    let _ = writeln!(html, "</ul>\n<p>{}</p>", trail.number_words().join(" "));
 }
 
 /// The answer for the pair that is asked about.

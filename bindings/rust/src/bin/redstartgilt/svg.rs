@@ -4,7 +4,7 @@ use crate::grid::Grid;
 use crate::map::{fill, Fill, Map};
 use crate::markup::{escaped, fill_value, pattern};
 use crate::scale::{short, Scale};
-use crate::trail::{self, Frame};
+use crate::trail::{Frame, Trail};
 use std::fmt::Write;
 
 const MARGIN: usize = 24;
@@ -25,14 +25,20 @@ pub fn draw(map: &Map<'_>) -> String {
     let (map_width, map_height) = (width * side, height * side);
     let bar_height = map_height.max(120);
     let top = TITLE_ROOM + if map.why.is_some() { LINE_ROOM } else { 0 };
-    let keys = map.patterns().count() + trail::keys(map).len();
-    let words_room = if map.chain().is_some() {
-        LINE_ROOM * trail::NUMBER_WORDS.len()
-    } else {
-        0
-    };
+    let trail = Trail::new(
+        map,
+        Frame {
+            left: MARGIN as f64,
+            top: top as f64,
+            side: side as f64,
+            texts: MARK_TEXTS,
+        },
+    );
+    let trail_room = trail.as_ref().map_or(0, |trail| {
+        KEY_ROOM * trail.signs().len() + LINE_ROOM * trail.number_words().len()
+    });
     let whole_width = map_width + LEGEND_ROOM + 2 * MARGIN;
-    let whole_height = top + bar_height + 16 + KEY_ROOM * keys + words_room + MARGIN;
+    let whole_height = top + bar_height + 16 + KEY_ROOM * map.patterns().count() + trail_room + MARGIN;
     let scale = map.scale();
     let title = escaped(map.title);
     let (cells, missing) = map.not_computed();
@@ -74,26 +80,26 @@ pub fn draw(map: &Map<'_>) -> String {
         );
     }
     svg.push_str("</g>\n");
-    let frame = Frame {
-        left: MARGIN as f64,
-        top: top as f64,
-        side: side as f64,
-        texts: MARK_TEXTS,
-    };
-    svg.push_str(&trail::draw(map, &frame));
-    legend(
-        &mut svg,
-        map,
-        scale.as_ref(),
-        (MARGIN + map_width + 24, top),
-        bar_height,
-    );
+    if let Some(trail) = &trail {
+        svg.push_str(&trail.drawn());
+    }
+    let corner = (MARGIN + map_width + 24, top);
+    let below = legend(&mut svg, map, scale.as_ref(), corner, bar_height);
+    if let Some(trail) = &trail {
+        trail_legend(&mut svg, trail, (corner.0, below));
+    }
     svg.push_str("</svg>\n");
     svg
 }
 
-/// The scale with its numbers, the patterns of cells without one, and the marks of the chain.
-fn legend(svg: &mut String, map: &Map<'_>, scale: Option<&Scale>, (left, top): (usize, usize), bar_height: usize) {
+/// The scale with its numbers, and the patterns of cells without one; gives the place below them.
+fn legend(
+    svg: &mut String,
+    map: &Map<'_>,
+    scale: Option<&Scale>,
+    (left, top): (usize, usize),
+    bar_height: usize,
+) -> usize {
     let words_left = left + BAR_WIDTH + 8;
     if let Some(scale) = scale {
         let _ = writeln!(
@@ -132,15 +138,25 @@ fn legend(svg: &mut String, map: &Map<'_>, scale: Option<&Scale>, (left, top): (
         );
         top += KEY_ROOM;
     }
-    for (sign, words) in trail::keys(map) {
-        let drawn = sign.drawn((left as f64, top as f64), (BAR_WIDTH as f64, 14.0), KEY_TEXT);
-        let _ = writeln!(svg, "{drawn}<text x=\"{words_left}\" y=\"{}\">{words}</text>", top + 12);
+    top
+}
+
+/// The signs of the chain, and what its numbers are.
+fn trail_legend(svg: &mut String, trail: &Trail<'_>, (left, top): (usize, usize)) {
+    let mut top = top;
+    for sign in trail.signs() {
+        let _ = writeln!(
+            svg,
+            "{}<text x=\"{}\" y=\"{}\">{}</text>",
+            sign.drawn((left as f64, top as f64), (BAR_WIDTH as f64, 14.0), KEY_TEXT),
+            left + BAR_WIDTH + 8,
+            top + 12,
+            sign.words
+        );
         top += KEY_ROOM;
     }
-    if map.chain().is_some() {
-        for words in trail::NUMBER_WORDS {
-            let _ = writeln!(svg, "<text x=\"{left}\" y=\"{}\">{words}</text>", top + 12);
-            top += LINE_ROOM;
-        }
+    for words in trail.number_words() {
+        let _ = writeln!(svg, "<text x=\"{left}\" y=\"{}\">{words}</text>", top + 12);
+        top += LINE_ROOM;
     }
 }
