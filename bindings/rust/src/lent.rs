@@ -150,7 +150,9 @@ pub const fn mark_words(n: usize) -> usize {
 
 /// The scratch words that a call that fills result lists needs: [`mark_words`] + [`pair_total`] + 4n.
 pub const fn scratch_words(n: usize) -> usize {
-    mark_words(n).saturating_add(pair_total(n)).saturating_add(n.saturating_mul(4))
+    mark_words(n)
+        .saturating_add(pair_total(n))
+        .saturating_add(n.saturating_mul(4))
 }
 
 /// The scratch words that [`dependency_chain`] needs: 2·[`pair_total`] + 4n.
