@@ -69,7 +69,7 @@ module _ (n : ℕ) (S : ℕ → ℕ → Bool) (scratch rows columns : List ℕ) 
       let whole = first-hit 7 (outputSteps (pairCount n S) (length rows) (length columns)) tt t in
       record {
         replies = sym (first-refused _ 7 (pairCount n S) whole);
-        scratch-is = sym (after-refused _ 7 (cleared (markWords n) scratch) scratch (first-hit 7 [] tt t));
+        scratch-is = sym (after-refused _ 7 _ scratch (first-hit 7 [] tt t));
         rows-are = sym (after-refused _ 7 (overwrite (pairRows n S) rows) rows whole);
         columns-are = sym (after-refused _ 7 (overwrite (pairColumns n S) columns) columns whole);
       }
@@ -86,7 +86,7 @@ module _ (n : ℕ) (S : ℕ → ℕ → Bool) (scratch rows columns : List ℕ) 
         scratch-is =
             q ∙ ap (λ (l : List ℕ). l ++ drop (markWords n) scratch) (L .clears ∙ ap (λ (l : List ℕ). cleared (length l) l) p)
             ∙ cleared-front (markWords n) scratch h
-            ∙ sym (after-passed (scratchStep n (length scratch) ∷ []) (cleared (markWords n) scratch) scratch (first-skip 7 [] tt t (first-end tt)));
+            ∙ sym (after-passed (scratchStep n (length scratch) ∷ []) _ scratch (first-skip 7 [] tt t (first-end tt)));
         rows-are = L .rows-are ∙ ap (settle rows) (sym (first-skip 7 rest (overwrite (pairRows n S) rows) t refl));
         columns-are = L .columns-are ∙ ap (settle columns) (sym (first-skip 7 rest (overwrite (pairColumns n S) columns) t refl));
       }
