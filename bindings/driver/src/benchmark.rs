@@ -23,7 +23,7 @@ use std::path::Path;
 use std::process::{Command, Stdio};
 
 /// What the library may take of the Rust's time where the Rust goes by the factor's pattern, and by hash maps.
-const FACTOR_TARGET: f64 = 0.5;
+const FACTOR_TARGET: f64 = 0.12;
 const CLOSURE_TARGET: f64 = 0.1;
 /// What a chain may take of the time that the Rust's closing of the same requests takes.
 const CHAIN_TARGET: f64 = 10.0;
@@ -68,7 +68,7 @@ fn median_ms(call: &mut Call, runs: usize) -> f64 {
 
 /// The median time of setting to 0 the scratch words that every answer leaves 0: no call can take less.
 fn clearing_ms(call: &mut Call, runs: usize) -> f64 {
-    let used = rules::scratch_words(call.n);
+    let used = rules::cleared_words(call.function, call.n);
     median_of(runs, || std::hint::black_box(&mut call.scratch[..used]).fill(0))
 }
 
@@ -96,14 +96,19 @@ struct Row {
     least: f64,
 }
 
-/// Compares a case's answers, then times it by the Rust, and a call that asks for the same entries by the library.
-fn row(folder: &Path, case: &Block, call: &Call, runs: usize) -> io::Result<Row> {
-    let text = case.text();
-    let answer = Blocks::new(BufReader::new(&oracle(folder, &[], &text)?[..])).next()?;
+/// The Rust's answer to a case, which the library's does not differ from.
+fn answer(folder: &Path, case: &Block) -> io::Result<Block> {
+    let answer = Blocks::new(BufReader::new(&oracle(folder, &[], &case.text())?[..])).next()?;
     let answer = answer.ok_or_else(|| io::Error::other("the oracle has no answer"))?;
     if differences(case, &answer) > 0 {
         return Err(io::Error::other(format!("{}: the answers differ", case.name)));
     }
+    Ok(answer)
+}
+
+/// Compares a case's answers, then times it by the Rust, and a call that asks for the same entries by the library.
+fn row(folder: &Path, case: &Block, call: &Call, runs: usize) -> io::Result<Row> {
+    let answer = answer(folder, case)?;
     let (route, closure) = (answer.field("route").to_string(), answer.number("closure"));
     Ok(Row { route, closure, ..timed(folder, case, call, runs)? })
 }
@@ -132,6 +137,7 @@ pub fn benchmark(folder: &Path, runs: usize) -> io::Result<()> {
     rows_of_the_timing_set(folder, runs)?;
     rows_of_covariances(folder, runs)?;
     rows_of_chains(folder, runs)?;
+    rows_of_patterns(folder, runs)?;
     growth(folder, runs)?;
     split(runs);
     lookups::rows_of_lookups(runs)?;
@@ -305,6 +311,44 @@ fn row_of_chains(folder: &Path, name: &str, asked: &Call, runs: usize) -> io::Re
         row.ratio
     );
     Ok(())
+}
+
+/// The pattern lists of each grid's factor and of its operators, beside the Rust's, which collects a sorted set.
+pub fn rows_of_patterns(folder: &Path, runs: usize) -> io::Result<()> {
+    println!("\n| pattern list | stored entries or terms | pairs | ours | clearing | Rust | ours / Rust |");
+    println!("|---|---|---|---|---|---|---|");
+    each_timing_case(folder, |name, case| {
+        let asked = call_of(case);
+        let mut list;
+        let items = match asked.function {
+            Function::OriginalDiag => {
+                list = Block::new(&case.name, "patfactor");
+                list.put_factor(&asked);
+                asked.rows.len()
+            }
+            Function::OperatorVariances => {
+                list = Block::new(&case.name, "patoperator");
+                list.put("ncols", asked.n);
+                list.put_numbers("ostarts", &asked.row_starts);
+                list.put_numbers("ocols", &asked.columns);
+                list.put_values("oweights", &asked.weights);
+                asked.columns.len()
+            }
+            _ => return Ok(()),
+        };
+        let answer = answer(folder, &list)?;
+        let call = call_of(&list);
+        let row = timed(folder, &list, &call, runs)?;
+        println!(
+            "| {name} | {items} | {} | {:.3} | {:.3} | {:.3} | {:.3} |",
+            answer.items("prows").count(),
+            row.ours,
+            row.clearing,
+            row.rust,
+            row.ratio
+        );
+        Ok(())
+    })
 }
 
 /// The call for the diagonal in original order of a grid.

@@ -6,7 +6,7 @@ use crate::list::List;
 use crate::matrix_market;
 use crate::random::Random;
 use crate::refusals::{refusal, MOST_COLUMNS};
-use crate::rules::{self, chain_words, mark_words, scratch_words, triangle};
+use crate::rules::{self, triangle};
 
 /// The lengths that a call needs; small ones where it is refused whatever it is lent.
 pub struct Needs {
@@ -30,11 +30,7 @@ pub fn needs(call: &Call) -> Needs {
     Needs {
         starts: n + 1,
         entries: rules::limit(call).min(triangle(n)),
-        scratch: match call.function {
-            Function::FactorPattern | Function::OperatorPattern => mark_words(n),
-            Function::DependencyChain => chain_words(n),
-            _ => scratch_words(n),
-        },
+        scratch: rules::cleared_words(call.function, n),
         output: match call.function {
             Function::Diag => call.starts.len().saturating_sub(1),
             Function::OriginalDiag => n,

@@ -27,6 +27,20 @@ pub fn chain_words(n: usize) -> usize {
     2 * triangle(n) + 4 * n
 }
 
+/// The scratch words that a call with an answer leaves 0.
+pub fn cleared_words(function: Function, n: usize) -> usize {
+    match function {
+        Function::FactorPattern | Function::OperatorPattern => mark_words(n),
+        Function::DependencyChain => chain_words(n),
+        _ => scratch_words(n),
+    }
+}
+
+fn clear(call: &mut Call) {
+    let words = cleared_words(call.function, call.n);
+    call.scratch[..words].fill(0);
+}
+
 /// The limit that applies: 10 times the stored entries where none is given.
 pub fn limit(call: &Call) -> usize {
     if call.function == Function::EntriesWithLimit {
@@ -260,14 +274,13 @@ pub fn expected(call: Call) -> Expected {
 /// What a refused call leaves: of a scratch that is long enough the marks end 0 in pattern lists, and all words where the
 /// chain list is short, and after 8.
 pub fn refused(number: u32, mut call: Call) -> Expected {
-    let words = match (call.function, number) {
-        (Function::FactorPattern | Function::OperatorPattern, 7) => mark_words(call.n),
-        (Function::DependencyChain, 7) => chain_words(call.n),
-        (Function::OriginalDiag, 8) => scratch_words(call.n),
-        _ => 0,
+    let late = match call.function {
+        Function::FactorPattern | Function::OperatorPattern | Function::DependencyChain => number == 7,
+        Function::OriginalDiag => number == 8,
+        _ => false,
     };
-    if call.scratch.len() >= words {
-        call.scratch[..words].fill(0);
+    if late && call.scratch.len() >= cleared_words(call.function, call.n) {
+        clear(&mut call);
     }
     Expected::untouched(Reply::refused(number), call)
 }
@@ -299,7 +312,7 @@ fn accepted(mut call: Call) -> Expected {
                 call.pair_rows[at] = row as u32;
                 call.pair_columns[at] = column as u32;
             }
-            call.scratch[..chain_words(call.n)].fill(0);
+            clear(&mut call);
             Expected::untouched(Reply { pairs: chain.len(), ..Reply::default() }, call)
         }
         Function::FactorPattern | Function::OperatorPattern => {
@@ -308,7 +321,7 @@ fn accepted(mut call: Call) -> Expected {
                 call.pair_rows[at] = row as u32;
                 call.pair_columns[at] = column as u32;
             }
-            call.scratch[..mark_words(call.n)].fill(0);
+            clear(&mut call);
             Expected::untouched(Reply { pairs: set.count(), ..Reply::default() }, call)
         }
         Function::Inverse => {
@@ -359,7 +372,7 @@ fn selected(mut call: Call) -> Expected {
     let status = if complete { sys::REDSTARTGILT_COMPLETE } else { sys::REDSTARTGILT_CLOSURE_TOO_LARGE };
     let ratio = closure as f64 / pairs.max(1) as f64;
     let reply = Reply { status, requested, closure, factor: pairs, limit, ratio, ..Reply::default() };
-    call.scratch[..scratch_words(n)].fill(0);
+    clear(&mut call);
     if !complete {
         return Expected::untouched(reply, call);
     }

@@ -47,6 +47,14 @@ fn time(case: &Case, runs: usize) -> Result<f64, Stop> {
             let (factor, operator) = (fed::factor(case, None), fed::operator(case)?);
             median_ms(runs, || selected_inverse_transformed_diag(black_box(&factor), &operator))
         }
+        "patfactor" => {
+            let factor = fed::factor(case, None);
+            median_ms(runs, || Ok(SparseSymmetricPattern::from_cholesky_factor(black_box(&factor))))
+        }
+        "patoperator" => {
+            let operator = fed::operator(case)?;
+            median_ms(runs, || SparseSymmetricPattern::from_transformed_operator(black_box(&operator)))
+        }
         // the requests closed, and nothing else
         "closing" => {
             let (factor, requests) = (fed::factor(case, None), fed::requests(case)?);
