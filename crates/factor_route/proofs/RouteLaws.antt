@@ -2,8 +2,7 @@
 -- Assumes nothing.
 use Prim.Native.Nat.{ℕ, suc, _+_, _-_, _≤_, _<_}
 use native.Mathlib.Omega.{arith}
-use native.Mathlib.Nat.{le-refl, lt-of-lt-of-le}
-use native.Mathlib.Numerals.{add-one}
+use native.Mathlib.Nat.{lt-of-lt-of-le}
 use mathlib.Core.Path.{_≡_, sym, ap, ap₂, subst, _∙_}
 use mathlib.Core.List.{List}
 use lib.ListN.{length, getD, take, drop, length-drop}
@@ -11,21 +10,22 @@ use lib.Seq.{length-take-le}
 use lib.Ieee.{Float, nan}
 use Rattle.refusal.specs.Bounds.{maxDimension}
 use Rattle.lists.specs.Overwrite.{overwrite, splice}
+use Rattle.takahashi.specs.Recurrence.{Entry}
 use Rattle.columns.specs.Columns.{start}
 use Rattle.columns.specs.Kept.{nonzero, keptPair, diag, desc}
 use Rattle.columns.specs.Factor.{factor-column, starts-end}
 use Rattle.entries.specs.Entries.{entryValues, floatTable}
 use Rattle.exact.specs.Exact.{floats, float-off, float-on}
 use Rattle.exact.specs.Multiple.{zero-float}
-use Rattle.scatter.specs.Scatter.{rowAt, weigh, clear, marks, unmarks, scatterAll, stepped, ClosedPattern, Laid, Known, Filled}
-use Rattle.scatter.specs.Marks.{empties, weigh-long, unmarks-empties}
-use Rattle.scatter.specs.Sums.{Between}
-use Rattle.scatter.specs.ClosedPattern.{degree, degree-small, cell-is, cell-fits, width, next-le}
-use Rattle.scatter.specs.Column.{scattered, column-right}
+use Rattle.scatter.specs.Scatter.{weigh, clear, unmarks, Between, stepped, ClosedPattern, Laid, Known, Filled}
+use Rattle.scatter.specs.Marks.{weigh-long, marks-marked, unmarks-empties}
+use Rattle.scatter.specs.ClosedPattern.{degree, degree-small, width, next-le}
+use Rattle.scatter.specs.Column.{cleared, column-right}
 use Rattle.scatter.specs.Values.{filled-none, filled-next, filled-end}
 use Rattle.factor_route.specs.ColumnMarks.{descBetween, ColumnMarked, Stored}
-use Rattle.factor_route.specs.Walk.{Walk}
+use Rattle.factor_route.specs.Walk.{Marked, Walk, Covered, ColumnsAre, Scattered}
 use Rattle.factor_route.proofs.PatternLaws.{kept-pattern, kept-values, kept-laid, kept-size}
+use Rattle.factor_route.proofs.LaidLaws.{laid-walk, laid-ends, laid-marked, laid-after}
 use Rattle.factor_route.specs.Route.{RouteInput, WorkRows, ColumnWritten}
 
 -- the columns from j on are the recurrence's, and what stands past the result is as before
@@ -71,39 +71,24 @@ module _ {n : ℕ} {starts rows : List ℕ} {values : List Float} {es er : List 
         → m ≡ length (desc starts rows values j)
     counted s t m p q e = e ∙ ap₂ (λ (x y : ℕ). length (descBetween rows values j x y)) p q
 
-    -- the rows of a column of the result have a place in the marker
-    fits-at : (c : ℕ) → c < n → (x : ℕ) → x < getD es (c + 1) 0 - getD es c 0 → getD er (getD es c 0 + x) 0 < maxDimension
-    fits-at c cn x h =
-        let l : x < suc (length (desc starts rows values c)) = subst (λ (k : ℕ). x < k) (width nan n (desc starts rows values) es er L c cn) h in
-        subst (λ (k : ℕ). k < maxDimension) (sym (cell-is nan n (desc starts rows values) es er L c x cn l))
-        (lt-of-lt-of-le (cell-fits nan n (desc starts rows values) P c x cn l) (R .small))
-
     module _ (a s t m : ℕ) (ea : a ≡ getD es j 0) (es′ : s ≡ start starts j) (et : t ≡ start starts (j + 1))
         (em : m ≡ length (descBetween rows values j s t)) where
       pub route-first : a + 1 + m ≤ length er
       route-first = omega (arith, counted s t m es′ et em, next, ends, L .room)
 
-      pub route-walk : Walk es er total (a + 1) m
-      route-walk = rw (ea, counted s t m es′ et em) (record {
-        few = degree-small nan n (desc starts rows values) P j jn;
-        inside = omega (arith, next, ends, L .room);
-        column = λ p h. subst (λ (k : ℕ). k + 1 < length es) (sym (row p h)) (omega (arith, below p h, L .count));
-        ordered = λ p h. subst (λ (k : ℕ). getD es k 0 ≤ getD es (k + 1) 0) (sym (row p h)) (omega (arith, L .next (k p) (below p h)));
-        span = λ p h. rw (row p h) (record {
-          stored = omega (arith, L .next (k p) (below p h), next-le nan n (desc starts rows values) es er L (k p) (below p h), L .room);
-          valued = omega (arith, L .next (k p) (below p h), next-le nan n (desc starts rows values) es er L (k p) (below p h), filled-room);
-          fits = fits-at (k p) (below p h);
-        });
-      })
-        where
-          k : ℕ → ℕ
-          k p = rowAt nan (desc starts rows values j) p
+      pub route-walk : Walk es er (a + 1) m × Covered es er (a + 1) m total
+      route-walk = rw (ea, counted s t m es′ et em) (
+        laid-walk nan n (desc starts rows values) P es er L j jn,
+        λ p h. omega (arith, laid-ends nan n (desc starts rows values) P es er L j jn p h, filled-room),
+      )
 
-          row : (p : ℕ) → p < length (desc starts rows values j) → getD er (getD es j 0 + 1 + p) 0 ≡ k p
-          row p h = L .below j p jn h
-
-          below : (p : ℕ) → p < length (desc starts rows values j) → k p < n
-          below p h = P .fits j p jn h
+      -- the marker that marking leaves
+      pub route-marked : (marker : List ℕ) (weights sums : List Float) (marker₁ : List ℕ) (weights₁ sums₁ : List Float) → WorkRows marker weights sums
+          → ColumnMarked (descBetween rows values j s t) m marker weights sums marker₁ weights₁ sums₁ → Marked er (a + 1) m marker₁
+      route-marked marker weights sums marker₁ weights₁ sums₁ W M =
+          rw (ea, M .marker-is, W .marker-is, ap₂ (λ (x y : ℕ). descBetween rows values j x y) es′ et, counted s t m es′ et em)
+          (laid-marked nan n (desc starts rows values) P es er L j jn _
+          (marks-marked nan (desc starts rows values j) (λ p u. P .up j p u jn) (λ p h. lt-of-lt-of-le (P .fits j p jn h) (R .small))))
 
       pub route-unmark : (a + 1 + m ≤ length er) × ((x : ℕ) → x < m → getD er (a + 1 + x) 0 < maxDimension)
       route-unmark = (
@@ -123,13 +108,13 @@ module _ {n : ℕ} {starts rows : List ℕ} {values : List Float} {es er : List 
           (marker₂ : List ℕ) → e ≡ getD es (j + 1) 0 → WorkRows marker weights sums → length v ≡ total
           → Known nan n (desc starts rows values) es er (floatTable n starts rows values) (j + 1) v
           → ColumnMarked (descBetween rows values j s t) m marker weights sums marker₁ weights₁ sums₁
-          → sums₂ ≡ scatterAll floats nan es er v (a + 1) marker₁ weights₁ sums₁ m
+          → Scattered (ColumnsAre es er v (a + 1) m) er (a + 1) m weights₁ 0 m sums₁ sums₂
           → d ≡ diag starts rows values j
           → v′ ≡ splice a (stepped floats float-off float-on nan d weights₁ sums₂ (take (e - a) (drop a v)) m) v
           → marker₂ ≡ unmarks er (a + 1) marker₁ m
           → ColumnWritten n starts rows values es j v v′ marker₂ weights₁ sums₂
       unfolding floatTable
-      route-column e d v v′ marker weights sums marker₁ weights₁ sums₁ sums₂ marker₂ ee W lv Kn M esum ed ev eu = record {
+      route-column e d v v′ marker weights sums marker₁ weights₁ sums₁ sums₂ marker₂ ee W lv Kn M S ed ev eu = record {
         rest = record {
           marker-is =
               rw (eu, ea, M .marker-is, W .marker-is, dsM, mM)
@@ -137,13 +122,13 @@ module _ {n : ℕ} {starts rows : List ℕ} {values : List Float} {es er : List 
               (getD es j 0 + 1)
               (λ p h. L .below j p jn h));
           weights-long = ap length (M .weights-is) ∙ weigh-long nan (descBetween rows values j s t) weights m ∙ W .weights-long;
-          sums-long = rw (esum, ea, M .marker-is, M .weights-is, M .sums-is, W .marker-is, dsM, mM) (scatteredTo .long);
+          sums-long = whole .long;
         };
         values-are =
-            rw (ev, esum, ed, M .marker-is, M .weights-is, M .sums-is, W .marker-is, dsM, mM, ea, ee)
+            rw (ev, ed, ew, mM, ea, ee)
             (ap (λ (l : List Float). splice (getD es j 0) l v)
-            (column-right floats float-off float-on nan n (desc starts rows values) P es er L (diag starts rows values) j jn weights sums (W .weights-long)
-            (W .sums-long) v Kn′
+            (column-right floats float-off float-on nan n (desc starts rows values) P es er L (diag starts rows values) j jn weights (W .weights-long)
+            sums₂ whole
             (take (getD es (j + 1) 0 - getD es j 0) (drop (getD es j 0) v)) long));
       }
         where
@@ -153,19 +138,34 @@ module _ {n : ℕ} {starts rows : List ℕ} {values : List Float} {es er : List 
           mM : m ≡ length (desc starts rows values j)
           mM = counted s t m es′ et em
 
-          Kn′ : Known nan n (desc starts rows values) es er (floatTable n starts rows values) (suc j) v
-          Kn′ = subst (λ (x : ℕ). Known nan n (desc starts rows values) es er (floatTable n starts rows values) x v) (add-one j) Kn
+          ew : weights₁ ≡ weigh nan (desc starts rows values j) weights (length (desc starts rows values j))
+          ew = M .weights-is ∙ ap₂ (λ (x : List (Entry Float)) (k : ℕ). weigh nan x weights k) dsM mM
 
-          scatteredTo :
-              Between floats nan (floatTable n starts rows values) (desc starts rows values j) (length (desc starts rows values j))
-              (scatterAll floats nan es er v (getD es j 0 + 1) (marks nan (desc starts rows values j) empties (length (desc starts rows values j)))
+          -- the columns after j are the table's
+          known : ColumnsAre es er v (getD es j 0 + 1) (length (desc starts rows values j)) (floatTable n starts rows values)
+          known = record {
+            column = λ p h.
+                let k : ℕ = getD er (getD es j 0 + 1 + p) 0 in
+                let w = laid-after nan n (desc starts rows values) P es er L j jn p h in record {
+                  value = λ x lo hi.
+                      let q : getD es k 0 + (x - getD es k 0) ≡ x = omega arith in
+                      subst (λ (i : ℕ). getD v i nan ≡ floatTable n starts rows values (getD er i 0) k) q
+                      (Kn .value k (x - getD es k 0) (omega (arith, w .0)) (w .1) (omega (arith, L .next k (w .1))));
+                };
+          }
+
+          whole :
+              Between floats nan (floatTable n starts rows values) er (getD es j 0 + 1) (length (desc starts rows values j))
               (weigh nan (desc starts rows values j) weights (length (desc starts rows values j)))
-              (clear zero-float sums (length (desc starts rows values j)))
-              (length (desc starts rows values j)))
-          scatteredTo =
-              scattered floats float-off float-on nan n (desc starts rows values) P es er L (diag starts rows values) j jn weights sums (W .weights-long)
-              (W .sums-long) v Kn′
-              (length (desc starts rows values j)) (le-refl (length (desc starts rows values j)))
+              (length (desc starts rows values j))
+              sums₂
+          whole =
+              rw (ea, mM, ew) at (S) .sums-are (floatTable n starts rows values) known
+              (subst (λ (l : List Float). Between floats nan (floatTable n starts rows values) er (getD es j 0 + 1) (length (desc starts rows values j))
+              (weigh nan (desc starts rows values j) weights (length (desc starts rows values j))) 0 l)
+              (sym (M .sums-is ∙ ap (clear zero-float sums) mM))
+              (cleared floats float-off float-on nan n (desc starts rows values) P es er L (diag starts rows values) j jn weights (W .weights-long) sums
+              (W .sums-long)))
 
           long : length (take (getD es (j + 1) 0 - getD es j 0) (drop (getD es j 0) v)) ≡ suc (length (desc starts rows values j))
           long =

@@ -2,19 +2,18 @@
 use mathlib.Core.Path.{_≡_, refl, sym, _∙_, ap, ap₂, subst}
 use mathlib.Core.Logic.{inl, inr}
 use mathlib.Core.List.{List, _∷_, map}
-use Prim.Native.Nat.{ℕ, zero, suc, _+_, _-_, _≤_, _<_, zero-le, suc-le-suc}
-use native.Mathlib.Nat.{eq-or-lt-of-le, le-refl, le-of-lt, lt-trans, ne-of-lt, lt-of-lt-of-le, suc-inj, le-of-suc-le-suc, not-suc-le-zero}
+use Prim.Native.Nat.{ℕ, zero, suc, _+_, _≤_, _<_}
+use native.Mathlib.Nat.{eq-or-lt-of-le, le-refl, le-of-lt, lt-trans, ne-of-lt, suc-inj, le-of-suc-le-suc, not-suc-le-zero}
 use native.Mathlib.Omega.{arith}
 use lib.ListN.{length, getD, set, take, length-set, length-map}
 use lib.Seq.{getD-set-same, getD-set-other, ext-getD, take-length}
 use Rattle.lists.specs.Select.{getD-mapped}
 use Rattle.refusal.specs.Bounds.{maxDimension}
 use Rattle.takahashi.specs.Recurrence.{Arithmetic, Entry, run, dot, at, Lower, Solves, table, table-solves}
-use Rattle.scatter.specs.Scatter.{blank, rowAt, valueAt, marks, weigh, clear, scatterRun, scatterAll, steps, stepSum, stepped, ClosedPattern, Laid}
-use Rattle.scatter.specs.Scatter.{Known, columnOf}
-use Rattle.scatter.specs.Sums.{run-take, Between, ColumnValues, scatter-run}
-use Rattle.scatter.specs.Marks.{empties, clear-long, clear-at, weigh-at, marks-marked}
-use Rattle.scatter.specs.ClosedPattern.{pattern-rows, degree-small, cell, cell-fits, cell-up, cell-is, width}
+use Rattle.scatter.specs.Scatter.{blank, rowAt, valueAt, weigh, clear, terms, Between, steps, stepSum, stepped, ClosedPattern, Laid, columnOf}
+use Rattle.scatter.specs.Sums.{run-take, terms-run}
+use Rattle.scatter.specs.Marks.{clear-long, clear-at, weigh-at}
+use Rattle.scatter.specs.ClosedPattern.{pattern-rows, degree-small}
 
 module _ (A : Arithmetic) (off on : A .Carrier → A .Carrier → A .Carrier) (none : A .Carrier) where
   -- ---- the column step
@@ -93,76 +92,38 @@ module _ (A : Arithmetic) (off on : A .Carrier → A .Carrier → A .Carrier) (n
     abbrev pub tableOf : ℕ → ℕ → A .Carrier
     tableOf = table A off on n diag desc
 
-    holds : (j : ℕ) (vals : List (A .Carrier)) → j < n → Known none n desc starts rows tableOf (suc j) vals → (pc : ℕ) → pc < length (desc j)
-        → ColumnValues A none tableOf (desc j) rows vals pc (getD starts (rowAt none (desc j) pc) 0) (suc (length (desc (rowAt none (desc j) pc))))
-    holds j vals jn K pc pm =
-        let c : ℕ = rowAt none (desc j) pc in
-        let cn : c < n = P .fits j pc jn pm in
-        let cs : (x : ℕ) → x < suc (length (desc c))
-        → getD rows (getD starts c 0 + x) 0 ≡ cell none desc c x = λ x h. cell-is none n desc starts rows L c x cn h in
-        record {
-          some = suc-le-suc zero-le;
-          own = cs 0 (suc-le-suc zero-le);
-          fits = λ x h. subst (λ (i : ℕ). i < maxDimension) (sym (cs x h)) (lt-of-lt-of-le (cell-fits none n desc P c x cn h) (P .small));
-          up = λ x y l h. subst (λ (i : ℕ). i < getD rows (getD starts c 0 + y) 0) (sym (cs x (lt-trans l h)))
-              (subst (λ (i : ℕ). cell none desc c x < i) (sym (cs y h)) (cell-up none n desc P c x y cn l h));
-          values = λ x h. K .value c x (P .under j pc jn pm) cn h;
-          covers = λ u l h. let q = P .closed j pc u jn l h in (suc (q .0), suc-le-suc (q .1), cs (suc (q .0)) (suc-le-suc (q .1)) ∙ q .2);
-        }
-
-    module _ (j : ℕ) (jn : j < n) (w₀ s₀ : List (A .Carrier)) (wl : length w₀ ≡ maxDimension) (sl : length s₀ ≡ maxDimension) (vals : List (A .Carrier))
-        (K : Known none n desc starts rows tableOf (suc j) vals) where
+    module _ (j : ℕ) (jn : j < n) (w₀ : List (A .Carrier)) (wl : length w₀ ≡ maxDimension) where
       abbrev m : ℕ
       m = length (desc j)
 
       abbrev w : List (A .Carrier)
       w = weigh none (desc j) w₀ m
 
-      abbrev marker : List ℕ
-      marker = marks none (desc j) empties m
-
       weights : (p : ℕ) → p < m → getD w p none ≡ valueAt none (desc j) p
       weights p h = weigh-at none (desc j) w₀ m p (subst (λ (x : ℕ). m ≤ x) (sym wl) (degree-small none n desc P j jn)) h
 
-      begin : Between A none tableOf (desc j) 0 (clear (A .zero) s₀ m)
-      begin = record {
+      -- before the first column of the scatter
+      pub cleared : (s₀ : List (A .Carrier)) → length s₀ ≡ maxDimension
+          → Between A none tableOf rows (getD starts j 0 + 1) m w 0 (clear (A .zero) s₀ m)
+      unfolding terms
+      cleared s₀ sl = record {
         long = clear-long none (A .zero) s₀ m ∙ sl;
         done = λ p h. absurd (not-suc-le-zero h);
         rest = λ p l h. clear-at none (A .zero) s₀ m p (subst (λ (x : ℕ). m ≤ x) (sym sl) (degree-small none n desc P j jn)) h;
       }
 
-      pub scattered : (pc : ℕ) → pc ≤ m
-          → Between A none tableOf (desc j) pc (scatterAll A none starts rows vals (getD starts j 0 + 1) marker w (clear (A .zero) s₀ m) pc)
-      unfolding scatterAll
-      scattered zero h = begin
-      scattered (suc pc) h =
-          subst (λ (c : ℕ). Between A none tableOf (desc j) (suc pc)
-          (scatterRun A none rows vals (getD starts c 0) marker w pc before (getD starts (c + 1) 0 - getD starts c 0))) (sym (L .below j pc jn h))
-          (subst (λ (x : ℕ). Between A none tableOf (desc j) (suc pc)
-          (scatterRun A none rows vals (getD starts (rowAt none (desc j) pc) 0) marker w pc before x))
-          (sym (width none n desc starts rows L (rowAt none (desc j) pc) (P .fits j pc jn h)))
-          (scatter-run A none tableOf (desc j) (degree-small none n desc P j jn) (λ p u. P .up j p u jn) w weights marker
-          (marks-marked none (desc j) (λ p u. P .up j p u jn) (λ p l. lt-of-lt-of-le (P .fits j p jn l) (P .small))) rows vals pc
-          (getD starts (rowAt none (desc j) pc) 0) (suc (length (desc (rowAt none (desc j) pc)))) h (holds j vals jn K pc h) before
-          (scattered pc (le-of-lt h))))
-        where
-          before : List (A .Carrier)
-          before = scatterAll A none starts rows vals (getD starts j 0 + 1) marker w (clear (A .zero) s₀ m) pc
-
-      -- the part that the column step leaves is the table's column
-      pub column-right : (l : List (A .Carrier)) → length l ≡ suc m
-          → stepped A off on none (diag j) w (scatterAll A none starts rows vals (getD starts j 0 + 1) marker w (clear (A .zero) s₀ m) m) l m
-          ≡ columnOf tableOf desc j
-      column-right l long =
+      -- the part that the column step leaves after the last is the table's column
+      pub column-right : (s : List (A .Carrier)) → Between A none tableOf rows (getD starts j 0 + 1) m w m s
+          → (l : List (A .Carrier)) → length l ≡ suc m → stepped A off on none (diag j) w s l m ≡ columnOf tableOf desc j
+      column-right s B l long =
           stepped-is tableOf (desc j) j (diag j) w s weights below desc refl l long (S .diagonal-is j (le-refl j, jn))
         where
           S : Solves A off on diag desc (Lower n) tableOf
           S = table-solves A off on n diag desc (pattern-rows none n desc P)
 
-          s : List (A .Carrier)
-          s = scatterAll A none starts rows vals (getD starts j 0 + 1) marker w (clear (A .zero) s₀ m) m
-
           below : (p : ℕ) → p < m → off (diag j) (getD s p none) ≡ tableOf (rowAt none (desc j) p) j
           below p h =
-              ap (off (diag j)) (scattered m (le-refl m) .done p h ∙ ap (run A (λ k. at tableOf (rowAt none (desc j) p) k) (A .zero)) (take-length (desc j)))
+              ap (off (diag j)) (B .done p h
+              ∙ terms-run A none tableOf rows (getD starts j 0 + 1) w (desc j) (λ u l. L .below j u jn l) weights (getD rows (getD starts j 0 + 1 + p) 0)
+              ∙ ap (λ (i : ℕ). run A (λ k. at tableOf i k) (A .zero) (desc j)) (L .below j p jn h))
               ∙ sym (S .below-is (rowAt none (desc j) p) j (le-of-lt (P .under j p jn h), P .fits j p jn h) (P .under j p jn h))

@@ -1,14 +1,12 @@
 -- The factor-pattern route of Takahashi's recurrence, over any arithmetic: what each of its loops leaves, by count, and the pattern it runs on.
 -- `none` stands for a value past a list's end. Assumes nothing.
 use mathlib.Core.Path.{_≡_, refl}
-use mathlib.Core.Bool.{cond}
 use mathlib.Core.List.{List, [], _∷_, _++_, map}
-use Prim.Native.Nat.{ℕ, zero, suc, _+_, _-_, _≤_, _<_}
+use Prim.Native.Nat.{ℕ, zero, suc, _+_, _≤_, _<_}
 use native.Mathlib.Numerals.{add-one}
-use lib.Dec.{eqb, ltb}
 use lib.ListN.{length, getD, set, drop}
 use Rattle.refusal.specs.Bounds.{maxDimension}
-use Rattle.takahashi.specs.Recurrence.{Arithmetic, Entry}
+use Rattle.takahashi.specs.Recurrence.{Arithmetic, Entry, at}
 
 -- ---- a list of descendants, by position
 module _ {W : Type 0} (none : W) where
@@ -50,33 +48,23 @@ unfoldable pub unmarks : List ℕ → ℕ → List ℕ → ℕ → List ℕ
 unmarks rows a marker zero = marker
 unmarks rows a marker (suc p) = set (unmarks rows a marker p) (getD rows (a + p) 0) maxDimension
 
--- ---- the scatter
-module _ (A : Arithmetic) (none : A .Carrier) where
-  -- x added at i
-  abbrev pub addAt : List (A .Carrier) → ℕ → A .Carrier → List (A .Carrier)
-  addAt sums i x = set sums i (A .plus (getD sums i none) x)
+-- ---- the sums
+-- the first t terms of row i's sum, ascending: weights by position, the descendants' rows from b on, values of the table Z
+unfoldable pub terms : (A : Arithmetic) → A .Carrier → (ℕ → ℕ → A .Carrier) → List ℕ → ℕ → List (A .Carrier) → ℕ → ℕ → A .Carrier
+terms A none Z rows b weights i zero = A .zero
+terms A none Z rows b weights i (suc t) =
+    A .plus (terms A none Z rows b weights i t) (A .times (getD weights t none) (at Z i (getD rows (b + t) 0)))
 
-  -- one value z of the column at the position c, whose row has the mark m
-  unfoldable pub scatterOne : ℕ → ℕ → A .Carrier → List (A .Carrier) → List (A .Carrier) → List (A .Carrier)
-  scatterOne m c z weights sums =
-      cond (ltb m maxDimension)
-      (cond (eqb m c)
-      (addAt sums m (A .times (getD weights c none) z))
-      (addAt (addAt sums m (A .times (getD weights c none) z)) c (A .times (getD weights m none) z)))
-      sums
+module _ (A : Arithmetic) (none : A .Carrier) (Z : ℕ → ℕ → A .Carrier) (rows : List ℕ) (b m : ℕ) (weights : List (A .Carrier)) where
+  -- the first t terms of the sum at position p
+  abbrev pub termsAt : ℕ → ℕ → A .Carrier
+  termsAt p t = terms A none Z rows b weights (getD rows (b + p) 0) t
 
-  -- the first q values of the column that starts at a
-  unfoldable pub scatterRun : List ℕ → List (A .Carrier) → ℕ → List ℕ → List (A .Carrier) → ℕ → List (A .Carrier) → ℕ → List (A .Carrier)
-  scatterRun rows values a marker weights c sums zero = sums
-  scatterRun rows values a marker weights c sums (suc q) =
-      scatterOne (getD marker (getD rows (a + q) 0) 0) c (getD values (a + q) none) weights (scatterRun rows values a marker weights c sums q)
-
-  -- the columns of the first c descendants, whose rows stand from b on
-  unfoldable pub scatterAll : List ℕ → List ℕ → List (A .Carrier) → ℕ → List ℕ → List (A .Carrier) → List (A .Carrier) → ℕ → List (A .Carrier)
-  scatterAll starts rows values b marker weights sums zero = sums
-  scatterAll starts rows values b marker weights sums (suc c) =
-      scatterRun rows values (getD starts (getD rows (b + c) 0) 0) marker weights c (scatterAll starts rows values b marker weights sums c)
-      (getD starts (getD rows (b + c) 0 + 1) 0 - getD starts (getD rows (b + c) 0) 0)
+  -- between two columns: the sums before position c are whole, the others have their first c terms
+  pub record Between (c : ℕ) (sums : List (A .Carrier)) : Type 0 where
+    pub long : length sums ≡ maxDimension
+    pub done : (p : ℕ) → p < c → getD sums p none ≡ termsAt p m
+    pub rest : (p : ℕ) → c ≤ p → p < m → getD sums p none ≡ termsAt p c
 
 -- ---- the column step
 module _ (A : Arithmetic) (off on : A .Carrier → A .Carrier → A .Carrier) (none : A .Carrier) where
@@ -147,29 +135,6 @@ pub unmarks-next : (rows : List ℕ) (a : ℕ) (marker : List ℕ) (p : ℕ)
     → unmarks rows a marker (p + 1) ≡ set (unmarks rows a marker p) (getD rows (a + p) 0) maxDimension
 unfolding unmarks
 unmarks-next rows a marker p = rw add-one
-
-module _ (A : Arithmetic) (none : A .Carrier) where
-  module _ (rows : List ℕ) (values : List (A .Carrier)) (a : ℕ) (marker : List ℕ) (weights : List (A .Carrier)) (c : ℕ) (sums : List (A .Carrier)) where
-    pub scatterRun-none : sums ≡ scatterRun A none rows values a marker weights c sums 0
-    unfolding scatterRun
-    scatterRun-none = refl
-
-    pub scatterRun-next : (q : ℕ) → scatterRun A none rows values a marker weights c sums (q + 1)
-        ≡ scatterOne A none (getD marker (getD rows (a + q) 0) 0) c (getD values (a + q) none) weights
-        (scatterRun A none rows values a marker weights c sums q)
-    unfolding scatterRun
-    scatterRun-next q = rw add-one
-
-  module _ (starts rows : List ℕ) (values : List (A .Carrier)) (b : ℕ) (marker : List ℕ) (weights sums : List (A .Carrier)) where
-    pub scatterAll-none : sums ≡ scatterAll A none starts rows values b marker weights sums 0
-    unfolding scatterAll
-    scatterAll-none = refl
-
-    pub scatterAll-next : (c : ℕ) → scatterAll A none starts rows values b marker weights sums (c + 1)
-        ≡ scatterRun A none rows values (getD starts (getD rows (b + c) 0) 0) marker weights c (scatterAll A none starts rows values b marker weights sums c)
-        (getD starts (getD rows (b + c) 0 + 1) 0 - getD starts (getD rows (b + c) 0) 0)
-    unfolding scatterAll
-    scatterAll-next c = rw (add-one c)
 
 module _ (A : Arithmetic) (off on : A .Carrier → A .Carrier → A .Carrier) (none : A .Carrier) (d : A .Carrier) where
   pub steps-none : (sums part : List (A .Carrier)) → part ≡ steps A off on none d sums part 0

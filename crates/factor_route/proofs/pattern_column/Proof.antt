@@ -1,4 +1,4 @@
-use Rattle.factor_route.proofs.RouteLaws.{route-starts, route-stored, route-first, route-walk, route-step, route-unmark, route-column}
+use Rattle.factor_route.proofs.RouteLaws.{route-starts, route-stored, route-first, route-walk, route-marked, route-step, route-unmark, route-column}
 use borrow.Author.Needs.{needs}
 use native.Mathlib.Omega.{arith}
 use Prim.Native.Nat.{_≤_, _-_, _+_}
@@ -63,8 +63,14 @@ scatter-columns-requires c κs =
     let s = c .before .before .before .before .before .before .before .before .before .at3 in
     let t = c .before .before .before .before .before .before .before .before .at4 in
     let m = c .before .before .before .before .mark-column in
+    let W =
     route-walk (z .pre .0 .0) (z .args .j) (z .pre .0 .1) (a .result) (s .result) (t .result) (m .result) (a .ensures) (s .ensures) (t .ensures)
-    (m .ensures .count)
+    (m .ensures .count) in (
+      W .0,
+      W .1,
+      route-marked (z .pre .0 .0) (z .args .j) (z .pre .0 .1) (a .result) (s .result) (t .result) (m .result) (a .ensures) (s .ensures) (t .ensures)
+          (m .ensures .count) (z .args .marker .now) (z .args .weights .now) (z .args .sums .now) _ _ _ (z .pre .1 .0) (m .ensures),
+    )
 
 diagonal-requires : tie.Need-diagonal-requires
 diagonal-requires c κs =

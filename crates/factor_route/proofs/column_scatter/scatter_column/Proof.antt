@@ -1,22 +1,16 @@
-use Rattle.scatter.specs.Scatter.{scatterRun, scatterRun-none, scatterRun-next}
-use Rattle.exact.specs.Exact.{floats}
-use Rattle.refusal.specs.Bounds.{maxDimension}
-use mathlib.Core.Path.{subst, _≡_, ap, sym, _∙_}
-use lib.Seq.{set-getD}
-use lib.ListN.{set}
-use lib.Ieee.{nan}
+use Rattle.factor_route.proofs.ScatterLaws.{InColumn, ahead-mark, column-start, column-next, column-end}
 use borrow.Author.Needs.{needs}
 use native.Mathlib.Omega.{arith}
-use Prim.Native.Nat.{ℕ, _≤_, _<_, _-_}
+use Prim.Native.Nat.{_-_}
 use Rattle.factor_route.proofs.column_scatter.scatter_column.Statement.{statement}
 use Rattle.factor_route.proofs.column_scatter.scatter_column.Tie as tie
 
 abbrev Inv-loop : tie.InvT-loop
-Inv-loop rows values a len marker weights c sums₀ l held₀ q₀ sums held q =
-    (q ≤ len) × (set sums c held ≡ scatterRun floats nan rows values a marker weights c sums₀ q)
+Inv-loop rows values a e b m c marker weights sums₀ l held₀ t₀ q₀ sums held t q =
+    InColumn rows values a e b m c weights sums₀ q t held sums
 
 abbrev μ-loop : tie.MeasureT-loop
-μ-loop rows values a len marker weights c sums₀ l held₀ q₀ sums held q = len - q
+μ-loop rows values a e b m c marker weights sums₀ l held₀ t₀ q₀ sums held t q = m - t
 
 mul-l : tie.Need-mul-l Inv-loop μ-loop
 mul-l c = search needs
@@ -30,60 +24,86 @@ mul-held c = search needs
 element-copy-out-held : tie.Need-element-copy-out-held Inv-loop μ-loop
 element-copy-out-held c = search needs
 
-loop-holds : tie.Need-loop-holds Inv-loop μ-loop
-loop-holds c = (search needs, set-getD _ _ nan ∙ scatterRun-none floats nan _ _ _ _ _ _ _)
+mul-held-2 : tie.Need-mul-held-2 Inv-loop μ-loop
+mul-held-2 c = search needs
 
-add-at : tie.Need-add-at Inv-loop μ-loop
-add-at c = search needs
+shared-slice-read-held : tie.Need-shared-slice-read-held Inv-loop μ-loop
+shared-slice-read-held c = search needs
 
-at-requires : tie.Need-at-requires Inv-loop μ-loop
-at-requires c κs = search needs
-
--- the row has a place in the marker
-fits : (c : tie.After-at Inv-loop μ-loop) → c .at .result < maxDimension
-fits c =
-    let z = c .before .before .before .before .before .before .before in
-    subst (λ (x : ℕ). x < maxDimension) (sym (c .at .ensures)) (z .pre .0 .fits (c .before .before .loop .q) (omega arith))
-
-mul-scatter-entry : tie.Need-mul-scatter-entry Inv-loop μ-loop
-mul-scatter-entry c = let h : c .at .result < maxDimension = fits c in search needs
-
-element-copy-out-scatter-entry : tie.Need-element-copy-out-scatter-entry Inv-loop μ-loop
-element-copy-out-scatter-entry c = fits c
-
-add-scatter-entry : tie.Need-add-scatter-entry Inv-loop μ-loop
-add-scatter-entry c = search needs
-
-mul-scatter-entry-2 : tie.Need-mul-scatter-entry-2 Inv-loop μ-loop
-mul-scatter-entry-2 c = search needs
-
-shared-slice-read-scatter-entry : tie.Need-shared-slice-read-scatter-entry Inv-loop μ-loop
-shared-slice-read-scatter-entry c = search needs
-
-scatter-entry-requires : tie.Need-scatter-entry-requires Inv-loop μ-loop
-scatter-entry-requires c κs = search needs
+add-t : tie.Need-add-t Inv-loop μ-loop
+add-t c = search needs
 
 add-q : tie.Need-add-q Inv-loop μ-loop
 add-q c = search needs
+
+loop-holds : tie.Need-loop-holds Inv-loop μ-loop
+loop-holds c =
+    let z = c .before .before .before .before .before in
+    column-start (z .pre .0) (z .args .values .now) (z .args .weights .now) (z .pre .1) (z .args .sums .now)
+
+find-mark-requires : tie.Need-find-mark-requires Inv-loop μ-loop
+find-mark-requires c κs =
+    let z = c .before .before .before .before .before .before .before in
+    let l = c .before .loop in
+    ahead-mark (z .pre .0) (z .pre .1) (l .q) (l .t) (omega arith) (l .inv .ahead)
+
+mul-z : tie.Need-mul-z Inv-loop μ-loop
+mul-z c = search needs
+
+shared-slice-read-z : tie.Need-shared-slice-read-z Inv-loop μ-loop
+shared-slice-read-z c =
+    let h = c .before .find-mark .ensures .below in
+    omega (arith, c .before .before .before .before .before .before .before .before .before .pre .2)
+
+mul-sums : tie.Need-mul-sums Inv-loop μ-loop
+mul-sums c = search needs
+
+element-copy-out-sums : tie.Need-element-copy-out-sums Inv-loop μ-loop
+element-copy-out-sums c = search needs
+
+mul-sums-2 : tie.Need-mul-sums-2 Inv-loop μ-loop
+mul-sums-2 c = search needs
+
+element-write-sums : tie.Need-element-write-sums Inv-loop μ-loop
+element-write-sums c = search needs
+
+mul-held-3 : tie.Need-mul-held-3 Inv-loop μ-loop
+mul-held-3 c = search needs
+
+element-copy-out-held-2 : tie.Need-element-copy-out-held-2 Inv-loop μ-loop
+element-copy-out-held-2 c = search needs
+
+add-t-2 : tie.Need-add-t-2 Inv-loop μ-loop
+add-t-2 c = search needs
+
+add-q-2 : tie.Need-add-q-2 Inv-loop μ-loop
+add-q-2 c =
+    let h = c .before .before .before .find-mark .ensures .below in
+    omega (arith, c .before .before .before .before .before .before .before .before .before .before .before .pre .2)
 
 loop-less : tie.Need-loop-less Inv-loop μ-loop
 loop-less c = search needs
 
 loop-again : tie.Need-loop-again Inv-loop μ-loop
 loop-again c =
-    let i = c .before .before .before .before .before .before .loop in
-    (omega arith, rw (scatterRun-next floats nan, ← i .inv .1, ← c .before .before .before .before .at .ensures) (c .scatter-entry .ensures))
+    let z = c .before .before .before .before .before .before .before .before .before .before .before in
+    let l = c .before .before .before .before .before .loop in
+    let p = c .before .before .before .find-mark in
+    column-next (z .pre .0) (z .args .values .now) (z .args .weights .now) (z .pre .1) (z .args .sums .now) (l .q) (l .t) (p .result) (l .held) (l .sums)
+    (omega arith) (p .ensures) (l .inv)
 
-mul-sums : tie.Need-mul-sums Inv-loop μ-loop
-mul-sums c = search needs
+mul-sums-3 : tie.Need-mul-sums-3 Inv-loop μ-loop
+mul-sums-3 c = search needs
 
-element-write-sums : tie.Need-element-write-sums Inv-loop μ-loop
-element-write-sums c = search needs
+element-write-sums-2 : tie.Need-element-write-sums-2 Inv-loop μ-loop
+element-write-sums-2 c = search needs
 
 returns : tie.Need-returns Inv-loop μ-loop
 returns c =
-    let e : c .before .loop .q ≡ c .before .before .before .before .before .before .args .len = omega arith in
-    c .before .loop .inv .1 ∙ ap (scatterRun floats nan _ _ _ _ _ _ _) e
+    let z = c .before .before .before .before .before .before .before in
+    let l = c .before .loop in
+    column-end (z .pre .0) (z .args .values .now) (z .args .weights .now) (z .pre .1) (z .args .sums .now) (l .q) (l .t) (l .held) (l .sums) (omega arith)
+    (l .inv)
 
 pub scatter-column-spec : {M : Type 1} → statement M
 scatter-column-spec =
@@ -95,18 +115,24 @@ scatter-column-spec =
     element-copy-out-l
     mul-held
     element-copy-out-held
-    loop-holds
-    add-at
-    at-requires
-    mul-scatter-entry
-    element-copy-out-scatter-entry
-    add-scatter-entry
-    mul-scatter-entry-2
-    shared-slice-read-scatter-entry
-    scatter-entry-requires
+    mul-held-2
+    shared-slice-read-held
+    add-t
     add-q
+    loop-holds
+    find-mark-requires
+    mul-z
+    shared-slice-read-z
+    mul-sums
+    element-copy-out-sums
+    mul-sums-2
+    element-write-sums
+    mul-held-3
+    element-copy-out-held-2
+    add-t-2
+    add-q-2
     loop-less
     loop-again
-    mul-sums
-    element-write-sums
+    mul-sums-3
+    element-write-sums-2
     returns)
