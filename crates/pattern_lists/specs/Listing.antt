@@ -1,23 +1,19 @@
 -- The marked pairs of a row, written behind the pairs that are listed already.
 -- Assumes nothing.
-use Prim.Native.Nat.{ℕ, _+_, _-_, _≤_, _<_}
+use Prim.Native.Nat.{ℕ, _+_, _/_, _≤_, _<_}
 use native.Mathlib.Omega.{arith}
-use mathlib.Core.Path.{_≡_, refl, sym, ap, ap₂, _∙_}
-use mathlib.Core.Bool.{Bool}
-use mathlib.Core.List.{List, map, map-id}
-use lib.ListN.{length, length-map}
-use lib.Seq.{ext-getD}
-use Rattle.lists.specs.Tabulate.{tabulate, tabulate-length, tabulate-at}
-use Rattle.lists.specs.Select.{select, tally, select-cong, getD-mapped}
+use mathlib.Core.Path.{_≡_, refl, sym, ap, _∙_}
+use mathlib.Core.List.{List, map}
+use lib.ListN.{length}
+use Rattle.lists.specs.Select.{select, tally}
 use Rattle.lists.specs.Overwrite.{overwrite, overwrite-none, splice, splice-overwrite}
 use Rattle.lists.specs.Cells.{cells, cells-none, cells-next, cells-length, cellCount, cellCount-next, cellCount-mono}
 use Rattle.bits.specs.Bits.{bitWords}
 use Rattle.pairs.specs.Scratch.{markWords}
 use Rattle.refusal.specs.Bounds.{maxDimension}
-use Rattle.pairs.specs.Pair.{pairTotal, pairTotal-next, pairTotal-mono, rowStart, rowEnd, pairRows, pairColumns, pairCount}
+use Rattle.pairs.specs.Pair.{pairTotal, pairTotal-mono, maxPairs, rowStart, rowEnd, pairRows, pairColumns, pairCount}
 use Rattle.pairs.specs.Marks.{marking}
-use Rattle.set_bits.specs.Listed.{NumbersListed}
-use Rattle.set_bits.specs.BitsListed.{bitsTest, ListInput}
+use Rattle.set_bits.specs.Zeros.{Zeros}
 
 -- there is room for the row's marked pairs
 pub record RowRoom (marks : List ℕ) (r count : ℕ) (rows columns : List ℕ) : Type 0 where
@@ -25,6 +21,12 @@ pub record RowRoom (marks : List ℕ) (r count : ℕ) (rows columns : List ℕ) 
   pub stored : markWords (r + 1) ≤ length marks
   pub rows-fit : count + tally (marking marks r) 0 (r + 1) ≤ length rows
   pub columns-fit : count + tally (marking marks r) 0 (r + 1) ≤ length columns
+
+-- the row's bits start at `place`, and from there on the words are 0 up to the word w
+pub record RowReached (marks : List ℕ) (r place w : ℕ) : Type 0 where
+  pub starts : place ≡ pairTotal r
+  pub zeros : Zeros marks (place / 32) (length marks) w
+  pub small : w ≤ maxPairs
 
 -- there is room for all marked pairs
 pub record PairsRoom (marks : List ℕ) (n : ℕ) (rows columns : List ℕ) : Type 0 where
@@ -44,54 +46,6 @@ pub record PairsListed (marks : List ℕ) (m : ℕ) (rows columns rows′ column
   pub count-is : count ≡ pairCount m (marking marks)
   pub rows-is : rows′ ≡ overwrite (pairRows m (marking marks)) rows
   pub columns-is : columns′ ≡ overwrite (pairColumns m (marking marks)) columns
-
--- ---- a row
-
--- the row's bits say its columns
-row-select : (marks : List ℕ) (r : ℕ) → select (bitsTest marks (pairTotal r) 0) 0 (r + 1) ≡ select (marking marks r) 0 (r + 1)
-row-select marks r =
-    select-cong (bitsTest marks (pairTotal r) 0) (marking marks r) 0 (r + 1)
-    (λ c _ _.
-    let q : c - 0 ≡ c = omega arith in
-    ap (marking marks r) q)
-
--- room for the columns that the bits say
-pub row-room : {marks : List ℕ} {r count : ℕ} {rows columns : List ℕ} → RowRoom marks r count rows columns → ListInput (r + 1) (pairTotal r) 0 count columns marks
-row-room {marks} {r} R =
-    let t : pairTotal r + (r + 1 - 0) ≡ pairTotal (r + 1) = omega (arith, pairTotal-next r) in
-    record {
-      room = record {
-        small = omega (arith, R .small);
-        within = omega arith;
-        fits = omega (arith, R .columns-fit, ap length (row-select marks r));
-      };
-      inside = omega arith;
-      stored = omega (arith, R .stored, ap bitWords t);
-    }
-
--- a number, as often as a list is long
-map-repeat : (x : ℕ) (l : List ℕ) → map (λ c. x) l ≡ tabulate (λ _. x) (length l)
-map-repeat x l =
-    let n : length (map (λ c. x) l) ≡ length l = length-map l (λ c. x) in
-    ext-getD 0 _ _ (n ∙ sym (tabulate-length (λ _. x) (length l)))
-    (λ i h. getD-mapped (λ c. x) l i 0 0 (omega arith) ∙ sym (tabulate-at (λ _. x) (length l) i 0 (omega arith)))
-
--- the count behind the row
-pub row-count : (marks : List ℕ) (r : ℕ) {count : ℕ} {columns columns′ : List ℕ} {m : ℕ} → NumbersListed (bitsTest marks (pairTotal r) 0) 0 (r + 1) count columns columns′ m → m ≡ count + tally (marking marks r) 0 (r + 1)
-row-count marks r {count} L = L .count-is ∙ ap (λ (l : List ℕ). count + length l) (row-select marks r)
-
--- the columns that the bits say, and the row's number as often
-pub row-listed : {marks : List ℕ} {r count : ℕ} {rows columns rows′ columns′ : List ℕ} {m : ℕ} → NumbersListed (bitsTest marks (pairTotal r) 0) 0 (r + 1) count columns columns′ m
-    → rows′ ≡ splice count (tabulate (λ _. r) (m - count)) rows → RowListed marks r count rows columns rows′ columns′ m
-row-listed {marks} {r} {count} {rows} {columns} {rows′} {columns′} {m} L e =
-    let k : m - count ≡ tally (marking marks r) 0 (r + 1) = omega (arith, row-count marks r L) in
-    record {
-      count-is = row-count marks r L;
-      rows-is =
-          e ∙ ap (λ (j : ℕ). splice count (tabulate (λ _. r) j) rows) k
-          ∙ ap (λ (l : List ℕ). splice count l rows) (sym (map-repeat r (select (marking marks r) 0 (r + 1))));
-      columns-is = L .list-is ∙ ap (λ (l : List ℕ). splice count l columns) (row-select marks r ∙ sym (map-id (select (marking marks r) 0 (r + 1))));
-    }
 
 -- ---- row by row
 

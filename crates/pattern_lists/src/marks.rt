@@ -1,15 +1,17 @@
 // Marks of pairs, one bit for each, row by row: a pair is marked, and the marked pairs are listed ascending by row then column.
 ghost use mathlib.Core.Path.{_≡_};
-ghost use Prim.Native.Nat.{_-_, _≤_};
+ghost use Prim.Native.Nat.{_-_, _*_, _/_, _≤_, min};
 ghost use lib.ListN.{length};
 ghost use Rattle.lists.specs.Tabulate.{tabulate};
 ghost use Rattle.lists.specs.Overwrite.{splice};
 ghost use Rattle.refusal.specs.Bounds.{maxDimension};
-ghost use Rattle.pairs.specs.Pair.{rowPlace};
+ghost use Rattle.pairs.specs.Pair.{maxPairs, rowPlace};
 ghost use Rattle.pairs.specs.Marks.{Added, MarkPairInput, single};
-ghost use Rattle.pattern_lists.specs.Listing.{RowRoom, RowListed, PairsRoom, PairsListed};
+ghost use Rattle.set_bits.specs.Zeros.{Zeros};
+ghost use Rattle.pattern_lists.specs.Listing.{RowRoom, RowReached, RowListed, PairsRoom, PairsListed};
 use scratch::pair_total;
 use set_bits::list_bits;
+use set_bits::zero_words::skip_zeros;
 use words::bit_words::set_bit;
 
 // The place of (r, c).
@@ -41,12 +43,48 @@ fn repeat_row(r: usize, s: usize, e: usize, rows: &mut [u32])
     }
 }
 
-// Lists the marked pairs of row r behind `first` pairs; returns how many are listed.
-fn list_row(r: usize, first: usize, marks: &[u32], rows: &mut [u32], columns: &mut [u32]) -> usize
+// A word, not before that of `place`, up to which the words from there on are 0: w as before where it is such a word.
+fn marked_word(place: usize, w: usize, marks: &[u32]) -> usize
+    requires { ⌜ place / 32 ≤ length (now marks) ⌝ }
+    requires { ⌜ Zeros (now marks) (min (place / 32) w) (length (now marks)) w ⌝ }
+    ensures { λ k. ⌜ Zeros (now (marks .entry)) (place / 32) (length (now (marks .entry))) k ⌝ }
+{
+    if place / 32 <= w {
+        return w;
+    }
+    skip_zeros(marks, place / 32, marks.len())
+}
+
+// How many bits from `place` on stand before the word w.
+fn bits_before(place: usize, w: usize) -> usize
+    requires { ⌜ w ≤ maxPairs ⌝ }
+    ensures { λ k. ⌜ k ≡ w * 32 - place ⌝ }
+{
+    if w * 32 <= place {
+        return 0;
+    }
+    w * 32 - place
+}
+
+// Lists the marked pairs of row r, whose bits start at `place`, behind `first` pairs; returns how many are listed. From there on the words are 0 up to the word w: a row that ends before it has no mark.
+fn list_row(
+    r: usize,
+    place: usize,
+    w: usize,
+    first: usize,
+    marks: &[u32],
+    rows: &mut [u32],
+    columns: &mut [u32],
+) -> usize
     requires { ⌜ RowRoom (now marks) r first (now rows) (now columns) ⌝ }
+    requires { ⌜ RowReached (now marks) r place w ⌝ }
     ensures { λ m. ⌜ RowListed (now (marks .entry)) r first (now (rows .entry)) (now (columns .entry)) (now (rows .exit)) (now (columns .exit)) m ⌝ }
 {
-    let count = list_bits(r + 1, pair_total(r), 0, first, columns, marks);
+    let low = bits_before(place, w);
+    if r < low {
+        return first;
+    }
+    let count = list_bits(r + 1, place + low, low, first, columns, marks);
     repeat_row(r, first, count, rows);
     count
 }
@@ -57,9 +95,13 @@ pub fn list_pairs(n: usize, marks: &[u32], rows: &mut [u32], columns: &mut [u32]
     ensures { λ m. ⌜ PairsListed (now (marks .entry)) n (now (rows .entry)) (now (columns .entry)) (now (rows .exit)) (now (columns .exit)) m ⌝ }
 {
     let mut count = 0;
+    let mut place = 0;
+    let mut w = 0;
     let mut r = 0;
     while r < n {
-        count = list_row(r, count, marks, rows, columns);
+        w = marked_word(place, w, marks);
+        count = list_row(r, place, w, count, marks, rows, columns);
+        place += r + 1;
         r += 1;
     }
     count

@@ -1,45 +1,42 @@
-use Prim.Native.Nat.{ℕ, _≤_, _<_, _-_, _+_}
 use native.Mathlib.Omega.{arith}
-use mathlib.Core.Path.{_≡_, refl, sym, ap, subst, _∙_}
-use lib.ListN.{length}
-use denote.Ref.{now}
 use borrow.Author.Needs.{needs}
-use Rattle.pairs.specs.Pair.{pairTotal}
-use Rattle.set_bits.specs.Listed.{NumbersListed}
-use Rattle.set_bits.specs.BitsListed.{bitsTest, ListInput}
-use Rattle.pattern_lists.specs.Listing.{row-room, row-count, row-listed}
+use Rattle.pairs.specs.Pair.{pairTotal-small}
+use Rattle.pattern_lists.proofs.RowLaws.{row-none, row-room, row-count, row-listed}
 use Rattle.pattern_lists.proofs.marks.list_row.Statement.{statement}
 use Rattle.pattern_lists.proofs.marks.list_row.Tie as tie
 
-abbrev start : tie.After-list-bits → tie.Start
-start q = q .before .before .before .before .before .before
+abbrev start : tie.After-bits-before → tie.Start
+start q = q .before .before .before .before
 
--- the row's columns
-columns : (c : tie.After-list-bits) → NumbersListed (bitsTest (now (start c .args .marks)) (pairTotal (start c .args .r)) 0) 0 (start c .args .r + 1) (start c .args .first) (now (start c .args .columns)) (c .list-bits .last .1 .1 .1 .1 .0) (c .list-bits .result)
-columns c =
-    let a = start c .args in
-    subst (λ (p : ℕ). NumbersListed (bitsTest (now (a .marks)) p 0) 0 (a .r + 1) (a .first) (now (a .columns)) (c .list-bits .last .1 .1 .1 .1 .0) (c .list-bits .result)) (c .before .before .pair-total .ensures .0) (c .list-bits .ensures)
+bits-before-requires : tie.Need-bits-before-requires
+bits-before-requires c κs = c .before .before .before .pre .1 .small
+
+returns : tie.Need-returns
+returns c =
+    let b = c .before in
+    row-none (start b .pre .1) (b .bits-before .ensures) _ _ _ (c .if1 .taken)
 
 add-list-bits : tie.Need-add-list-bits
-add-list-bits c = omega (arith, c .before .before .before .pre .small)
+add-list-bits c = omega (arith, start (c .before) .pre .0 .small)
 
-pair-total-requires : tie.Need-pair-total-requires
-pair-total-requires c κs = omega (arith, c .before .before .before .pre .small)
+add-list-bits-2 : tie.Need-add-list-bits-2
+add-list-bits-2 c =
+    let P = start (c .before) .pre in
+    omega (arith, P .1 .starts, P .0 .small, pairTotal-small (start (c .before) .args .r) (omega (arith, P .0 .small)), c .if1 .left)
 
 list-bits-requires : tie.Need-list-bits-requires
 list-bits-requires c κs =
-    let t = c .before in
-    let s = t .before .before .before .before in
-    let a = s .args in
-    subst (λ (p : ℕ). ListInput (a .r + 1) p 0 (a .first) (now (a .columns)) (now (a .marks))) (sym (t .pair-total .ensures .0)) (row-room (s .pre))
+    let i = c .before in
+    let P = start (i .before) .pre in
+    row-room (P .1) (i .before .bits-before .ensures) (i .if1 .left) (P .0)
 
 repeat-row-requires : tie.Need-repeat-row-requires
 repeat-row-requires c κs =
     let v = c .before .before .before in
-    let s = start v in
-    let P = s .pre in
-    let m = row-count (now (s .args .marks)) (s .args .r) (columns v) in
-    (omega (arith, P .small), omega arith, omega (arith, P .rows-fit))
+    let i = v .before .before in
+    let P = start (i .before) .pre in
+    let m = row-count (P .1) (i .before .bits-before .ensures) (i .if1 .left) (v .list-bits .ensures) in
+    (omega (arith, P .0 .small), omega arith, omega (arith, P .0 .rows-fit))
 
 same-length : tie.Need-same-length
 same-length c = search needs
@@ -47,20 +44,24 @@ same-length c = search needs
 same-length-2 : tie.Need-same-length-2
 same-length-2 c = search needs
 
-returns : tie.Need-returns
-returns c =
-    let w = c .before .before in
-    let v = w .before .before .before .before in
-    row-listed (columns v) (w .repeat-row .ensures)
+returns-2 : tie.Need-returns-2
+returns-2 c =
+    let u = c .before .before in
+    let v = u .before .before .before .before in
+    let i = v .before .before in
+    let P = start (i .before) .pre in
+    row-listed (P .1) (i .before .bits-before .ensures) (i .if1 .left) (v .list-bits .ensures) (u .repeat-row .ensures)
 
 pub list-row-spec : {M : Type 1} → statement M
 list-row-spec =
     tie.close
     (tie.spec
+    bits-before-requires
+    returns
     add-list-bits
-    pair-total-requires
+    add-list-bits-2
     list-bits-requires
     repeat-row-requires
     same-length
     same-length-2
-    returns)
+    returns-2)
