@@ -1,5 +1,5 @@
 use Prim.Native.Nat.{ℕ, _+_, _/_}
-use mathlib.Core.Path.{_≡_, ap}
+use mathlib.Core.Path.{ap}
 use borrow.Author.Needs.{needs}
 use Rattle.bits.specs.Bits.{bitWords}
 use Rattle.scratch.proofs.mark_words.Statement.{statement}
