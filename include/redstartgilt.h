@@ -64,7 +64,7 @@ typedef struct { uint32_t refusal; double value; } redstartgilt_entry;
  * also where the pair is absent. */
 typedef struct { uint32_t refusal; double value; size_t looks; } redstartgilt_counted_entry;
 
-/* The reply of a pattern list: a refusal, or the number of pairs written. */
+/* The reply of a pattern list or of a chain: a refusal, or the number of pairs written. On a refusal that is 0. */
 typedef struct { uint32_t refusal; size_t pairs; } redstartgilt_pairs;
 
 /* The reply of the floor: a refusal, or the floor and how many values were raised to it. */
@@ -236,6 +236,40 @@ redstartgilt_selected redstartgilt_selected_inverse_transformed_covariances(
     const uint32_t *a_rows, size_t a_rows_len, const uint32_t *b_rows, size_t b_rows_len,
     uint32_t *result_starts, size_t result_starts_len, uint32_t *result_rows, size_t result_rows_len, double *result_values, size_t result_values_len,
     uint32_t *scratch, size_t scratch_len, double *output, size_t output_len);
+
+/* Why a pair is in the closed set of the requests: a chain from a requested pair to it, each pair a dependency of the one
+ * before. The dependencies of a pair (r, c), r >= c, are the pairs (r, d), put in order, for each kept entry (d, c) of L
+ * below the diagonal. Pair k of the chain is (chain_rows[k], chain_columns[k]), row >= column: the first is a requested
+ * one, the last is (row, column), exchanged if row < column. No chain to it has fewer pairs. Of those with as few it is
+ * the one whose pair before the last is lowest by column then row, then the pair before that, and so on back. The chain
+ * of a requested pair is that pair. Requests are as in selected entries; no limit is applied.
+ *
+ * The reply has the number of pairs; 0 is the answer for a pair that is not in the set. The chain lists are then as they
+ * were, and may be of any length. Otherwise each needs a place for each pair of the chain. Row + column rises from pair to
+ * pair, so 2n places are enough for every chain. Scratch needs 2T + 4n words, of any contents. Refuses, in this order:
+ *   1, 2, 3, 18, 4, 5, 6   as selected entries does
+ *   7   scratch too short
+ *   5   row or column n or more, as every one is where n is 0
+ *   7   a chain list shorter than the chain; the scratch is then 0 as after an answer, the chain lists as they were
+ * An answer, also 0 pairs, leaves the first 2T + 4n words of the scratch 0, and later words as they were.
+ *
+ * The cost is that of the whole closed set, whichever pair is asked for: each request once, for each pair of the set the
+ * stored entries of its column, and clearing the scratch. Then each pair of the chain costs at most the stored entries of
+ * the columns up to its own.
+ *
+ * Of the factor with columns (1, 2, 3), (1) and (1), with (0, 0) requested, the chain to (2, 1):
+ *   const uint32_t starts[] = {0, 3, 4, 5}, rows[] = {0, 1, 2, 1, 2}, request_rows[] = {0}, request_columns[] = {0};
+ *   const double values[] = {1.0, 2.0, 3.0, 1.0, 1.0};
+ *   uint32_t scratch[24], chain_rows[6], chain_columns[6];
+ *   redstartgilt_pairs reply = redstartgilt_dependency_chain(
+ *       3, starts, 4, rows, 5, values, 5, 3, request_rows, 1, request_columns, 1, 2, 1,
+ *       scratch, 24, chain_rows, 6, chain_columns, 6);
+ * gives refusal 0 and 3 pairs, (0, 0), (1, 0) and (2, 1). */
+redstartgilt_pairs redstartgilt_dependency_chain(
+    size_t n, const uint32_t *starts, size_t starts_len, const uint32_t *rows, size_t rows_len, const double *values, size_t values_len,
+    size_t dimension, const uint32_t *request_rows, size_t request_rows_len, const uint32_t *request_columns, size_t request_columns_len,
+    size_t row, size_t column,
+    uint32_t *scratch, size_t scratch_len, uint32_t *chain_rows, size_t chain_rows_len, uint32_t *chain_columns, size_t chain_columns_len);
 
 /* Requests from a Matrix Market file. The text is the whole file, of any length:
  *   the header, which is the first line, exactly %%MatrixMarket matrix coordinate pattern symmetric

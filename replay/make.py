@@ -31,7 +31,8 @@ What the answers file holds is the Rust's answer with these changes:
 The Rust has no reader of Matrix Market files. The answers of kind `mmread` are those of `read_file`
 below, which follows document 02's text, and the files of the set `mmread` are made here too. Nor does it
 count the places that a search looks at: of kind `search` places and looks are those of `search` below,
-and the columns of the set are made here.
+and the columns of the set are made here. Nor has it a chain to a pair: the answers of kind `chain` are those
+of `chain_of` below, which follows document 02's text, and the set is made here.
 """
 import collections, itertools, math, os, random, re, struct, subprocess, sys
 
@@ -50,6 +51,7 @@ SETS = {
     "diagorig": (60, 4000, 12),
     "opvar": (80, 4000, 12),
     "covar": (56, 2000, 4),
+    "chain": (60, 1500, 4),
     "floor": (90, 2000, 12),
     "least": (60, 2000, 12),
     "perm": (90, 2000, 12),
@@ -70,6 +72,7 @@ RESULT = {"lstarts": ROOM, "lrows": ENTRIES, "lvalues": ENTRIES, "lscratch": 670
 OUTPUT = {"lout": ROOM}
 MARKED = {"lout": ROOM, "lmarks": ROOM}
 PATTERN = {"lscratch": ENTRIES, "lprows": ENTRIES, "lpcols": ENTRIES}
+CHAIN = {"lscratch": 67072, "lcrows": ENTRIES, "lccols": ENTRIES}
 LENT = {
     "entries": RESULT,
     "get": {},
@@ -84,6 +87,7 @@ LENT = {
     "diagorig": {**RESULT, **OUTPUT},
     "opvar": {**RESULT, **OUTPUT},
     "covar": {**RESULT, **OUTPUT},
+    "chain": CHAIN,
     "floor": OUTPUT,
     "least": {},
     "mmread": {"lrrows": ROOM, "lrcols": ROOM},
@@ -103,12 +107,13 @@ READ = {
     "diagorig": FACTOR + ("perm",),
     "opvar": FACTOR + OPERATOR,
     "covar": FACTOR + OPERATOR_A + OPERATOR_B + ("arows", "brows"),
+    "chain": FACTOR + ("rdim", "rrows", "rcols", "prow", "pcol"),
     "floor": ("floor", "scale", "input"),
     "least": ("input",),
     "mmread": ("file",),
 }
 FIELDS = {kind: (*LENT[kind], *READ[kind]) for kind in READ}
-SCALARS = ("n", "rdim", "limit", "ncols", "ancols", "bncols", "floor", "scale")
+SCALARS = ("n", "rdim", "limit", "ncols", "ancols", "bncols", "prow", "pcol", "floor", "scale")
 VALUES = ("values", "oweights", "aweights", "bweights", "input", "lvalues", "lout")
 BYTES = ("file",)
 MARKS = ("marks", "lmarks")
@@ -290,6 +295,19 @@ def triangle(n):
     return n * (n + 1) // 2
 
 
+def mark_words(n):
+    """A bit for each pair."""
+    return -(-triangle(n) // 32)
+
+
+def scratch_words(n):
+    return mark_words(n) + triangle(n) + 4 * n
+
+
+def chain_words(n):
+    return 2 * triangle(n) + 4 * n
+
+
 def room(kind, f, name):
     """The length of a lent list."""
     return len(f[name]) if name in f else LENT[kind][name]
@@ -337,13 +355,12 @@ def diagonal_refusals(f):
 
 
 def room_refusals(kind, f, limit):
-    n = f["n"]
-    entries = min(limit, triangle(n))
+    n, entries = f["n"], min(limit, triangle(f["n"]))
     if (
         room(kind, f, "lstarts") < n + 1
         or room(kind, f, "lrows") < entries
         or room(kind, f, "lvalues") < entries
-        or room(kind, f, "lscratch") < 2 * triangle(n) + 4 * n
+        or room(kind, f, "lscratch") < scratch_words(n)
     ):
         yield 7
 
@@ -388,7 +405,8 @@ def operator_pattern(f):
     return {(max(a, b), min(a, b)) for row in rows for a in row for b in row}
 
 
-def entries_refusals(f):
+def request_refusals(f):
+    """The steps before 7 where a factor and requests are given."""
     n, rows, cols = f["n"], f["rrows"], f["rcols"]
     if n > MOST_COLUMNS or len(f["rows"]) > MOST_ENTRIES or len(rows) > MOST_ENTRIES:
         yield 1
@@ -398,6 +416,10 @@ def entries_refusals(f):
     if any(i >= n for i in rows + cols):
         yield 5
     yield from diagonal_refusals(f)
+
+
+def entries_refusals(f):
+    yield from request_refusals(f)
     yield from room_refusals("entries", f, limit_of(f))
 
 
@@ -421,7 +443,7 @@ def diag_refusals(f):
 
 
 def pattern_refusals(kind, f, n, pattern):
-    if room(kind, f, "lscratch") < triangle(n):
+    if room(kind, f, "lscratch") < mark_words(n):
         yield 7
     pairs = len(pattern(f))
     if room(kind, f, "lprows") < pairs or room(kind, f, "lpcols") < pairs:
@@ -604,6 +626,84 @@ def covar_answer(f, got):
     return {**got, "out": [str(len(out))] + out}
 
 
+# ---- document 02: the chain to a pair. A chain is its pairs (row, column), from the requested one on.
+
+# to this dimension every chain is made too
+EVERY_CHAIN = 5
+
+
+def ordered(row, col):
+    return max(row, col), min(row, col)
+
+
+def chain_ends(f):
+    """The requested pairs, each once, and the pair that is asked about."""
+    return {ordered(*pair) for pair in zip(f["rrows"], f["rcols"], strict=True)}, ordered(f["prow"], f["pcol"])
+
+
+def dependencies(f):
+    """The dependencies of a pair, as a function."""
+    below = [[r for r, _ in kept(f, c) if r > c] for c in range(f["n"])]
+    return lambda pair: [ordered(pair[0], d) for d in below[pair[1]]]
+
+
+def preference(chain):
+    """What document 02 compares: how many pairs, then the pair before the last by column and row, the one before that, and so on."""
+    return len(chain), [(col, row) for row, col in reversed(chain[:-1])]
+
+
+def chosen_chain(f):
+    """The preferred one of all chains to the pair that have as few pairs as any: all chains from the requests, one pair longer
+    each time, until some of them end with the pair, or none can be made longer."""
+    requests, sought = chain_ends(f)
+    after = dependencies(f)
+    chains = [[pair] for pair in requests]
+    while chains:
+        found = [chain for chain in chains if chain[-1] == sought]
+        if found:
+            return min(found, key=preference)
+        chains = [[*chain, pair] for chain in chains for pair in after(chain[-1])]
+    return []
+
+
+def swept_chains(f):
+    """The preferred chain to each pair of the set. A dependency's row and column have a larger sum than those of its pair, so
+    with rising sums the chain to a pair is known before it is made longer."""
+    after, best = dependencies(f), {pair: [pair] for pair in chain_ends(f)[0]}
+    for pair in sorted(((r, c) for r in range(f["n"]) for c in range(r + 1)), key=sum):
+        for dependency in after(pair) if pair in best else ():
+            chain = [*best[pair], dependency]
+            if dependency not in best or preference(chain) < preference(best[dependency]):
+                best[dependency] = chain
+    return best
+
+
+def chain_of(f):
+    """The chain of an accepted case, no pairs where the pair is not in the set."""
+    chain = swept_chains(f).get(chain_ends(f)[1], [])
+    assert f["n"] > EVERY_CHAIN or chain == chosen_chain(f), f
+    return chain
+
+
+def chain_refusals(f):
+    n = f["n"]
+    yield from request_refusals(f)
+    if room("chain", f, "lscratch") < chain_words(n):
+        yield 7
+    if max(f["prow"], f["pcol"]) >= n:
+        yield 5
+    if min(room("chain", f, "lcrows"), room("chain", f, "lccols")) < len(chain_of(f)):
+        yield 7
+
+
+def chain_answer(f):
+    """The answer to an accepted case, as the Rust tells those of other kinds."""
+    chain = chain_of(f)
+    rows, cols = ([str(pair[k]) for pair in chain] for k in (0, 1))
+    count = str(len(chain))
+    return {"reply": ["ok"], "chain": [count if chain else "none"], "crows": [count] + rows, "ccols": [count] + cols}
+
+
 # ---- document 02: the requests of a file
 
 
@@ -674,6 +774,7 @@ REFUSALS = {
     "diagorig": diagorig_refusals,
     "opvar": opvar_refusals,
     "covar": covar_refusals,
+    "chain": chain_refusals,
     "floor": floor_refusals,
     "least": no_refusals,
     "mmread": mmread_refusals,
@@ -738,6 +839,7 @@ TOLD = {
     "diagorig": DIAGNOSIS,
     "opvar": DIAGNOSIS,
     "covar": DIAGNOSIS,
+    "chain": ("chain",),
     "floor": ("floor", "hits"),
     "least": ("negative", "least"),
     "mmread": ("rdim", "requests"),
@@ -752,10 +854,12 @@ def error_number(kind, word):
 
 def cleared(kind, f, number):
     """How many words of the scratch end 0."""
-    if kind in ("patfactor", "patoperator"):
-        words = triangle(f[READ[kind][0]])
-        return words if number == 0 or (number == 7 and room(kind, f, "lscratch") >= words) else 0
-    return 2 * triangle(f["n"]) + 4 * f["n"] if number in (0, 8) else 0
+    pattern = kind in ("patfactor", "patoperator")
+    needed = mark_words if pattern else chain_words if kind == "chain" else scratch_words
+    words = needed(f[READ[kind][0]])
+    # the pairs alone have no room
+    short = number == 7 and (pattern or kind == "chain") and room(kind, f, "lscratch") >= words
+    return words if number in (0, 8) or short else 0
 
 
 def filled(kind, name, got):
@@ -818,6 +922,8 @@ def expected(kind, f, answer):
         got = mmread_answer(f)
     if kind == "covar" and not number:
         got = covar_answer(f, got)
+    if kind == "chain" and not number:
+        got = chain_answer(f)
     reply = got.get("reply", [])
     said = 0 if reply == ["ok"] else error_number(kind, reply[-1]) if reply else number
     if said != number:
@@ -866,8 +972,9 @@ def answers(programs, cases):
 
 
 def group(kind, lines):
-    """Kind and reply, with the status, or with the refusal that a lookup met."""
-    status = [x for x in lines if x.startswith("status")]
+    """Kind and reply, with the status, whether a chain has more than three pairs or there is none, or the refusal that a lookup met."""
+    status = [x for x in lines if x.startswith("status") or x == "chain none"]
+    status += ["far" for x in lines if re.match("chain ([4-9]|[1-9][0-9])", x)]
     refused = [w for x in lines if x.startswith("gets") for w in x.split() if w.startswith("refused")]
     return " ".join([kind, lines[0]] + status + refused[:1])
 
@@ -986,8 +1093,105 @@ def some_searches(seed=1):
         yield "search-%d" % k, {"rows": rows, "sought": rows if k % 3 == 2 else list(some_sought(chance, rows))}
 
 
+# how many cases the set chain has
+CHAINS = 3000
+
+
+def some_descendants(chance, n):
+    """The rows below the diagonal of each column, of one of several forms; long chains come of few descendants."""
+    form, percent = chance.below(8), chance.pick((10, 20, 30, 60, 100))
+    band, far = chance.pick((1, 1, 2, 3)), 1 + chance.below(max(n - 1, 1))
+    for c in range(n):
+        if form == 0:
+            rows = {c + 1, c + band}
+        elif form == 1:
+            rows = range(c + 1, n) if c == 0 else {c + band}
+        elif form == 2:
+            rows = {c + 1, c + far}
+        elif form == 3:
+            rows = {c + 1 + chance.below(max(n - c - 1, 1))}
+        else:
+            rows = {r for r in range(c + 1, n) if chance.below(100) < percent}
+        yield sorted(r for r in rows if r < n)
+
+
+def some_column(chance, c, below):
+    """The stored entries of a column: the descendants given, now and then one of 0.0 or above the diagonal, which are dropped."""
+    entries = {r: value_bits("1.0") for r in below}
+    entries[c] = value_bits(chance.pick(("1.0", "2.0", "0.5")))
+    if below and chance.one_of(8):
+        entries[chance.pick(below)] = value_bits(chance.pick(("0.0", "-0.0", "-1e-300")))
+    if c and chance.one_of(8):
+        entries[chance.below(c)] = value_bits(chance.pick(("1.0", "nan", "inf")))
+    return sorted(entries.items())
+
+
+def spoil_chain(chance, f):
+    """One fault, or something that looks like one."""
+    n, which = min(f["n"], 2**32 - 2), chance.below(9)
+    if which == 0:
+        f[chance.pick(("prow", "pcol"))] = chance.pick((n, n + 1, 2**32 - 1))
+    elif which == 1:
+        f["rdim"] = chance.pick((n + 1, max(n - 1, 0), 2**32 + n))
+    elif which == 2:
+        name = chance.pick(("rrows", "rcols"))
+        f[name] = f[name][:-1] if f[name] and chance.one_of(2) else f[name] + [0]
+    elif which == 3:
+        name = chance.pick(("rrows", "rcols"))
+        f[name] = [*f[name][:-1], chance.pick((n, 2**32 - 1))]
+    elif which == 4 and f["values"]:
+        at = chance.below(len(f["values"]))
+        bits = value_bits(chance.pick(("0.0", "-1.0", "nan", "-inf")))
+        f["values"] = [*f["values"][:at], bits, *f["values"][at + 1 :]]
+    elif which == 5:
+        f["starts"] = chance.pick((f["starts"][:-1], [1] + f["starts"][1:], f["starts"] + [0], f["starts"][::-1]))
+    elif which == 6:
+        f["rows"] = f["rows"][::-1]
+    elif which == 7:
+        f["n"] = chance.pick((2049, n + 1, 2**64 - 1))
+    else:
+        f["values"] = f["values"][1:]
+
+
+def some_chain(chance):
+    """A factor, requests and a pair, which mostly is in the set; some faults; some lists lent, exact, longer or one place short."""
+    n = chance.pick((0, 1, 2, 3, 4, 5, 5, 6, 7, 8, 9, 10, 12, 14, 20, chance.below(34)))
+    columns = [some_column(chance, c, below) for c, below in enumerate(some_descendants(chance, n))]
+    starts = [0, *itertools.accumulate(map(len, columns))]
+    rows, values = ([entry[k] for column in columns for entry in column] for k in (0, 1))
+    count = chance.pick((0, 1, 1, 1, 2, 2, 3, 6)) if n else 0
+    # low indices reach more pairs
+    index = lambda: min(chance.below(n), chance.below(n))
+    f = {"n": n, "starts": starts, "rows": rows, "values": values, "rdim": n}
+    f["rrows"], f["rcols"] = ([index() for _ in range(count)] for _ in range(2))
+    if count and chance.one_of(2):
+        # of which most pairs come, many of them by several chains
+        f["rrows"], f["rcols"] = [0], [0]
+    f["prow"], f["pcol"] = (chance.below(n) if n else 0 for _ in range(2))
+    if count and not chance.one_of(5):
+        # a pair of the set, the farthest of some
+        chains = list(swept_chains(f).values())
+        far = max((chance.pick(chains) for _ in range(chance.pick((1, 2, 4, 9)))), key=len)[-1]
+        f["prow"], f["pcol"] = far if chance.one_of(2) else far[::-1]
+    for _ in range(chance.pick((0, 0, 0, 0, 0, 1, 1, 2))):
+        spoil_chain(chance, f)
+    if chance.one_of(2):
+        most = dict.fromkeys(CHAIN, [7777] * CHAIN["lscratch"])
+        pairs = len(chain_of(f)) if not refusal("chain", {**f, **most}) else 3
+        needs = {"lscratch": chain_words(n), "lcrows": pairs, "lccols": pairs}
+        for name, need in needs.items():
+            f[name] = [7777] * max(need + (-1 if chance.one_of(8) else chance.pick((0, 0, 1, 3))), 0)
+    return f
+
+
+def some_chains(seed=1):
+    chance = Chance(int(seed))
+    for k in range(CHAINS):
+        yield "chain-%d" % k, some_chain(chance)
+
+
 # the sets that are made here, of the kind of the same name, of which the Rust is not asked
-MADE = {"mmread": some_files, "search": some_searches}
+MADE = {"mmread": some_files, "search": some_searches, "chain": some_chains}
 
 
 def some_marked(programs, *seed):
@@ -1090,7 +1294,7 @@ def some_covar(programs, *seed):
 def some_lists(chance, f):
     """Result lists, scratch and output as long as needed, a few places more, or now and then one less."""
     n, entries = f["n"], min(10 * len(f["rows"]), triangle(f["n"]))
-    needs = {"lstarts": n + 1, "lrows": entries, "lvalues": entries, "lscratch": 2 * triangle(n) + 4 * n, "lout": len(f["arows"])}
+    needs = {"lstarts": n + 1, "lrows": entries, "lvalues": entries, "lscratch": scratch_words(n), "lout": len(f["arows"])}
     lists = {}
     for name, need in needs.items():
         length = max(need + (-1 if chance.one_of(20) else chance.pick((0, 0, 1, 3))), 0)
@@ -1135,6 +1339,9 @@ def given(programs):
         names.add(name)
         if kind == "search":
             number = [looks for _, looks in searches(f)]
+        elif kind == "chain":
+            number = [refusal(kind, f)]
+            number += [] if number[0] else [index for pair in chain_of(f) for index in pair]
         else:
             number = [0 if is_value(x) else x for x in lookups(f)] if kind == "get" else [refusal(kind, f)]
         assert number == expect, "%s: expects %s, document 01 gives %s" % (name, expect, number)

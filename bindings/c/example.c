@@ -134,6 +134,24 @@ int main(void)
     printf("covariances: %zu requested, %zu computed, %.17g %.17g\n",
         reply.requested_pairs, reply.closure_pairs, covariances[0], covariances[1]);
 
+    /* Why (1, 1) is computed for (0, 0): a chain from the request to it. With (1, 1) alone requested nothing leads to
+     * (1, 0), and 0 pairs say so. */
+    uint32_t chain_scratch[14]; /* 2T + 4n */
+    uint32_t chain_rows[4];     /* 2n are enough for every chain */
+    uint32_t chain_columns[4];
+    redstartgilt_pairs chain = redstartgilt_dependency_chain(
+        2, starts, COUNT(starts), rows, COUNT(rows), values, COUNT(values),
+        2, request_rows, COUNT(request_rows), request_columns, COUNT(request_columns),
+        1, 1, chain_scratch, COUNT(chain_scratch), chain_rows, COUNT(chain_rows), chain_columns, COUNT(chain_columns));
+    printf("chain to (1, 1): refusal %u, %zu pairs:", (unsigned)chain.refusal, chain.pairs);
+    for (size_t place = 0; place < chain.pairs; place++)
+        printf(" (%u, %u)", (unsigned)chain_rows[place], (unsigned)chain_columns[place]);
+    chain = redstartgilt_dependency_chain(
+        2, starts, COUNT(starts), rows, COUNT(rows), values, COUNT(values),
+        2, last, COUNT(last), last, COUNT(last),
+        1, 0, chain_scratch, COUNT(chain_scratch), chain_rows, COUNT(chain_rows), chain_columns, COUNT(chain_columns));
+    printf("\nchain to (1, 0) from (1, 1): refusal %u, %zu pairs\n", (unsigned)chain.refusal, chain.pairs);
+
     /* Requests from the bytes of a Matrix Market file, counted from 0; the end of the C text is no part of them. */
     const char file[] = "%%MatrixMarket matrix coordinate pattern symmetric\n% cells\n2 2 2\n2 1\n1 1\n";
     uint32_t read_rows[2], read_columns[2];

@@ -7,6 +7,7 @@
 //! in Markdown.
 
 use crate::call::{Call, Function};
+use crate::chains::Chains;
 use crate::compare::{call_of, differences};
 use crate::grid::grid;
 use crate::lend::lend;
@@ -24,6 +25,8 @@ use std::process::{Command, Stdio};
 /// What the library may take of the Rust's time where the Rust goes by the factor's pattern, and by hash maps.
 const FACTOR_TARGET: f64 = 0.5;
 const CLOSURE_TARGET: f64 = 0.1;
+/// What a chain may take of the time that the Rust's closing of the same requests takes.
+const CHAIN_TARGET: f64 = 10.0;
 
 /// How often the two are timed in turn.
 const ROUNDS: usize = 5;
@@ -101,6 +104,13 @@ fn row(folder: &Path, case: &Block, call: &Call, runs: usize) -> io::Result<Row>
     if differences(case, &answer) > 0 {
         return Err(io::Error::other(format!("{}: the answers differ", case.name)));
     }
+    let (route, closure) = (answer.field("route").to_string(), answer.number("closure"));
+    Ok(Row { route, closure, ..timed(folder, case, call, runs)? })
+}
+
+/// The times alone: the call by the library, the case by the Rust, in turn.
+fn timed(folder: &Path, case: &Block, call: &Call, runs: usize) -> io::Result<Row> {
+    let text = case.text();
     let (mut ours, mut clearing, mut rust) = (Vec::new(), Vec::new(), Vec::new());
     for _ in 0..ROUNDS {
         // the case's name, and the median
@@ -113,14 +123,15 @@ fn row(folder: &Path, case: &Block, call: &Call, runs: usize) -> io::Result<Row>
     }
     let part = |times: &[f64]| median(times.iter().zip(&rust).map(|(time, rust)| time / rust).collect());
     let (ratio, least) = (part(&ours), part(&clearing));
-    let (route, closure) = (answer.field("route").to_string(), answer.number("closure"));
-    Ok(Row { route, closure, ours: median(ours), clearing: median(clearing), rust: median(rust), ratio, least })
+    let (ours, clearing, rust) = (median(ours), median(clearing), median(rust));
+    Ok(Row { route: String::new(), closure: 0, ours, clearing, rust, ratio, least })
 }
 
 pub fn benchmark(folder: &Path, runs: usize) -> io::Result<()> {
     println!("{}; medians of {runs} runs in {ROUNDS} rounds, processor time in ms\n", machine());
     rows_of_the_timing_set(folder, runs)?;
     rows_of_covariances(folder, runs)?;
+    rows_of_chains(folder, runs)?;
     growth(folder, runs)?;
     split(runs);
     lookups::rows_of_lookups(runs)?;
@@ -240,6 +251,60 @@ fn all_covariances(call: &Call) -> Call {
         b_rows: List::made(rows * rows, |at| (at % rows) as u32),
         ..call.clone()
     }
+}
+
+/// Chains to the pair that is farthest from the requests of each case, beside the Rust's closing of these requests alone,
+/// without a limit: its `takahashi_dependency_closure`, whose columns are made before the clock starts. The library's call
+/// has its checks, the closing by levels, the way back and the clearing of the scratch.
+pub fn rows_of_chains(folder: &Path, runs: usize) -> io::Result<()> {
+    println!("\n| chains | requests | pairs | chain | ours | clearing | Rust's closing | ours / closing | target | |");
+    println!("|---|---|---|---|---|---|---|---|---|---|");
+    each_timing_case(folder, |name, case| {
+        let asked = call_of(case);
+        row_of_chains(folder, name, &asked, runs)?;
+        if name.ends_with("-blocks") {
+            row_of_chains(folder, &format!("{name}, covariances"), &all_covariances(&asked), runs)?;
+        }
+        Ok(())
+    })
+}
+
+/// The row of the requests of a call.
+fn row_of_chains(folder: &Path, name: &str, asked: &Call, runs: usize) -> io::Result<()> {
+    let requests: Vec<(usize, usize)> = rules::requested(asked).listed().collect();
+    let mut call = Call {
+        function: Function::DependencyChain,
+        dimension: asked.n,
+        request_rows: List::made(requests.len(), |at| requests[at].0 as u32),
+        request_columns: List::made(requests.len(), |at| requests[at].1 as u32),
+        ..asked.clone()
+    };
+    let chains = Chains::of(&call);
+    (call.row, call.column) = chains.farthest();
+    let mut made = lent(call.clone());
+    let expected = rules::expected(made.clone());
+    let reply = made.make();
+    if reply.pairs == 0 || !expected.differences(&reply, &made).is_empty() {
+        return Err(io::Error::other(format!("{name}: the chains differ")));
+    }
+    let mut closing = Block::new("closing", "closing");
+    closing.put_factor(&call);
+    closing.put("rdim", call.n);
+    closing.put_numbers("rrows", &call.request_rows);
+    closing.put_numbers("rcols", &call.request_columns);
+    let row = timed(folder, &closing, &call, runs)?;
+    let met = if row.ratio <= CHAIN_TARGET { "met" } else { "missed" };
+    println!(
+        "| {name} | {} | {} | {} | {:.3} | {:.3} | {:.3} | {:.3} | {CHAIN_TARGET} | {met} |",
+        requests.len(),
+        chains.pairs(),
+        reply.pairs,
+        row.ours,
+        row.clearing,
+        row.rust,
+        row.ratio
+    );
+    Ok(())
 }
 
 /// The call for the diagonal in original order of a grid.

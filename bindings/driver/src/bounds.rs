@@ -64,13 +64,14 @@ pub fn bounds() -> Vec<Call> {
             Function::OriginalDiag,
             Function::OperatorVariances,
             Function::Covariances,
+            Function::DependencyChain,
             Function::FactorPattern,
         ] {
             let call = sound(function, 3, &mut random);
             calls.push(Call { rows: long(count), values: zeros(count), ..call });
         }
         // requests: of so many one pair is distinct
-        for function in [Function::EntriesWithLimit, Function::Entries] {
+        for function in [Function::EntriesWithLimit, Function::Entries, Function::DependencyChain] {
             let call = sound(function, 3, &mut random);
             calls.push(Call { request_rows: long(count), request_columns: long(count), ..call });
             let call = sound(function, 3, &mut random);
@@ -104,7 +105,7 @@ pub fn bounds() -> Vec<Call> {
     }
     assert_eq!(rows.len(), MOST_ENTRIES);
     let values: Vec<f64> = rows.iter().map(|&r| 1.0 + r as f64 / 4096.0).collect();
-    for function in [Function::FactorPattern, Function::Entries] {
+    for function in [Function::FactorPattern, Function::Entries, Function::DependencyChain] {
         let call = sound(function, 0, &mut random);
         let (starts, rows, values) = (List::new(&starts), List::new(&rows), List::new(&values));
         let request = || List::new(&[(n - n / 4) as u32]);
@@ -116,17 +117,27 @@ pub fn bounds() -> Vec<Call> {
             values,
             request_rows: request(),
             request_columns: request(),
+            row: n - 1,
+            column: n - 1,
             ..call
         });
     }
+    calls.extend(pairs());
     let file = |text: &Vec<u8>| Call { function: Function::ReadRequests, text: List::new(text), ..Call::default() };
     calls.extend(files().iter().map(file));
     for call in &mut calls {
         lend(call, &mut random, |_, need| need);
     }
+    // the longest chain with a list one place short
+    let longest = calls.iter().rfind(|call| call.function == Function::DependencyChain).expect("made above").clone();
+    let words = |count: usize| List::made(count, |at| at as u32);
+    let length = longest.pair_rows.len();
+    assert_eq!(length, 2 * MOST_COLUMNS - 1);
+    calls.push(Call { pair_rows: words(length - 1), ..longest.clone() });
+    calls.push(Call { pair_columns: words(length - 1), ..longest.clone() });
+    calls.push(Call { scratch: words(longest.scratch.len() - 1), ..longest });
     // files of as many entries as are allowed, with a list one place short
     let longest = file(&longest_file(MOST_ENTRIES));
-    let words = |count: usize| List::made(count, |at| at as u32);
     for (rows, columns) in [(MOST_ENTRIES - 1, MOST_ENTRIES), (MOST_ENTRIES, MOST_ENTRIES - 1)] {
         calls.push(Call { request_rows: words(rows), request_columns: words(columns), ..longest.clone() });
     }
@@ -172,6 +183,31 @@ fn row_pairs(count: usize) -> Vec<Call> {
         ..small.clone()
     };
     vec![pairs(count, count), pairs(count, 1), pairs(0, count), pairs(1, count), long_a, long_b]
+}
+
+/// Calls for a chain to a pair at both sides of n, in either place, of a small factor and of one with the most columns: each
+/// column has the next row, so that no chain is longer than that to the last pair.
+fn pairs() -> Vec<Call> {
+    let mut calls = Vec::new();
+    for n in [1, 2, MOST_COLUMNS] {
+        let band = Call {
+            function: Function::DependencyChain,
+            n,
+            dimension: n,
+            starts: List::made(n + 1, |c| (2 * c).min(2 * n - 1) as u32),
+            rows: List::made(2 * n - 1, |p| p.div_ceil(2) as u32),
+            values: List::made(2 * n - 1, |_| 1.0),
+            request_rows: List::new(&[0]),
+            request_columns: List::new(&[0]),
+            ..Call::default()
+        };
+        for outside in [n, (1 << 32) + n - 1, usize::MAX] {
+            calls.push(Call { row: outside, column: n - 1, ..band.clone() });
+            calls.push(Call { row: n - 1, column: outside, ..band.clone() });
+        }
+        calls.push(Call { row: n - 1, column: n - 1, ..band });
+    }
+    calls
 }
 
 /// A file of so many entries, four bytes each.

@@ -16,6 +16,7 @@ pub enum Function {
     OriginalDiag,
     OperatorVariances,
     Covariances,
+    DependencyChain,
     FactorPattern,
     OperatorPattern,
     Validate,
@@ -28,7 +29,7 @@ pub enum Function {
     ReadRequests,
 }
 
-pub const FUNCTIONS: [Function; 20] = [
+pub const FUNCTIONS: [Function; 21] = [
     Function::EntriesWithLimit,
     Function::Entries,
     Function::Get,
@@ -39,6 +40,7 @@ pub const FUNCTIONS: [Function; 20] = [
     Function::OriginalDiag,
     Function::OperatorVariances,
     Function::Covariances,
+    Function::DependencyChain,
     Function::FactorPattern,
     Function::OperatorPattern,
     Function::Validate,
@@ -65,6 +67,7 @@ impl Function {
             Function::OriginalDiag => "selected_inverse_diag_with_diagnostics",
             Function::OperatorVariances => "selected_inverse_transformed_diag",
             Function::Covariances => "selected_inverse_transformed_covariances",
+            Function::DependencyChain => "dependency_chain",
             Function::FactorPattern => "from_cholesky_factor",
             Function::OperatorPattern => "from_transformed_operator",
             Function::Validate => "validate",
@@ -111,7 +114,7 @@ pub struct Call {
     pub values: List<f64>,
     /// The requests' dimension, or the operator's columns beside a factor; of two operators A's.
     pub dimension: usize,
-    /// Read where entries are selected, written by `read_requests`.
+    /// Read where entries are selected or a chain is sought, written by `read_requests`.
     pub request_rows: List<u32>,
     pub request_columns: List<u32>,
     pub limit: usize,
@@ -142,6 +145,7 @@ pub struct Call {
     pub result_rows: List<u32>,
     pub result_values: List<f64>,
     pub scratch: List<u32>,
+    /// The pairs of a pattern list, or of a chain.
     pub pair_rows: List<u32>,
     pub pair_columns: List<u32>,
     pub output: List<f64>,
@@ -277,6 +281,9 @@ impl Call {
                 (self.n) [starts] [rows] [values] (self.dimension) [row_starts] [columns] [weights]
                 (self.b_dimension) [b_row_starts] [b_columns] [b_weights] [a_rows] [b_rows]
                 {result_starts} {result_rows} {result_values} {scratch} {output})),
+            Function::DependencyChain => listed(c_call!(self redstartgilt_dependency_chain ()
+                (self.n) [starts] [rows] [values] (self.dimension) [request_rows] [request_columns]
+                (self.row) (self.column) {scratch} {pair_rows} {pair_columns})),
             Function::FactorPattern => listed(c_call!(self redstartgilt_from_cholesky_factor ()
                 (self.n) [starts] [rows] [values] {scratch} {pair_rows} {pair_columns})),
             Function::OperatorPattern => listed(c_call!(self redstartgilt_from_transformed_operator ()

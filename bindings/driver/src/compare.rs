@@ -6,6 +6,7 @@
 //! counted.
 
 use crate::call::{Call, Function, Reply, LOOKUPS};
+use crate::chains::{chosen, Chains};
 use crate::expected::Expected;
 use crate::lend::lend;
 use crate::list::List;
@@ -27,6 +28,8 @@ const SETS: [&str; 18] = [
 const SEEDS: [u64; 3] = [1, 7, 11];
 /// To this dimension the driver's rules are held against the Rust's answer too.
 const RULES_DIMENSION: usize = 64;
+/// To this dimension the driver's chain is held against every chain that there is.
+const EVERY_CHAIN: usize = 5;
 /// So many unexpected differences are written out.
 const SHOWN: usize = 20;
 
@@ -64,6 +67,9 @@ struct Tally {
     counts: BTreeMap<(String, String), (usize, usize)>,
     /// replies by kind
     replies: BTreeMap<(String, String), usize>,
+    /// chains compared, those among several as short, those held against every chain, and the most pairs of one
+    chains: [usize; 3],
+    longest: usize,
     /// how the Rust differs where a document says otherwise: how often, and a case
     intended: BTreeMap<String, (usize, String)>,
     unexpected: usize,
@@ -104,6 +110,9 @@ impl Tally {
         for ((function, reply), count) in &self.replies {
             println!("  {function}: {reply}: {count}");
         }
+        let [chains, several, every] = self.chains;
+        println!("\n{chains} chains of up to {} pairs, {several} among several as short;", self.longest);
+        println!("{every} answers held against every chain that there is");
         println!("\nwhere a document says otherwise than the Rust");
         for (what, (count, example)) in &self.intended {
             println!("  {what}: {count}, as {example}");
@@ -247,6 +256,8 @@ fn compare_case(case: &Block, answer: &Block, seed: u64, random: &mut Random, ta
     if answer.field("route").contains("DIFFERS") || answer.field("finish").contains("DIFFERS") {
         tally.differs(&["the Rust's own routes or finishing step differ".to_string()], case, &call);
     }
+    let asked = matches!(call.function, Function::EntriesWithLimit | Function::Entries) && case.kind == "entries";
+    let chains = if asked { compare_chains(&call, answer, case, random, tally) } else { 0 };
     let more = match call.function {
         Function::Reorder => compare_marked(call, &expected, case, random, tally),
         Function::OperatorVariances => compare_covariances(call, expected, case, random, tally),
@@ -259,7 +270,7 @@ fn compare_case(case: &Block, answer: &Block, seed: u64, random: &mut Random, ta
         }
         _ => 0,
     };
-    1 + more
+    1 + chains + more
 }
 
 /// The refusal that the Rust's answer stands for, 0 where it accepts.
@@ -402,6 +413,60 @@ fn compare_covariances(call: Call, same: Expected, case: &Block, random: &mut Ra
     let mut others = two(call, &some(), &some());
     others.output = List::made(count, |_| random.any_value());
     compared(others.clone(), &rules::expected(others));
+    2
+}
+
+/// Chains to two pairs, over the factor and the requests of selected entries: the first a pair of the set, where the Rust
+/// lists it, the second any, a few of them outside. "Not in the set" must be what the Rust's list says; the chain is the
+/// driver's, for small factors held against every chain.
+fn compare_chains(call: &Call, answer: &Block, case: &Block, random: &mut Random, tally: &mut Tally) -> usize {
+    let n = call.n;
+    let complete = refusal(call) == 0 && answer.field("status") == "Complete";
+    let (starts, rows) = (answer.numbers("starts"), answer.numbers("rows"));
+    let column_of = |p: usize| starts.partition_point(|&start| start as usize <= p) - 1;
+    for first in [true, false] {
+        let edge = if random.chance(3) { 2 } else { 0 };
+        let some = n.min(1 << 20) + edge;
+        let mut pair = (random.below(some.max(1)), random.below(some.max(1)));
+        if first && complete && !rows.is_empty() {
+            let p = random.below(rows.len());
+            pair = (rows[p] as usize, column_of(p));
+        }
+        if random.chance(30) {
+            pair = (pair.1, pair.0);
+        }
+        let mut chain = Call {
+            function: Function::DependencyChain,
+            row: pair.0,
+            column: pair.1,
+            result_starts: List::default(),
+            result_rows: List::default(),
+            result_values: List::default(),
+            ..call.clone()
+        };
+        lend(&mut chain, random, some_more);
+        let reply = compare_by_rules(chain.clone(), case, tally);
+        if reply.refusal > 0 {
+            continue;
+        }
+        let (row, column) = chain.ordered();
+        if complete {
+            let listed = rows[starts[column] as usize..starts[column + 1] as usize].contains(&(row as u32));
+            if listed != (reply.pairs > 0) {
+                tally.differs(&["the Rust's set and the chain differ".to_string()], case, &chain);
+            }
+        }
+        let chains = Chains::of(&chain);
+        tally.chains[0] += usize::from(reply.pairs > 0);
+        tally.chains[1] += usize::from(reply.pairs > 0 && chains.several((row, column)));
+        tally.longest = tally.longest.max(reply.pairs);
+        if n <= EVERY_CHAIN {
+            tally.chains[2] += 1;
+            if chosen(&chain, (row, column)) != chains.chain((row, column)) {
+                tally.differs(&["the driver's chain and the one chosen among all differ".to_string()], case, &chain);
+            }
+        }
+    }
     2
 }
 

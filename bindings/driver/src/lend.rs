@@ -1,6 +1,7 @@
 //! The lists that a call is lent for writing: how long they must be, and what they hold before.
 
 use crate::call::{Call, Function};
+use crate::chains::Chains;
 use crate::list::List;
 use crate::matrix_market;
 use crate::random::Random;
@@ -21,10 +22,11 @@ pub struct Needs {
 pub fn needs(call: &Call) -> Needs {
     let n = if call.n <= MOST_COLUMNS { call.n } else { 3 };
     let pattern = matches!(call.function, Function::FactorPattern | Function::OperatorPattern);
-    // with no list to write into, a pattern that could be listed is refused with 7 or has no pairs
+    // with no list to write into, a pattern or a chain that could be listed is refused with 7 or has no pairs
     let bare =
         Call { scratch: List::default(), pair_rows: List::default(), pair_columns: List::default(), ..call.clone() };
-    let listed = pattern && matches!(refusal(&bare), 0 | 7);
+    let chain = call.function == Function::DependencyChain && call.row < n && call.column < n;
+    let listed = (pattern || chain) && matches!(refusal(&bare), 0 | 7);
     Needs {
         starts: n + 1,
         entries: rules::limit(call).min(triangle(n)),
@@ -37,7 +39,11 @@ pub fn needs(call: &Call) -> Needs {
             Function::Reorder | Function::ReorderMarked => call.orig_to_perm.len(),
             _ => call.input.len(),
         },
-        pairs: if listed { rules::requested(call).count() } else { 3 },
+        pairs: match listed {
+            true if chain => Chains::of(call).length(call.ordered()),
+            true => rules::requested(call).count(),
+            false => 3,
+        },
         inverse: call.orig_to_perm.len(),
         requests: matrix_market::read(&call.text).map_or(3, |requests| requests.rows.len()),
     }
@@ -56,7 +62,7 @@ pub fn lend(call: &mut Call, random: &mut Random, mut length: impl FnMut(&mut Ra
         call.scratch = words(random, needs.scratch);
     }
     match call.function {
-        Function::FactorPattern | Function::OperatorPattern => {
+        Function::FactorPattern | Function::OperatorPattern | Function::DependencyChain => {
             call.scratch = words(random, needs.scratch);
             call.pair_rows = words(random, needs.pairs);
             call.pair_columns = words(random, needs.pairs);

@@ -3,6 +3,7 @@
 mod benchmark;
 mod bounds;
 mod call;
+mod chains;
 mod compare;
 mod expected;
 mod files;
@@ -34,6 +35,7 @@ const USAGE: &str = "usage:
   driver benchmark ORACLE_FOLDER [RUNS]            medians of RUNS runs, 15 where none is given
   driver benchmark-covariances ORACLE_FOLDER [RUNS]
                                                    the part of it that has covariances
+  driver benchmark-chains ORACLE_FOLDER [RUNS]     the part of it that has chains
   driver benchmark-lookups [RUNS]                  the part of it that looks up entries, which needs no oracle
   driver benchmark-files [RUNS]                    the part of it that reads files, which needs no oracle
   driver profile ORACLE_FOLDER CASE RUNS           one case of the benchmark alone, for a profiler
@@ -58,7 +60,7 @@ fn main() -> ExitCode {
 
 /// The number of differences; None where the arguments are not understood.
 fn run(words: &[&str]) -> Option<std::io::Result<usize>> {
-    if let ["compare" | "benchmark" | "benchmark-covariances" | "profile", folder, ..] = words {
+    if let ["compare" | "benchmark" | "benchmark-covariances" | "benchmark-chains" | "profile", folder, ..] = words {
         if let Err(error) = compare::oracle_is_there(Path::new(folder)) {
             return Some(Err(error));
         }
@@ -79,6 +81,9 @@ fn run(words: &[&str]) -> Option<std::io::Result<usize>> {
         }
         ["benchmark-covariances", folder, runs @ ..] if runs.len() < 2 => {
             Some(benchmark::rows_of_covariances(Path::new(folder), runs_of(runs)?).map(|()| 0))
+        }
+        ["benchmark-chains", folder, runs @ ..] if runs.len() < 2 => {
+            Some(benchmark::rows_of_chains(Path::new(folder), runs_of(runs)?).map(|()| 0))
         }
         ["benchmark-lookups", runs @ ..] if runs.len() < 2 => {
             Some(lookups::benchmark_lookups(runs_of(runs)?).map(|()| 0))

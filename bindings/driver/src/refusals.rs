@@ -1,6 +1,7 @@
 //! The refusal of a call by documents 01 and 02, read from their text: the first step that fails decides.
 
 use crate::call::{Call, Function};
+use crate::chains::Chains;
 use crate::matrix_market;
 use crate::rules::{self, triangle, Factor};
 
@@ -20,6 +21,7 @@ pub fn refusal(call: &Call) -> u32 {
         Function::OriginalDiag => original_diagonal(call),
         Function::OperatorVariances => operator_variances(call),
         Function::Covariances => covariances(call),
+        Function::DependencyChain => dependency_chain(call),
         Function::FactorPattern => factor_pattern(call),
         Function::OperatorPattern => operator_pattern(call),
         Function::Validate => validate(call),
@@ -41,15 +43,28 @@ fn refuse(number: u32, when: bool) -> Steps {
     }
 }
 
-fn entries(call: &Call) -> Steps {
+/// The steps before 7 where a factor and requests are given.
+fn requests(call: &Call) -> Steps {
     let n = call.n;
     let outside = |list: &[u32]| list.iter().any(|&i| i as usize >= n);
     refuse(1, n > MOST_COLUMNS || call.rows.len() > MOST_ENTRIES || call.request_rows.len() > MOST_ENTRIES)?;
     factor(call)?;
     refuse(4, call.dimension != n || call.request_rows.len() != call.request_columns.len())?;
     refuse(5, outside(&call.request_rows) || outside(&call.request_columns))?;
-    diagonals(call)?;
+    diagonals(call)
+}
+
+fn entries(call: &Call) -> Steps {
+    requests(call)?;
     room(call)
+}
+
+fn dependency_chain(call: &Call) -> Steps {
+    requests(call)?;
+    refuse(7, call.scratch.len() < rules::scratch_words(call.n))?;
+    refuse(5, call.row >= call.n || call.column >= call.n)?;
+    let pairs = Chains::of(call).length(call.ordered());
+    refuse(7, call.pair_rows.len() < pairs || call.pair_columns.len() < pairs)
 }
 
 fn original_diagonal(call: &Call) -> Steps {

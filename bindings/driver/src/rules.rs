@@ -2,6 +2,7 @@
 //! Sets of pairs are one mark a pair, and the closed set is found in one sweep over the columns.
 
 use crate::call::{Call, Function, Reply};
+use crate::chains::Chains;
 use crate::expected::Expected;
 use crate::matrix_market;
 use crate::refusals::{before_search, refusal};
@@ -30,7 +31,7 @@ pub fn limit(call: &Call) -> usize {
 pub struct Factor {
     pub diagonals: Vec<Option<f64>>,
     /// The descendants of each column with their values, ascending.
-    below: Vec<Vec<(usize, f64)>>,
+    pub below: Vec<Vec<(usize, f64)>>,
 }
 
 impl Factor {
@@ -62,7 +63,7 @@ pub struct Pairs {
     marks: Vec<bool>,
 }
 
-fn place(row: usize, column: usize) -> usize {
+pub fn place(row: usize, column: usize) -> usize {
     triangle(row.max(column)) + row.min(column)
 }
 
@@ -75,7 +76,7 @@ impl Pairs {
         self.marks[place(row, column)] = true;
     }
 
-    fn has(&self, row: usize, column: usize) -> bool {
+    pub fn has(&self, row: usize, column: usize) -> bool {
         self.marks[place(row, column)]
     }
 
@@ -84,7 +85,7 @@ impl Pairs {
     }
 
     /// By row, then by column.
-    fn listed(&self) -> impl Iterator<Item = (usize, usize)> + '_ {
+    pub fn listed(&self) -> impl Iterator<Item = (usize, usize)> + '_ {
         (0..self.n).flat_map(move |r| (0..=r).filter(move |&c| self.has(r, c)).map(move |c| (r, c)))
     }
 
@@ -247,15 +248,17 @@ pub fn expected(call: Call) -> Expected {
     expected
 }
 
-/// What a refused call leaves: the marks of a scratch that is long enough end 0 in pattern lists, and after 8.
+/// What a refused call leaves: of a scratch that is long enough the marks end 0 in pattern lists, and all words where the
+/// chain list is short, and after 8.
 pub fn refused(number: u32, mut call: Call) -> Expected {
     let pattern = matches!(call.function, Function::FactorPattern | Function::OperatorPattern);
     if pattern && number == 7 && call.scratch.len() >= triangle(call.n) {
         let marks = triangle(call.n);
         call.scratch[..marks].fill(0);
     }
-    if call.function == Function::OriginalDiag && number == 8 {
-        let words = scratch_words(call.n);
+    let words = scratch_words(call.n);
+    let short = call.function == Function::DependencyChain && number == 7 && call.scratch.len() >= words;
+    if short || (call.function == Function::OriginalDiag && number == 8) {
         call.scratch[..words].fill(0);
     }
     Expected::untouched(Reply::refused(number), call)
@@ -281,6 +284,15 @@ fn accepted(mut call: Call) -> Expected {
                 call.output_marks[i] = u8::from(value.is_some());
             }
             Expected { output_filled: n, ..Expected::untouched(Reply::default(), call) }
+        }
+        Function::DependencyChain => {
+            let chain = Chains::of(&call).chain(call.ordered());
+            for (at, &(row, column)) in chain.iter().enumerate() {
+                call.pair_rows[at] = row as u32;
+                call.pair_columns[at] = column as u32;
+            }
+            call.scratch[..scratch_words(call.n)].fill(0);
+            Expected::untouched(Reply { pairs: chain.len(), ..Reply::default() }, call)
         }
         Function::FactorPattern | Function::OperatorPattern => {
             let set = requested(&call);

@@ -4,7 +4,7 @@ use crate::call::{Call, Function};
 use crate::files::sound_file;
 use crate::list::List;
 use crate::random::Random;
-use crate::rules::triangle;
+use crate::rules::{requested, triangle, Factor};
 use std::cmp::Ordering::{Equal, Greater, Less};
 
 struct Columns {
@@ -104,6 +104,31 @@ fn put_result(call: &mut Call, random: &mut Random) -> usize {
     column
 }
 
+/// Requests, some of them twice.
+fn put_requests(call: &mut Call, random: &mut Random) {
+    let n = call.n;
+    let count = if n == 0 { 0 } else { random.below(n.min(64) + 3) };
+    call.request_rows = List::made(count, |_| random.below(n) as u32);
+    call.request_columns = List::made(count, |_| random.below(n) as u32);
+    if count > 0 && random.chance(30) {
+        // what needs most
+        (call.request_rows[0], call.request_columns[0]) = (0, 0);
+    }
+}
+
+/// A pair: mostly one of the closed set, in either order; where n is large, any.
+fn put_pair(call: &mut Call, random: &mut Random) {
+    let n = call.n.max(1);
+    (call.row, call.column) = (random.below(n), random.below(n));
+    if call.n <= 64 && random.chance(80) {
+        let set: Vec<_> = requested(call).closed(&Factor::kept(call)).listed().collect();
+        if !set.is_empty() {
+            let (row, column) = random.pick(&set);
+            (call.row, call.column) = if random.chance(50) { (row, column) } else { (column, row) };
+        }
+    }
+}
+
 /// Row starts, columns and weights.
 fn operator(random: &mut Random, n: usize) -> (List<u32>, List<u32>, List<f64>) {
     let (mut starts, mut columns) = (vec![0], Vec::new());
@@ -164,14 +189,18 @@ pub fn sound(function: Function, n: usize, random: &mut Random) -> Call {
     match function {
         Function::EntriesWithLimit | Function::Entries => {
             put_factor(&mut call, random);
-            let count = if n == 0 { 0 } else { random.below(n.min(64) + 3) };
-            call.request_rows = List::made(count, |_| random.below(n) as u32);
-            call.request_columns = List::made(count, |_| random.below(n) as u32);
-            if count > 0 && random.chance(30) {
-                // what needs most
-                (call.request_rows[0], call.request_columns[0]) = (0, 0);
-            }
+            put_requests(&mut call, random);
             call.limit = some_limit(random, n);
+        }
+        Function::DependencyChain => {
+            put_factor(&mut call, random);
+            put_requests(&mut call, random);
+            if random.chance(40) {
+                // fewer requests make longer chains
+                call.request_rows.edit(|rows| rows.truncate(1));
+                call.request_columns.edit(|columns| columns.truncate(1));
+            }
+            put_pair(&mut call, random);
         }
         Function::OriginalDiag => {
             put_factor(&mut call, random);

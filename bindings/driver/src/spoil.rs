@@ -105,6 +105,18 @@ fn spoil(call: &mut Call, random: &mut Random) {
             6 => spoil_words(random, &mut call.request_columns, n),
             _ => spoil_finite(random, &mut call.values),
         },
+        Function::DependencyChain => match random.below(10) {
+            0 => call.n = some_size(random, n),
+            1 => spoil_words(random, &mut call.starts, n),
+            2 => spoil_words(random, &mut call.rows, n),
+            3 => spoil_values(random, &mut call.values),
+            4 => call.dimension = some_size(random, n),
+            5 => spoil_words(random, &mut call.request_rows, n),
+            6 => spoil_words(random, &mut call.request_columns, n),
+            7 => call.row = some_size(random, n),
+            8 => call.column = some_size(random, n),
+            _ => spoil_finite(random, &mut call.values),
+        },
         Function::OriginalDiag => match random.below(6) {
             0 => call.n = some_size(random, n),
             1 => spoil_words(random, &mut call.starts, n),

@@ -31,11 +31,11 @@ pub enum Error {
     /// 4: requests, a permutation, an operator or a vector of another dimension, or lists of requests or of row pairs
     /// that are of unequal length.
     DimensionMismatch,
-    /// 5: a requested index of n or more.
+    /// 5: an index of n or more, of a request or of the pair whose chain is asked for.
     RequestOutOfRange,
     /// 6: a column without a diagonal entry, or with one at most 0.0; an entry of 0.0 counts as none.
     NonPositiveDefinite,
-    /// 7: a list lent for results, requests, scratch or output that is too short.
+    /// 7: a list lent for results, requests, a chain, scratch or output that is too short.
     TooShort,
     /// 8: a pair that is not among the selected entries; or, of the diagonal in original order, a closed set above the
     /// default limit.
@@ -143,11 +143,14 @@ impl Error {
                 "dimensions do not match: requests, permutation, operator or vector are of another dimension than the \
                  factor, or two lists that go together differ in length"
             }
-            Error::RequestOutOfRange => "a requested index is outside: it must be below the dimension",
+            Error::RequestOutOfRange => {
+                "an index of a request, or of the pair whose chain is asked for, is outside: it must be below the \
+                 dimension"
+            }
             Error::NonPositiveDefinite => {
                 "not positive definite: a column of the factor has no diagonal entry, or one that is at most 0"
             }
-            Error::TooShort => "a list lent for results, requests, scratch or output is too short",
+            Error::TooShort => "a list lent for results, requests, a chain, scratch or output is too short",
             Error::NotCovered => {
                 "not covered: the pair is not among the selected entries, or all diagonals need more entries than the \
                  limit of 10 times the stored entries"

@@ -2,7 +2,7 @@
 //!
 //! A list may be longer than needed; places past those filled keep their contents. A refused call leaves every list as
 //! it was, unless its documentation says otherwise. Lengths that suffice: [`result_places`], [`scratch_words`],
-//! [`pair_total`] and [`request_places`].
+//! [`pair_total`], [`request_places`], [`chain_words`] and [`chain_places`].
 //!
 //! ```
 //! use redstartgilt::lent::{self, EntryLists, FactorLists, ResultLists};
@@ -146,6 +146,16 @@ pub const fn result_places(n: usize, limit: usize) -> usize {
 /// The scratch words that a call that fills result lists needs: 2·[`pair_total`] + 4n.
 pub const fn scratch_words(n: usize) -> usize {
     pair_total(n).saturating_mul(2).saturating_add(n.saturating_mul(4))
+}
+
+/// The scratch words that [`dependency_chain`] needs: 2·[`pair_total`] + 4n.
+pub const fn chain_words(n: usize) -> usize {
+    pair_total(n).saturating_mul(2).saturating_add(n.saturating_mul(4))
+}
+
+/// The chain places that suffice for a dimension: 2n, as row + column rises from pair to pair of a chain.
+pub const fn chain_places(n: usize) -> usize {
+    n.saturating_mul(2)
 }
 
 /// The limit that a call without one applies: 10 times the stored entries.
@@ -537,6 +547,74 @@ pub fn selected_inverse_transformed_covariances(
         )
     };
     SelectedInverseDiagnostics::of_reply(reply).map_err(|error| factor.refused(error))
+}
+
+/// Writes the chain from a requested pair to (row, column), which may be exchanged, and gives the number of its pairs: 0
+/// where the pair is not in the closed set of the requests.
+///
+/// Each pair is a dependency of the one before. No chain has fewer pairs, and of those with as few it is the lowest by
+/// column then row, compared from the end. No limit is applied.
+///
+/// Refuses with 1, 2, 3, 18, 4, 5, 6, with 7 for scratch below [`chain_words`], with 5 for an index of the pair outside,
+/// and last with 7 for a list shorter than the chain; [`chain_places`] suffices. Without a refusal, and at the last 7, the
+/// first [`chain_words`] words of `scratch` end 0. The chain lists are as they were where the pair is not in the set,
+/// whatever their length.
+///
+/// ```
+/// use redstartgilt::lent::{self, FactorLists};
+///
+/// let factor = FactorLists { n: 3, starts: &[0, 3, 4, 5], rows: &[0, 1, 2, 1, 2], values: &[1.0, 2.0, 3.0, 1.0, 1.0] };
+/// let mut scratch = [7; 25];
+/// assert_eq!(lent::chain_words(3), 24);
+/// let (mut rows, mut columns) = ([7; 4], [7; 4]);
+/// let pairs = lent::dependency_chain(factor, 3, &[0], &[0], 1, 2, &mut scratch, &mut rows, &mut columns)?;
+/// assert_eq!(pairs, 3);
+/// assert_eq!((rows, columns), ([0, 1, 2, 7], [0, 0, 1, 7]));
+/// assert_eq!((&scratch[..24], scratch[24]), (&[0; 24][..], 7));
+///
+/// // With (1, 1) requested (2, 1) is not in the set.
+/// let pairs = lent::dependency_chain(factor, 3, &[1], &[1], 2, 1, &mut scratch, &mut [], &mut [])?;
+/// assert_eq!(pairs, 0);
+/// # Ok::<(), redstartgilt::Error>(())
+/// ```
+#[allow(clippy::too_many_arguments)]
+pub fn dependency_chain(
+    factor: FactorLists<'_>,
+    dimension: usize,
+    request_rows: &[u32],
+    request_columns: &[u32],
+    row: usize,
+    column: usize,
+    scratch: &mut [u32],
+    chain_rows: &mut [u32],
+    chain_columns: &mut [u32],
+) -> Result<usize, Error> {
+    let reply = unsafe {
+        sys::redstartgilt_dependency_chain(
+            factor.n,
+            factor.starts.as_ptr(),
+            factor.starts.len(),
+            factor.rows.as_ptr(),
+            factor.rows.len(),
+            factor.values.as_ptr(),
+            factor.values.len(),
+            dimension,
+            request_rows.as_ptr(),
+            request_rows.len(),
+            request_columns.as_ptr(),
+            request_columns.len(),
+            row,
+            column,
+            scratch.as_mut_ptr(),
+            scratch.len(),
+            chain_rows.as_mut_ptr(),
+            chain_rows.len(),
+            chain_columns.as_mut_ptr(),
+            chain_columns.len(),
+        )
+    };
+    Error::check(reply.refusal).map_err(|error| factor.refused(error))?;
+    Ok(reply.pairs)
 }
 
 /// Writes the requests of a Matrix Market file, counted from 0, in file order with repeats kept.

@@ -36,6 +36,7 @@
 #![deny(missing_docs)]
 #![deny(unsafe_op_in_unsafe_fn)]
 
+mod chain;
 mod covariances;
 mod diagnostics;
 mod error;
@@ -53,6 +54,7 @@ pub mod sys;
 mod variances;
 mod workspace;
 
+pub use chain::{dependency_chain, dependency_chain_in};
 pub use covariances::{
     selected_inverse_transformed_covariances, selected_inverse_transformed_covariances_in,
     SelectedInverseTransformedCovariances,

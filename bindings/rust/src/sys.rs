@@ -15,7 +15,7 @@ pub const REDSTARTGILT_BROKEN_STARTS: u32 = 2;
 pub const REDSTARTGILT_BROKEN_ROWS: u32 = 3;
 /// Dimensions or lengths that do not match.
 pub const REDSTARTGILT_DIMENSION_MISMATCH: u32 = 4;
-/// A request with an index of n or more.
+/// A request, or a pair whose chain is asked for, with an index of n or more.
 pub const REDSTARTGILT_REQUEST_OUT_OF_RANGE: u32 = 5;
 /// A column without a kept diagonal, or with one at most 0.0.
 pub const REDSTARTGILT_NON_POSITIVE_DEFINITE: u32 = 6;
@@ -95,7 +95,7 @@ pub struct redstartgilt_counted_entry {
     pub looks: usize,
 }
 
-/// The reply of a pattern list: a refusal, or the number of pairs written.
+/// The reply of a pattern list or of a chain: a refusal, or the number of pairs written. On a refusal that is 0.
 #[repr(C)]
 #[derive(Debug, Clone, Copy, PartialEq)]
 #[allow(non_camel_case_types)]
@@ -343,6 +343,30 @@ extern "C" {
         output: *mut f64,
         output_len: usize,
     ) -> redstartgilt_selected;
+
+    /// The chain from a requested pair to a pair of the closed set.
+    pub fn redstartgilt_dependency_chain(
+        n: usize,
+        starts: *const u32,
+        starts_len: usize,
+        rows: *const u32,
+        rows_len: usize,
+        values: *const f64,
+        values_len: usize,
+        dimension: usize,
+        request_rows: *const u32,
+        request_rows_len: usize,
+        request_columns: *const u32,
+        request_columns_len: usize,
+        row: usize,
+        column: usize,
+        scratch: *mut u32,
+        scratch_len: usize,
+        chain_rows: *mut u32,
+        chain_rows_len: usize,
+        chain_columns: *mut u32,
+        chain_columns_len: usize,
+    ) -> redstartgilt_pairs;
 
     /// Requests from a Matrix Market file.
     pub fn redstartgilt_read_requests(

@@ -1,6 +1,6 @@
 //! Memory that calls use again.
 
-use crate::lent::{result_places, scratch_words, ResultLists};
+use crate::lent::{chain_places, chain_words, result_places, scratch_words, ResultLists};
 
 /// Result lists and scratch for one call after another.
 ///
@@ -57,6 +57,15 @@ impl Workspace {
                 values: grown(&mut self.values, places),
             },
             grown(&mut self.scratch, scratch_words(n)),
+        )
+    }
+
+    /// Scratch for a chain, and its rows and columns, which take the places of a result's rows and starts.
+    pub(crate) fn lend_chain(&mut self, n: usize) -> (&mut [u32], &mut [u32], &mut [u32]) {
+        (
+            grown(&mut self.scratch, chain_words(n)),
+            grown(&mut self.rows, chain_places(n)),
+            grown(&mut self.starts, chain_places(n)),
         )
     }
 

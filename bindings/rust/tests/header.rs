@@ -143,7 +143,7 @@ fn sys_numbers() -> BTreeSet<String> {
 #[test]
 fn functions() {
     assert_eq!(sys_functions(), header_functions());
-    assert_eq!(sys_functions().len(), 20);
+    assert_eq!(sys_functions().len(), 21);
 }
 
 #[test]

@@ -501,6 +501,49 @@ fn patterns(answer: &mut String, case: &Case<'_>) {
     put_words(answer, "pcols", &pair_columns);
 }
 
+fn chains(answer: &mut String, case: &Case<'_>) {
+    let (starts, rows, values) = (case.words("starts"), case.words("rows"), case.values("values"));
+    let (request_rows, request_columns) = (case.words("rrows"), case.words("rcols"));
+    let mut scratch = case.lent_words("lscratch", 67_072);
+    let mut chain_rows = case.lent_words("lcrows", 33_024);
+    let mut chain_columns = case.lent_words("lccols", 33_024);
+    let reply = unsafe {
+        sys::redstartgilt_dependency_chain(
+            case.number("n"),
+            starts.as_ptr(),
+            starts.len(),
+            rows.as_ptr(),
+            rows.len(),
+            values.as_ptr(),
+            values.len(),
+            case.number("rdim"),
+            request_rows.as_ptr(),
+            request_rows.len(),
+            request_columns.as_ptr(),
+            request_columns.len(),
+            case.number("prow"),
+            case.number("pcol"),
+            scratch.as_mut_ptr(),
+            scratch.len(),
+            chain_rows.as_mut_ptr(),
+            chain_rows.len(),
+            chain_columns.as_mut_ptr(),
+            chain_columns.len(),
+        )
+    };
+    if put_reply(answer, reply.refusal) {
+        let _ = match reply.pairs {
+            0 => writeln!(answer, "chain none"),
+            pairs => writeln!(answer, "chain {pairs}"),
+        };
+    } else {
+        assert_eq!(reply.pairs, 0);
+    }
+    put_words(answer, "scratch", &scratch);
+    put_words(answer, "crows", &chain_rows);
+    put_words(answer, "ccols", &chain_columns);
+}
+
 fn permutations(answer: &mut String, case: &Case<'_>) {
     let permutation = case.words("perm");
     match case.kind {
@@ -611,6 +654,7 @@ fn answer(case: &Case<'_>) -> String {
         "search" => searches(&mut answer, case),
         "diag" => diagonals(&mut answer, case),
         "mmread" => request_files(&mut answer, case),
+        "chain" => chains(&mut answer, case),
         "patfactor" | "patoperator" => patterns(&mut answer, case),
         "permvalidate" | "permfrom" | "permapply" | "permmarked" => permutations(&mut answer, case),
         "floor" => floors(&mut answer, case),
@@ -646,7 +690,7 @@ fn every_answer_is_that_of_the_proved_program() {
     let (stdin, stdout) = (text("stdin"), text("stdout"));
     let (cases, expected) = (cases(&stdin), cases(&stdout));
     assert_eq!(cases.len(), expected.len());
-    assert!(cases.len() >= 2_533);
+    assert!(cases.len() >= 2_737);
     for (lines, expected) in cases.iter().zip(expected) {
         let fields = lines[1..lines.len() - 1].iter().map(|line| {
             let mut words = line.split_whitespace();

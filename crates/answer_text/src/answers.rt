@@ -7,6 +7,7 @@ use super::put_value;
 use super::put_value_line;
 use super::put_values;
 use super::put_words;
+use dependency_chain::Chain;
 use diagnostics::Selected;
 use diagnostics::SelectedInverseDiagnostics;
 use diagnostics::SelectedInverseStatus;
@@ -73,6 +74,31 @@ pub fn put_pairs(answer: PatternPairs, scratch: &[u32], pair_rows: &[u32], pair_
     put_scratch(scratch);
     put_words(b"prows ", pair_rows);
     put_words(b"pcols ", pair_columns);
+}
+
+// How many pairs a chain has, none where the pair is not in the set.
+fn put_chain_length(count: usize) {
+    put_ok();
+    if count == 0 {
+        put(b"chain none\n");
+    } else {
+        put_number(b"chain ", count);
+    }
+}
+
+fn put_linked(answer: Chain) {
+    match answer {
+        Chain::Pairs(count) => put_chain_length(count),
+        Chain::Refused(why) => put_refused(why),
+    }
+}
+
+// The reply of a call for a chain, and the lists after it.
+pub fn put_chain(answer: Chain, scratch: &[u32], chain_rows: &[u32], chain_columns: &[u32]) {
+    put_linked(answer);
+    put_scratch(scratch);
+    put_words(b"crows ", chain_rows);
+    put_words(b"ccols ", chain_columns);
 }
 
 fn put_requests(dimension: usize, count: usize) {

@@ -50,7 +50,7 @@ fn put_call(
     let mut result_starts = [7777u32; 3];
     let mut result_rows = [7777u32; 3];
     let mut result_values = [7777.0; 3];
-    let mut scratch = [7777u32; 14];
+    let mut scratch = [7777u32; 12];
     let mut output = [7777.0; 2];
     let answer = call(
         kind,

@@ -24,11 +24,11 @@ use Rattle.levels.specs.Closing.{AllLevels}
 use Rattle.levels.specs.Back.{levelsChain, levels-chain, level-most}
 use Rattle.levels.specs.Written.{rowsOf, columnsOf}
 use Rattle.dependency_chain.specs.Laws.{ListInput, SeekInput, chainWords-levels}
-use Rattle.dependency_chain.specs.Chain.{ChainCall, chainTo, chainWords, listSteps, askedSteps, chainSteps, Listed, ChainListed}
+use Rattle.dependency_chain.specs.Chain.{ChainCall, chainTo, chainWords, chainRoomSteps, askedSteps, chainSteps, Listed, ChainListed}
 
 module _ (chain : List (ℕ × ℕ)) (rows columns : List ℕ) where
   abbrev steps : List Step
-  steps = listSteps chain (length rows) (length columns)
+  steps = chainRoomSteps chain (length rows) (length columns)
 
   refused-listed : verdict steps ≡ refused 7 → Listed chain rows columns (refused 7) rows columns
   refused-listed e = record {
@@ -39,11 +39,11 @@ module _ (chain : List (ℕ × ℕ)) (rows columns : List ℕ) where
 
   -- a list is too short
   pub listed-rows-short : length rows < length chain → Listed chain rows columns (refused 7) rows columns
-  unfolding listSteps
+  unfolding chainRoomSteps
   listed-rows-short h = refused-listed (first-hit 7 _ _ (lt-ltb _ _ h))
 
   pub listed-columns-short : length chain ≤ length rows → length columns < length chain → Listed chain rows columns (refused 7) rows columns
-  unfolding listSteps
+  unfolding chainRoomSteps
   listed-columns-short l h = refused-listed (first-skip 7 _ _ (le-ltb _ _ l) (first-hit 7 _ _ (lt-ltb _ _ h)))
 
   -- both are long enough
@@ -51,7 +51,7 @@ module _ (chain : List (ℕ × ℕ)) (rows columns : List ℕ) where
       → rows′ ≡ overwrite (rowsOf chain) rows
       → columns′ ≡ overwrite (columnsOf chain) columns
       → Listed chain rows columns (answered count) rows′ columns′
-  unfolding listSteps
+  unfolding chainRoomSteps
   listed-written l h e p q =
       let w : Passed steps = first-skip 7 _ _ (le-ltb _ _ l) (first-skip 7 _ _ (le-ltb _ _ h) (first-end tt)) in
       record {
@@ -70,9 +70,9 @@ module _ (x : ChainCall) (scratch rows columns : List ℕ) where
   abbrev all : List Step
   all = chainSteps x (length scratch) (length rows) (length columns)
 
-  after-all : {A : Type 0} (new old : A) → Passed (askedSteps x (length scratch)) → after (listSteps (chainTo x) (length rows) (length columns)) new old ≡ after all new old
+  after-all : {A : Type 0} (new old : A) → Passed (askedSteps x (length scratch)) → after (chainRoomSteps (chainTo x) (length rows) (length columns)) new old ≡ after all new old
   unfolding after chainSteps
-  after-all new old p = ap (settle old) (sym (append-passed (askedSteps x (length scratch)) (listSteps (chainTo x) (length rows) (length columns)) new p))
+  after-all new old p = ap (settle old) (sym (append-passed (askedSteps x (length scratch)) (chainRoomSteps (chainTo x) (length rows) (length columns)) new p))
 
   -- past the checks the chain is listed and the scratch cleared
   pub chain-listed : {reply : Reply ℕ} {scratch′ rows′ columns′ : List ℕ} → Passed (askedSteps x (length scratch)) → Listed (chainTo x) rows columns reply rows′ columns′
@@ -80,7 +80,7 @@ module _ (x : ChainCall) (scratch rows columns : List ℕ) where
       → ChainListed x scratch rows columns reply scratch′ rows′ columns′
   unfolding chainSteps
   chain-listed p L e = record {
-    answer = L .answer ∙ sym (append-passed (askedSteps x (length scratch)) (listSteps (chainTo x) (length rows) (length columns)) (length (chainTo x)) p);
+    answer = L .answer ∙ sym (append-passed (askedSteps x (length scratch)) (chainRoomSteps (chainTo x) (length rows) (length columns)) (length (chainTo x)) p);
     scratch-after = e ∙ sym (after-passed (askedSteps x (length scratch)) _ scratch p);
     rows-after = L .rows-after ∙ after-all _ rows p;
     columns-after = L .columns-after ∙ after-all _ columns p;
@@ -90,7 +90,7 @@ module _ (x : ChainCall) (scratch rows columns : List ℕ) where
   pub chain-refused : (k : ℕ) → verdict (askedSteps x (length scratch)) ≡ refused k → ChainListed x scratch rows columns (refused k) scratch rows columns
   unfolding chainSteps
   chain-refused k e =
-      let w : verdict all ≡ refused k = append-refused (askedSteps x (length scratch)) (listSteps (chainTo x) (length rows) (length columns)) k tt e in
+      let w : verdict all ≡ refused k = append-refused (askedSteps x (length scratch)) (chainRoomSteps (chainTo x) (length rows) (length columns)) k tt e in
       record {
         answer = sym (first-refused all k _ w);
         scratch-after = sym (after-refused (askedSteps x (length scratch)) k _ scratch e);

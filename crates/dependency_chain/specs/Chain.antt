@@ -54,8 +54,8 @@ unfoldable pub seekSteps : ℕ → ℕ → ℕ → ℕ → List Step
 seekSteps n scratch row column = (7, ltb scratch (chainWords n)) ∷ (5, leb n row) ∷ (5, leb n column) ∷ []
 
 -- 7: a list shorter than a chain
-unfoldable pub listSteps : List (ℕ × ℕ) → ℕ → ℕ → List Step
-listSteps chain rowsRoom columnsRoom = (7, ltb rowsRoom (length chain)) ∷ (7, ltb columnsRoom (length chain)) ∷ []
+unfoldable pub chainRoomSteps : List (ℕ × ℕ) → ℕ → ℕ → List Step
+chainRoomSteps chain rowsRoom columnsRoom = (7, ltb rowsRoom (length chain)) ∷ (7, ltb columnsRoom (length chain)) ∷ []
 
 module _ (x : ChainCall) where
   -- the chain to the pair, row and column exchanged if row < column; no pairs where it is not in the closed set of the requests
@@ -79,13 +79,13 @@ module _ (x : ChainCall) where
 
   -- and last
   unfoldable pub chainSteps : ℕ → ℕ → ℕ → List Step
-  chainSteps scratch rowsRoom columnsRoom = askedSteps scratch ++ listSteps chainTo rowsRoom columnsRoom
+  chainSteps scratch rowsRoom columnsRoom = askedSteps scratch ++ chainRoomSteps chainTo rowsRoom columnsRoom
 
 -- a chain listed: the reply, and the chain written to the front of its lists
 pub record Listed (chain : List (ℕ × ℕ)) (chainRows chainColumns : List ℕ) (reply : Reply ℕ) (chainRows′ chainColumns′ : List ℕ) : Type 0 where
-  pub answer : reply ≡ first (listSteps chain (length chainRows) (length chainColumns)) (length chain)
-  pub rows-after : chainRows′ ≡ after (listSteps chain (length chainRows) (length chainColumns)) (overwrite (rowsOf chain) chainRows) chainRows
-  pub columns-after : chainColumns′ ≡ after (listSteps chain (length chainRows) (length chainColumns)) (overwrite (columnsOf chain) chainColumns) chainColumns
+  pub answer : reply ≡ first (chainRoomSteps chain (length chainRows) (length chainColumns)) (length chain)
+  pub rows-after : chainRows′ ≡ after (chainRoomSteps chain (length chainRows) (length chainColumns)) (overwrite (rowsOf chain) chainRows) chainRows
+  pub columns-after : chainColumns′ ≡ after (chainRoomSteps chain (length chainRows) (length chainColumns)) (overwrite (columnsOf chain) chainColumns) chainColumns
 
 -- the reply and the lists: the scratch is cleared wherever the chain was looked for, the chain is written to the front of its lists
 pub record ChainListed (x : ChainCall) (scratch chainRows chainColumns : List ℕ) (reply : Reply ℕ) (scratch′ chainRows′ chainColumns′ : List ℕ) : Type 0 where

@@ -5,12 +5,12 @@ use native.Mathlib.Omega.{arith}
 use mathlib.Core.Path.{_≡_}
 use mathlib.Core.Bool.{Bool}
 use mathlib.Core.Logic.{_↔_}
-use mathlib.Core.List.{List, [], _∷_, _++_}
+use mathlib.Core.List.{List, []}
 use lib.ListN.{length}
 use borrow.Author.Tests.{ltb-false, leb-false}
 use Rattle.refusal.specs.Bounds.{maxDimension}
 use Rattle.refusal.specs.Steps.{Passed, passed-clear, passed-front}
-use Rattle.refusal.specs.Groups.{AllPassed, groups-passed}
+use Rattle.refusal.specs.Groups.{groups-passed}
 use Rattle.pairs.specs.Pair.{pairTotal}
 use Rattle.columns.specs.Columns.{boundSteps}
 use Rattle.columns.specs.Factor.{Factor, boundSteps-sound}

@@ -12,6 +12,7 @@ use lib.ListN.{length, take}
 use lib.Ieee.{Float, nan}
 use borrow.Author.Tests.{lt-ltb, le-ltb, le-leb}
 use Rattle.lists.specs.Test.{not-so}
+use Rattle.lists.specs.Overwrite.{overwrite}
 use Rattle.refusal.specs.Steps.{Step, Reply, refused, answered, Passed}
 use Rattle.pairs.specs.Pair.{pairTotal}
 use Rattle.columns.specs.Kept.{nonzero, pattern, diag, desc}
@@ -23,9 +24,10 @@ use Rattle.takahashi.specs.Recurrence.{at, Lower, Solves, table-solves, solves-
 use Rattle.exact.specs.Exact.{floats, float-off, float-on}
 use Rattle.diagnostics.specs.declared.SelectedInverseStatus.the-variants.{Complete}
 use Rattle.closed_set.specs.FactorPattern.{factor-pattern}
-use Rattle.entries.specs.Entries.{entryStarts, floatTable}
+use Rattle.entries.specs.Entries.{entryStarts, entryRows, entryValues}
 use Rattle.result.specs.Lookup.{lookup}
-use Rattle.exact_entries.specs.ReadBack.{readBack, covered, lookup-filled}
+use Rattle.result.specs.Halving.{lookupWithin, within-lookup}
+use Rattle.exact_entries.specs.ReadBack.{readBack, covered, filled-result, lookup-filled}
 use Rattle.selection.specs.Selection.{Selection, Lent, roomOf, Accepted, selectedSet, selectedSize, selectedComplete, selectedAnswer, selectedTable}
 use Rattle.selection.specs.Selection.{ResultLists, passed-starts, complete-rows, complete-values}
 use Rattle.selection.specs.Status.{selected-complete}
@@ -91,17 +93,33 @@ module _ (x : Selection) (lent : Lent) (A : Accepted x (roomOf lent)) where
       (float-solves (x .values) (A .factor))
 
   module _ (steps : List Step) (passed : Passed steps) {rs rr : List ℕ} {rv : List Float} {s : List ℕ} (L : ResultLists steps x lent rs rr rv s) where
-    -- within the limit, the lookup finds the set's entries
+    most : selectedSize x ≤ pairTotal (x .n)
+    most = closureSize-most (x .n) pat (x .requests)
+
+    -- within the limit, what is looked up in the lists that are left is looked up in the set's
+    in-set : selectedSize x ≤ x .limit → (f : List ℕ → List ℕ → List Float → Reply Float) → f (take (x .n + 1) rs) rr rv
+        ≡ f (entryStarts (x .n) (selectedSet x)) (overwrite (entryRows (x .n) (selectedSet x)) (lent .resultRows))
+        (overwrite (entryValues (x .n) (selectedSet x) (selectedTable x)) (lent .resultValues))
+    in-set h f =
+        ap (λ (l : List ℕ). f (take (x .n + 1) l) rr rv) (passed-starts steps x lent passed L)
+        ∙ ap (λ (l : List ℕ). f l rr rv) (front-starts x lent h)
+        ∙ ap₂ (f (entryStarts (x .n) (selectedSet x))) (complete-rows steps x lent passed L (le-leb _ _ h)) (complete-values steps x lent passed L (le-leb _ _ h))
+
+    -- the lookup finds the set's entries
     pub found-entries : selectedSize x ≤ x .limit → (row col : ℕ) → found x rs rr rv row col ≡ readBack (x .n) (selectedSet x) (selectedTable x) row col
     found-entries h row col =
-        ap (λ (l : List ℕ). lookup (take (x .n + 1) l) rr rv row col) (passed-starts steps x lent passed L)
-        ∙ ap (λ (l : List ℕ). lookup l rr rv row col) (front-starts x lent h)
-        ∙ ap₂ (λ (r : List ℕ) (v : List Float). lookup (entryStarts (x .n) (selectedSet x)) r v row col) (complete-rows steps x lent passed L (le-leb _ _ h)) (complete-values steps x lent passed L (le-leb _ _ h))
+        in-set h (λ l r v. lookup l r v row col)
         ∙ lookup-filled (x .n) (selectedSet x) (selectedTable x) nan (lent .resultRows) (lent .resultValues) (omega (arith, most, A .rows-room))
         (omega (arith, most, A .values-room)) row col
-      where
-        most : selectedSize x ≤ pairTotal (x .n)
-        most = closureSize-most (x .n) pat (x .requests)
+
+    -- and the lookup that checks no column finds the same
+    pub found-within : selectedSize x ≤ x .limit → (row col : ℕ) → lookupWithin (take (x .n + 1) rs) rr rv row col ≡ found x rs rr rv row col
+    found-within h row col =
+        in-set h (λ l r v. lookupWithin l r v row col)
+        ∙ within-lookup nan (entryStarts (x .n) (selectedSet x)) _ _
+        (filled-result (x .n) (selectedSet x) (selectedTable x) nan (lent .resultRows) (lent .resultValues) (omega (arith, most, A .rows-room))
+        (omega (arith, most, A .values-room))) row col
+        ∙ sym (in-set h (λ l r v. lookup l r v row col))
 
     -- the recurrence is what reads back
     pub reads-recurrence : ReadsRecurrence x rs rr rv (selectedTable x)

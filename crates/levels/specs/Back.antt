@@ -3,8 +3,7 @@
 use Prim.Native.Nat.{ℕ, zero, suc, _+_, _-_, _*_, _≤_, _<_, min, max}
 use native.Mathlib.Omega.{arith}
 use mathlib.Core.Path.{_≡_, refl, sym, ap, ap₂, subst, _∙_}
-use mathlib.Core.Bool.{Bool, true, false, cond, _&&_, _||_, false≢true}
-use mathlib.Core.Logic.{_⊎_, inl, inr, ⊎-elim}
+use mathlib.Core.Bool.{Bool, true, false, cond, _&&_, _||_}
 use mathlib.Core.List.{List, [], _∷_, _++_, append-assoc}
 use lib.Dec.{eqb}
 use lib.ListN.{length}
@@ -13,13 +12,11 @@ use borrow.Author.Tests.{eq-eqb, ne-eqb, eqb-true}
 use Rattle.lists.specs.Test.{same-truth, and-left, and-right, and-both, not-so}
 use Rattle.closed_set.specs.ClosedSet.{descends, reach, member, Needed, Pattern, Ranged, needed-range, needed-member, member-needed}
 use Rattle.chains.specs.Least.{least, least-most, least-cong}
-use Rattle.chains.specs.Distance.{distance, distance-most, reach-needed, reach-distance, distance-step, distance-reach, leads-range}
-use Rattle.chains.specs.Levels.{levelAt, levelAt-own}
+use Rattle.chains.specs.Distance.{distance, distance-most, reach-needed, reach-distance, distance-step, distance-reach}
+use Rattle.chains.specs.Levels.{levelAt}
 use Rattle.chains.specs.Before.{above, beside, beforeColumn, beforeRow}
 use Rattle.chains.specs.Chain.{length-snoc}
-use Rattle.chains.specs.ChainOf.{chainBack, chainBack-none, chainOf, chainOf-none, chainOf-member, before-prior}
-use Rattle.levels.specs.Levels.{levelWord}
-use Rattle.levels.specs.Closing.{AllLevels}
+use Rattle.chains.specs.ChainOf.{chainBack, chainOf, chainOf-none, chainOf-member, before-prior}
 
 module _ (desc : ℕ → List ℕ) (W : ℕ → ℕ → ℕ) where
   -- (c, j) has the level and (r, c) is a dependency of it; and so for (r, j)

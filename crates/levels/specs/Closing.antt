@@ -1,9 +1,9 @@
 -- Closing level by level: the dependencies of the pairs at one level are given the next.
 -- Assumes nothing.
-use Prim.Native.Nat.{ℕ, zero, suc, _+_, _*_, _≤_, _<_, min, max}
+use Prim.Native.Nat.{ℕ, suc, _+_, _*_, _≤_, _<_, min, max}
 use native.Mathlib.Omega.{arith}
 use native.Mathlib.Decide.{decLt}
-use mathlib.Core.Path.{_≡_, refl, sym, ap, ap₂, subst, subst₂, _∙_}
+use mathlib.Core.Path.{_≡_, refl, sym, ap, ap₂, subst₂, _∙_}
 use mathlib.Core.Bool.{Bool, true, false, cond, _&&_, false≢true}
 use mathlib.Core.Logic.{⊎-elim}
 use mathlib.Core.List.{List}
@@ -14,10 +14,10 @@ use Rattle.pairs.specs.Pair.{pairTotal, ordered, ordered-is, is-ordered}
 use Rattle.columns.specs.Columns.{start, row}
 use Rattle.columns.specs.Kept.{keptBelow, pattern}
 use Rattle.columns.specs.Factor.{Factor}
-use Rattle.closed_set.specs.ClosedSet.{descends, descends-at, descends-found, reach, member, Pattern, Ranged, Needed, needed-range}
+use Rattle.closed_set.specs.ClosedSet.{descends-at, descends-found, reach, member, Pattern, Ranged, Needed, needed-range}
 use Rattle.closed_set.specs.FactorPattern.{entry-descends, descends-entry}
 use Rattle.closed_set.specs.Requests.{Requests}
-use Rattle.chains.specs.Distance.{Leads, distance, reach-needed, reach-distance, distance-request}
+use Rattle.chains.specs.Distance.{Leads, distance, reach-distance, distance-request}
 use Rattle.chains.specs.Levels.{levelAt, After, reach-level, level-last, levelAt-own, levelAt-stays, levelAt-new}
 use Rattle.marked_pairs.specs.MarkedPairs.{packing, packed, rowOf, columnOf}
 use Rattle.levels.specs.Levels.{levelWord, levelQueue, Levelled, raised, Raised, raised-stays, raised-in, raised-out}

@@ -8,7 +8,7 @@ ghost use Rattle.pairs.specs.Pair.{pairTotal};
 ghost use Rattle.pairs.specs.Scratch.{queueStart};
 ghost use Rattle.pairs.specs.ColumnOrder.{columnPlace};
 ghost use Rattle.marked_pairs.specs.MarkedPairs.{Insert, Inserted, MarkedPairs};
-use scratch::pair_total;
+use scratch::mark_words;
 use scratch::queue_start;
 use words::bit_words::bit;
 use words::bit_words::set_bit;
@@ -30,7 +30,7 @@ pub fn clear_pairs(n: usize, scratch: &mut [u32])
     requires { ⌜ (n ≤ maxDimension) × (queueStart n + pairTotal n ≤ length (now scratch)) ⌝ }
     ensures { λ _. ⌜ MarkedPairs n (λ _ _. false) (now (scratch .entry)) (now (scratch .exit)) 0 ⌝ }
 {
-    clear(scratch, (pair_total(n) + 31) / 32);
+    clear(scratch, mark_words(n));
 }
 
 // Marks the pair (r, c), in order, and puts it at the queue's end, unless it is marked; returns how many are marked.

@@ -7,27 +7,31 @@ use Rattle.bits.specs.Bits.{bitWords, word-below, bitWords-most}
 use Rattle.refusal.specs.Bounds.{maxDimension}
 use Rattle.pairs.specs.Pair.{pairTotal, maxPairs, pairTotal-small}
 
+-- how many words hold the marks, ceil(T/32)
+abbrev pub markWords : ℕ → ℕ
+markWords n = bitWords (pairTotal n)
+
 -- the word where the queue, and later the positions, start
 unfoldable pub queueStart : ℕ → ℕ
-queueStart n = pairTotal n
+queueStart n = markWords n
 
 -- how many words a call uses
 unfoldable pub scratchWords : ℕ → ℕ
-scratchWords n = 2 * pairTotal n + 4 * n
+scratchWords n = markWords n + pairTotal n + 4 * n
 
 -- as the code computes them
-pub queueStart-total : (n : ℕ) → pairTotal n ≡ queueStart n
+pub queueStart-total : (n : ℕ) → markWords n ≡ queueStart n
 unfolding queueStart
 queueStart-total n = refl
 
-pub scratchWords-total : (n : ℕ) → 2 * pairTotal n + 4 * n ≡ scratchWords n
+pub scratchWords-total : (n : ℕ) → markWords n + pairTotal n + 4 * n ≡ scratchWords n
 unfolding scratchWords
 scratchWords-total n = refl
 
 -- the marks' words end before the queue
-pub queueStart-words : (n : ℕ) → bitWords (pairTotal n) ≤ queueStart n
+pub queueStart-words : (n : ℕ) → markWords n ≤ queueStart n
 unfolding queueStart
-queueStart-words n = bitWords-most (pairTotal n)
+queueStart-words n = omega arith
 
 -- so the word of a pair's mark is before it
 pub queueStart-mark : (n p : ℕ) → p < pairTotal n → p / 32 < queueStart n
@@ -45,4 +49,4 @@ scratchWords-room n h = omega (arith, scratchWords-queue n)
 -- the queue's start is small
 pub queueStart-small : (n : ℕ) → n ≤ maxDimension → queueStart n ≤ maxPairs
 unfolding queueStart
-queueStart-small n h = pairTotal-small n h
+queueStart-small n h = omega (arith, bitWords-most (pairTotal n), pairTotal-small n h)

@@ -11,6 +11,7 @@ use Rattle.lists.specs.Select.{select, tally, select-cong, getD-mapped}
 use Rattle.lists.specs.Overwrite.{overwrite, overwrite-none, splice, splice-overwrite}
 use Rattle.lists.specs.Cells.{cells, cells-none, cells-next, cells-length, cellCount, cellCount-next, cellCount-mono}
 use Rattle.bits.specs.Bits.{bitWords}
+use Rattle.pairs.specs.Scratch.{markWords}
 use Rattle.refusal.specs.Bounds.{maxDimension}
 use Rattle.pairs.specs.Pair.{pairTotal, pairTotal-next, pairTotal-mono, rowStart, rowEnd, pairRows, pairColumns, pairCount}
 use Rattle.pairs.specs.Marks.{marking}
@@ -20,14 +21,14 @@ use Rattle.set_bits.specs.BitsListed.{bitsTest, ListInput}
 -- there is room for the row's marked pairs
 pub record RowRoom (marks : List ℕ) (r count : ℕ) (rows columns : List ℕ) : Type 0 where
   pub small : r < maxDimension
-  pub stored : bitWords (pairTotal (r + 1)) ≤ length marks
+  pub stored : markWords (r + 1) ≤ length marks
   pub rows-fit : count + tally (marking marks r) 0 (r + 1) ≤ length rows
   pub columns-fit : count + tally (marking marks r) 0 (r + 1) ≤ length columns
 
 -- there is room for all marked pairs
 pub record PairsRoom (marks : List ℕ) (n : ℕ) (rows columns : List ℕ) : Type 0 where
   pub small : n ≤ maxDimension
-  pub all : length marks ≡ bitWords (pairTotal n)
+  pub all : length marks ≡ markWords n
   pub rows-fit : pairCount n (marking marks) ≤ length rows
   pub columns-fit : pairCount n (marking marks) ≤ length columns
 

@@ -11,8 +11,8 @@ use lib.ListN.{length, getD}
 use borrow.Author.Tests.{le-leb, lt-leb, eqb-true, eq-eqb}
 use Rattle.lists.specs.Test.{any, anyIn, any-none, any-next, any-hit, any-found, anyIn-none, anyIn-next, anyIn-hit, anyIn-found, and-left, and-right, and-both, same-truth}
 use Rattle.refusal.specs.Bounds.{maxDimension}
-use Rattle.bits.specs.Bits.{bitWords}
-use Rattle.pairs.specs.Pair.{pairTotal, ordered, ordered-is, is-ordered}
+use Rattle.pairs.specs.Scratch.{markWords}
+use Rattle.pairs.specs.Pair.{ordered, ordered-is, is-ordered}
 use Rattle.pairs.specs.Marks.{Added, HasMark, single, pair-marked, added-none, added-also, added-agree}
 use Rattle.columns.specs.Columns.{start, row}
 use Rattle.columns.specs.Kept.{kept, keptRow, keptPair}
@@ -64,7 +64,7 @@ pub record ColumnFits (c : ℕ) (rows : List ℕ) (values s e : ℕ) (marks : Li
   pub fits : (p : ℕ) → s ≤ p → p < e → EntryFits c rows marks p
 
 -- the entries of a factor's column have marks
-pub column-fits : {n : ℕ} {starts rows : List ℕ} {values : ℕ} → Factor n starts rows values → n ≤ maxDimension → (marks : List ℕ) → length marks ≡ bitWords (pairTotal n) → (c : ℕ) → c < n
+pub column-fits : {n : ℕ} {starts rows : List ℕ} {values : ℕ} → Factor n starts rows values → n ≤ maxDimension → (marks : List ℕ) → length marks ≡ markWords n → (c : ℕ) → c < n
     → ColumnFits c rows values (start starts c) (start starts (c + 1)) marks
 column-fits {n} {starts} {rows} F small marks e c h =
     let C = factor-column F c h in
@@ -169,7 +169,7 @@ terms-part F l k lo hi = record {
 }
 
 -- the columns of an operator's row have marks
-pub row-fits : {n : ℕ} {rowStarts columns : List ℕ} {weights : ℕ} → OperatorRows n rowStarts columns weights → n ≤ maxDimension → (marks : List ℕ) → length marks ≡ bitWords (pairTotal n) → (i : ℕ) → i < operatorRows rowStarts
+pub row-fits : {n : ℕ} {rowStarts columns : List ℕ} {weights : ℕ} → OperatorRows n rowStarts columns weights → n ≤ maxDimension → (marks : List ℕ) → length marks ≡ markWords n → (i : ℕ) → i < operatorRows rowStarts
     → TermsFit columns (start rowStarts i) (start rowStarts (i + 1)) marks
 row-fits {n} {rowStarts} {columns} O small marks e i h =
     let S = O .starts-rise in

@@ -3,8 +3,7 @@ ghost use mathlib.Core.Path.{_≡_};
 ghost use Prim.Native.Nat.{_≤_};
 ghost use lib.ListN.{length};
 ghost use Rattle.refusal.specs.Bounds.{maxDimension};
-ghost use Rattle.bits.specs.Bits.{bitWords};
-ghost use Rattle.pairs.specs.Pair.{pairTotal};
+ghost use Rattle.pairs.specs.Scratch.{markWords};
 ghost use Rattle.pairs.specs.Marks.{marking};
 ghost use Rattle.pattern_lists.specs.ListedMarks.{ListedMarks};
 use super::marks::list_pairs;
@@ -26,7 +25,7 @@ pub fn list_marked(
     rows: &mut [u32],
     columns: &mut [u32],
 ) -> PatternPairs
-    requires { ⌜ (n ≤ maxDimension) × (length (now marks) ≡ bitWords (pairTotal n)) ⌝ }
+    requires { ⌜ (n ≤ maxDimension) × (length (now marks) ≡ markWords n) ⌝ }
     ensures { λ r. ⌜ ListedMarks n (marking (now (marks .entry))) r (now (marks .entry)) (now (rows .entry)) (now (columns .entry)) (now (marks .exit)) (now (rows .exit)) (now (columns .exit)) ⌝ }
 {
     let count = count_bits(marks, 0, pair_total(n));

@@ -4,8 +4,7 @@ ghost use Prim.Native.Nat.{_≤_};
 ghost use mathlib.Core.List.{[]};
 ghost use lib.ListN.{length};
 ghost use Rattle.refusal.specs.Bounds.{maxDimension};
-ghost use Rattle.bits.specs.Bits.{bitWords};
-ghost use Rattle.pairs.specs.Pair.{pairTotal};
+ghost use Rattle.pairs.specs.Scratch.{markWords};
 ghost use Rattle.columns.specs.Kept.{nonzero, keptPair};
 ghost use Rattle.columns.specs.Factor.{Factor};
 ghost use Rattle.columns.specs.Operator.{OperatorRows};
@@ -31,7 +30,7 @@ fn list_factor(
     pair_columns: &mut [u32],
 ) -> PatternPairs
     requires { ⌜ Factor n (now starts) (now rows) (length (now values)) ⌝ }
-    requires { ⌜ (n ≤ maxDimension) × (length (now marks) ≡ bitWords (pairTotal n)) ⌝ }
+    requires { ⌜ (n ≤ maxDimension) × (length (now marks) ≡ markWords n) ⌝ }
     ensures { λ r. ⌜ ListedMarks n (keptPair (now (starts .entry)) (now (rows .entry)) (nonzero (now (values .entry)))) r
         (now (marks .entry)) (now («pair_rows» .entry)) (now («pair_columns» .entry)) (now (marks .exit)) (now («pair_rows» .exit)) (now («pair_columns» .exit)) ⌝ }
 {
@@ -50,7 +49,7 @@ fn list_operator(
     pair_columns: &mut [u32],
 ) -> PatternPairs
     requires { ⌜ OperatorRows n (now «row_starts») (now columns) (length (now columns)) ⌝ }
-    requires { ⌜ (n ≤ maxDimension) × (length (now marks) ≡ bitWords (pairTotal n)) ⌝ }
+    requires { ⌜ (n ≤ maxDimension) × (length (now marks) ≡ markWords n) ⌝ }
     ensures { λ r. ⌜ ListedMarks n (operatorPair (now («row_starts» .entry)) (now (columns .entry))) r
         (now (marks .entry)) (now («pair_rows» .entry)) (now («pair_columns» .entry)) (now (marks .exit)) (now («pair_rows» .exit)) (now («pair_columns» .exit)) ⌝ }
 {

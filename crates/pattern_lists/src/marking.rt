@@ -3,8 +3,8 @@ ghost use mathlib.Core.Path.{_≡_};
 ghost use Prim.Native.Nat.{_+_, _<_, _≤_};
 ghost use lib.ListN.{length};
 ghost use Rattle.refusal.specs.Bounds.{maxDimension};
-ghost use Rattle.bits.specs.Bits.{bitWords};
-ghost use Rattle.pairs.specs.Pair.{pairTotal, ordered};
+ghost use Rattle.pairs.specs.Scratch.{markWords};
+ghost use Rattle.pairs.specs.Pair.{ordered};
 ghost use Rattle.pairs.specs.Marks.{Added};
 ghost use Rattle.columns.specs.Kept.{nonzero};
 ghost use Rattle.columns.specs.Factor.{Factor};
@@ -43,7 +43,7 @@ fn mark_column(c: usize, rows: &[u32], values: &[f64], s: usize, e: usize, marks
 // Marks the kept entries of all columns.
 pub fn mark_factor(n: usize, starts: &[u32], rows: &[u32], values: &[f64], marks: &mut [u32])
     requires { ⌜ Factor n (now starts) (now rows) (length (now values)) ⌝ }
-    requires { ⌜ (n ≤ maxDimension) × (length (now marks) ≡ bitWords (pairTotal n)) ⌝ }
+    requires { ⌜ (n ≤ maxDimension) × (length (now marks) ≡ markWords n) ⌝ }
     ensures { λ _. ⌜ Added (columnsSet (now (starts .entry)) (now (rows .entry)) (nonzero (now (values .entry))) n) (now (marks .entry)) (now (marks .exit)) ⌝ }
 {
     let mut c = 0;
@@ -93,7 +93,7 @@ fn mark_row(columns: &[u32], s: usize, e: usize, marks: &mut [u32])
 // Marks the pairs of all rows of an operator of n columns.
 pub fn mark_operator(n: usize, row_starts: &[u32], columns: &[u32], marks: &mut [u32])
     requires { ⌜ OperatorRows n (now «row_starts») (now columns) (length (now columns)) ⌝ }
-    requires { ⌜ (n ≤ maxDimension) × (length (now marks) ≡ bitWords (pairTotal n)) ⌝ }
+    requires { ⌜ (n ≤ maxDimension) × (length (now marks) ≡ markWords n) ⌝ }
     ensures { λ _. ⌜ Added (rowsSet (now («row_starts» .entry)) (now (columns .entry)) (operatorRows (now («row_starts» .entry)))) (now (marks .entry)) (now (marks .exit)) ⌝ }
 {
     let last = operator_check::operator_rows(row_starts);

@@ -1,4 +1,5 @@
 // The cases of a text, one after another.
+use super::chains::chains;
 use super::files::reading;
 use super::floors::least_value;
 use super::floors::stabilization;
@@ -39,6 +40,8 @@ fn call(text: &[u8], kind: usize, p: usize) {
         diagonals(text, p);
     } else if begins(text, kind, b"search\n") {
         searches(text, p);
+    } else if begins(text, kind, b"chain\n") {
+        chains(text, p);
     } else if begins(text, kind, b"mmread\n") {
         reading(text, p);
     } else if begins(text, kind, b"pat") {

@@ -1,5 +1,6 @@
 // Reads cases from standard input, makes their calls and writes the answers, both in the text form that replay/README.md gives.
 mod cases;
+mod chains;
 mod files;
 mod floors;
 mod lookups;

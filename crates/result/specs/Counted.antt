@@ -3,11 +3,11 @@
 use Prim.Native.Nat.{ℕ, _+_, _-_, _*_, _≤_, _<_, max, min}
 use native.Mathlib.Omega.{arith}
 use native.Mathlib.Nat.{max-eq-left, max-eq-right, min-eq-left, min-eq-right, le-refl, add-zero}
-use mathlib.Core.Path.{_≡_, refl, sym, ap, ap₂, subst, _∙_}
+use mathlib.Core.Path.{_≡_, ap, ap₂, subst, _∙_}
 use mathlib.Core.List.{List}
 use lib.ListN.{length, take, drop, length-drop}
 use lib.Seq.{length-take-le, getD-take, getD-drop}
-use Rattle.refusal.specs.Steps.{Passed, verdict, refused, answered, first, settle}
+use Rattle.refusal.specs.Steps.{Passed, verdict, refused, first, settle}
 use Rattle.columns.specs.Columns.{start, row}
 use Rattle.result.specs.Digits.{binaryDigits}
 use Rattle.result.specs.Looks.{looks, looks-first, looks-most}

@@ -15,7 +15,7 @@ use borrow.Author.Tests.{eq-eqb, ne-eqb, lt-ltb, le-ltb, lt-leb, le-leb, eqb-tru
 use Rattle.lists.specs.Test.{not-so}
 use Rattle.refusal.specs.Steps.{Reply, refused, answered}
 use Rattle.columns.specs.Columns.{start, row}
-use Rattle.columns.specs.Factor.{Ascends, Column}
+use Rattle.columns.specs.Factor.{Ascends}
 use Rattle.result.specs.Place.{isRow, placeIn, Stands, holds, placeIn-at, placeIn-absent, holds-stands, stands-holds}
 use Rattle.result.specs.Lookup.{dimension, valueAt, lookupOf, WellFormed}
 use Rattle.result.specs.Laws.{columnFaults-passed, entryOf-place, lookup-outside}

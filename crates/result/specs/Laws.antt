@@ -2,9 +2,9 @@
 -- Assumes nothing.
 use Prim.Native.Nat.{ℕ, _+_, _-_, _≤_, _<_, max, min}
 use native.Mathlib.Omega.{arith}
-use native.Mathlib.Nat.{max-comm, min-comm, max-eq-left, max-eq-right, min-eq-left, min-eq-right, max-le, suc-max-suc, min-le-left, le-refl}
+use native.Mathlib.Nat.{max-comm, min-comm, max-eq-left, max-eq-right, min-eq-left, min-eq-right, le-refl}
 use native.Mathlib.Decide.{decLt}
-use mathlib.Core.Path.{_≡_, refl, sym, ap, ap₂, _∙_}
+use mathlib.Core.Path.{_≡_, refl, ap, ap₂, _∙_}
 use mathlib.Core.Bool.{Bool, true, false}
 use mathlib.Core.List.{List, [], _∷_}
 use lib.ListN.{length, getD}
@@ -18,9 +18,9 @@ use Rattle.refusal.specs.Steps.{first-hit, first-skip, first-end, append-refuse
 use Rattle.columns.specs.Columns.{start, row, notAbove}
 use Rattle.columns.specs.Factor.{Column, above-ascends}
 use Rattle.columns.specs.Kept.{f0}
-use Rattle.result.specs.Place.{placeOf, placeIn, Stands, placeIn-absent, placeIn-at, placeIn-stands, holds-stands}
+use Rattle.result.specs.Place.{placeOf, placeIn, Stands, placeIn-absent, placeIn-at, holds-stands}
 use Rattle.result.specs.Lookup.{dimension, noStarts, columnFaults, absentStep, searchSteps, entrySteps, resultSteps, diagSteps}
-use Rattle.result.specs.Lookup.{entryOf, valueAt, finds, lookupOf, diagonalOf, markOf, diagonals, entryPlace, WellFormed}
+use Rattle.result.specs.Lookup.{entryOf, valueAt, finds, lookupOf, diagonalOf, markOf, diagonals, WellFormed}
 
 -- ---- 2 and 3 pass exactly if the columns are well formed
 module _ (starts rows : List ℕ) (values c : ℕ) where
@@ -117,17 +117,6 @@ module _ {A : Type 0} (starts rows : List ℕ) (values r c : ℕ) (a : A) where
 -- the rows alone
 pub column-rows : {rows : List ℕ} {values s e : ℕ} → Column rows values s e → Column rows (length rows) s e
 column-rows C = record { ordered = C .ordered; stored = C .stored; weighed = C .stored; ascends = C .ascends }
-
--- ---- the place of an entry
-module _ (starts rows : List ℕ) (row col : ℕ) where
-  at-place : {r c : ℕ} → max row col ≡ r → min row col ≡ c → entryPlace starts rows row col ≡ placeIn rows r (start starts c) (start starts (c + 1))
-  at-place = ap₂ (λ (r c : ℕ). placeIn rows r (start starts c) (start starts (c + 1)))
-
-  pub entryPlace-ordered : col ≤ row → entryPlace starts rows row col ≡ placeIn rows row (start starts col) (start starts (col + 1))
-  entryPlace-ordered h = at-place (max-eq-left h) (min-eq-right h)
-
-  pub entryPlace-exchanged : row ≤ col → entryPlace starts rows row col ≡ placeIn rows col (start starts row) (start starts (row + 1))
-  entryPlace-exchanged h = at-place (max-eq-right h) (min-eq-left h)
 
 -- ---- the lookup
 module _ {A : Type 0} (blank : A) (values : List A) where

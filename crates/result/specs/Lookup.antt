@@ -12,7 +12,7 @@ use Rattle.refusal.specs.Steps.{Step, Reply, refused, answered, first, settle, 
 use Rattle.columns.specs.Columns.{start, falls, unsorted}
 use Rattle.columns.specs.Factor.{Column}
 use Rattle.columns.specs.Kept.{f0}
-use Rattle.result.specs.Place.{holds, placeOf, placeIn}
+use Rattle.result.specs.Place.{holds, placeOf}
 
 -- the number of columns: that of the starts less one
 abbrev pub dimension : List ℕ → ℕ
@@ -96,10 +96,6 @@ diagonals starts rows values = tabulate (diagonalOf nan f0 starts rows values) (
 -- the marks of the diagonal list, byte by byte
 unfoldable pub coverage : List ℕ → List ℕ → List Float → List ℕ
 coverage starts rows values = tabulate (markOf nan starts rows values) (dimension starts)
-
--- the place of an entry, row and column exchanged if row < column; 8 where it is absent
-abbrev pub entryPlace : List ℕ → List ℕ → ℕ → ℕ → Reply ℕ
-entryPlace starts rows row col = placeIn rows (max row col) (start starts (min row col)) (start starts (min row col + 1))
 
 -- past 2 and 3: starts, and columns within rows and values whose rows ascend
 pub record WellFormed (starts rows : List ℕ) (values : ℕ) : Type 0 where

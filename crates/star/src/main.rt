@@ -64,7 +64,7 @@ fn main() {
     let mut result_starts = [0; 4];
     let mut result_rows = [0; 6];
     let mut result_values = [0.0; 6];
-    let mut scratch = [0; 24];
+    let mut scratch = [0; 19];
     let answer = selected_inverse_entries_with_limit(
         3,
         &starts,

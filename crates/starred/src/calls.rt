@@ -23,7 +23,7 @@ pub fn entries(
     total: usize,
     words: usize,
 ) -> Selected
-    requires { ⌜ (n < 4) × (total ≤ 6) × (words ≤ 24) ⌝ }
+    requires { ⌜ (n < 4) × (total ≤ 6) × (words ≤ 19) ⌝ }
     ensures { λ r. ⌜ selectedReplyOf r
         ≡ callReply (call n (now (starts .entry)) (now (rows .entry)) (now (values .entry)) n (now («request_rows» .entry)) (now («request_columns» .entry)) limit)
         (room (n + 1) total total words) ⌝ }
@@ -31,7 +31,7 @@ pub fn entries(
     let mut result_starts = [7u32; 4];
     let mut result_rows = [7u32; 6];
     let mut result_values = [7.0f64; 6];
-    let mut scratch = [7u32; 24];
+    let mut scratch = [7u32; 19];
     selected_inverse_entries_with_limit(
         n,
         starts,
@@ -61,7 +61,7 @@ pub fn entry(
     total: usize,
     words: usize,
 ) -> SelectedEntry
-    requires { ⌜ (n < 4) × (total ≤ 6) × (words ≤ 24) ⌝ }
+    requires { ⌜ (n < 4) × (total ≤ 6) × (words ≤ 19) ⌝ }
     ensures { λ r. ⌜ answerOf r
         ≡ entryAnswer (call n (now (starts .entry)) (now (rows .entry)) (now (values .entry)) n (now («request_rows» .entry)) (now («request_columns» .entry)) 3)
         (room (n + 1) total total words) row col ⌝ }
@@ -69,7 +69,7 @@ pub fn entry(
     let mut result_starts = [7u32; 4];
     let mut result_rows = [7u32; 6];
     let mut result_values = [7.0f64; 6];
-    let mut scratch = [7u32; 24];
+    let mut scratch = [7u32; 19];
     selected_inverse_entry_with_limit(
         n,
         starts,

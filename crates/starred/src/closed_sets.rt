@@ -29,7 +29,7 @@ fn f2_shows(
         request_columns,
         limit,
         3,
-        14,
+        12,
     );
     expect(counted(reply, requested, closure, 3, complete));
 }
@@ -76,7 +76,7 @@ fn f3_shows(limit: usize, complete: bool)
         &[0],
         limit,
         6,
-        24,
+        19,
     );
     expect(counted(reply, 1, 6, 5, complete));
 }

@@ -8,7 +8,7 @@ pub fn operator_row() {
     let mut result_starts = [7u32; 3];
     let mut result_rows = [7u32; 3];
     let mut result_values = [7.0f64; 3];
-    let mut scratch = [7u32; 14];
+    let mut scratch = [7u32; 12];
     let mut output = [7.0f64; 1];
     let reply = selected_inverse_transformed_diag(
         2,

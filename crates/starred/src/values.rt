@@ -26,7 +26,7 @@ fn f2_entry(request: u32, row: usize, col: usize) -> SelectedEntry
         row,
         col,
         3,
-        14,
+        12,
     )
 }
 

@@ -12,7 +12,7 @@ use Rattle.selected_entry.specs.SelectedEntry.{EntryAnswer, answerOf, entryAnsw
 
 -- F2 with requests and limit 3, in lists that just suffice
 abbrev pub F2-entry : List ℕ → List ℕ → ℕ → ℕ → EntryAnswer
-F2-entry requestRows requestColumns = entryAnswer (call 2 F2-starts F2-rows F2-values 2 requestRows requestColumns 3) (room 3 3 3 14)
+F2-entry requestRows requestColumns = entryAnswer (call 2 F2-starts F2-rows F2-values 2 requestRows requestColumns 3) (room 3 3 3 12)
 
 -- one column with this diagonal alone, the request (0, 0) and limit 3
 abbrev pub one-entry : Float → EntryAnswer

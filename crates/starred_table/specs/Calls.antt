@@ -16,10 +16,10 @@ callReply x lengths = first (selectedSteps x lengths) (selectedAnswer (selection
 
 -- F2 and F3 with requests and a limit, in lists that just suffice
 abbrev pub F2 : List ℕ → List ℕ → ℕ → Reply SelectedInverseDiagnostics
-F2 requestRows requestColumns limit = callReply (call 2 F2-starts F2-rows F2-values 2 requestRows requestColumns limit) (room 3 3 3 14)
+F2 requestRows requestColumns limit = callReply (call 2 F2-starts F2-rows F2-values 2 requestRows requestColumns limit) (room 3 3 3 12)
 
 abbrev pub F3 : List ℕ → List ℕ → ℕ → Reply SelectedInverseDiagnostics
-F3 requestRows requestColumns limit = callReply (call 3 F3-starts F3-rows F3-values 3 requestRows requestColumns limit) (room 4 6 6 24)
+F3 requestRows requestColumns limit = callReply (call 3 F3-starts F3-rows F3-values 3 requestRows requestColumns limit) (room 4 6 6 19)
 
 -- no columns and no requests
 abbrev pub NoColumns : ℕ → Reply SelectedInverseDiagnostics

@@ -19,6 +19,7 @@ use Rattle.floor.specs.VarianceFloor.{floorSteps, floorOf}
 use Rattle.floor.specs.Floor.{stabilizedOf}
 use Rattle.floor.specs.Examples.{half, variances, worked-reply, worked-output}
 use Rattle.pairs.specs.Pair.{pairTotal}
+use Rattle.bits.specs.Bits.{bitWords}
 use Rattle.pairs.specs.Scratch.{scratchWords}
 use Rattle.columns.specs.Kept.{f0, factorPairs}
 use Rattle.columns.specs.Columns.{boundSteps, brokenSteps, startsSteps, rowsSteps, columnSteps}
@@ -68,7 +69,7 @@ pub record ClosedSets : Type 0 where
 
 pub closed-sets : ClosedSets
 unfolding any anyIn sumTo picked select cellCount ofInt ofBits ne le div factorPairs reach member requested diagnosisOf ratioOf
-    first pairTotal scratchWords boundSteps brokenSteps startsSteps rowsSteps columnSteps finiteSteps storedSteps requestSteps diagonalSteps roomSteps selectedSteps
+    first pairTotal bitWords scratchWords boundSteps brokenSteps startsSteps rowsSteps columnSteps finiteSteps storedSteps requestSteps diagonalSteps roomSteps selectedSteps
 closed-sets = record {
   f2-first = refl;
   f2-limited = refl;
@@ -110,7 +111,7 @@ pub record Values : Type 0 where
 pub values : Values
 unfolding any anyIn sumTo picked select cellCount ofInt ofBits ne le add sub mul div neg
     first boundSteps brokenSteps startsSteps rowsSteps columnSteps finiteSteps storedSteps requestSteps diagonalSteps roomSteps selectedSteps
-    pairTotal scratchWords reach member requested floatTable entryAnswer
+    pairTotal bitWords scratchWords reach member requested floatTable entryAnswer
 values = record {
   f2-first-00 = refl;
   f2-first-10 = refl;
@@ -123,14 +124,14 @@ values = record {
 
 -- ---- F2 with the operator row 1 at 0, 1 at 1: the three pairs of two columns, all of them needed, and 2
 
-pub operator-answered : first (transformedSteps F2-operator (room 3 3 3 14) 1) (selectedAnswer (transformedSelection F2-operator)) ≡ answered (diagnosis 3 3 3 30 Complete)
-unfolding any anyIn sumTo picked select cellCount ofInt ofBits ne le factorPairs reach member diagnosisOf first pairTotal scratchWords boundSteps brokenSteps startsSteps
+pub operator-answered : first (transformedSteps F2-operator (room 3 3 3 12) 1) (selectedAnswer (transformedSelection F2-operator)) ≡ answered (diagnosis 3 3 3 30 Complete)
+unfolding any anyIn sumTo picked select cellCount ofInt ofBits ne le factorPairs reach member diagnosisOf first pairTotal bitWords scratchWords boundSteps brokenSteps startsSteps
     rowsSteps columnSteps finiteSteps storedSteps operatorSteps diagonalSteps roomSteps transformedSteps operatorPair
 operator-answered = refl
 
-pub operator-written : (z : Float) → after (transformedSteps F2-operator (room 3 3 3 14) 1)
+pub operator-written : (z : Float) → after (transformedSteps F2-operator (room 3 3 3 12) 1)
     (cond (selectedComplete (transformedSelection F2-operator)) (overwrite (transformedValues F2-operator) (z ∷ [])) (z ∷ [])) (z ∷ []) ≡ whole 2 ∷ []
-unfolding any anyIn sumTo picked select cellCount ofInt ofBits ne le reach member after first pairTotal scratchWords boundSteps brokenSteps startsSteps rowsSteps columnSteps finiteSteps storedSteps
+unfolding any anyIn sumTo picked select cellCount ofInt ofBits ne le reach member after first pairTotal bitWords scratchWords boundSteps brokenSteps startsSteps rowsSteps columnSteps finiteSteps storedSteps
     operatorSteps diagonalSteps roomSteps transformedSteps operatorPair overwrite tabulate operatorValues addTerms addPlaces floatTable add sub mul div neg
 operator-written z = refl
 

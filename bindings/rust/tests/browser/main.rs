@@ -19,32 +19,60 @@ struct Harbour {
     svg: PathBuf,
     /// Cell, column, row, variance (empty for one that is not computed), by cell.
     lines: Vec<[String; 4]>,
+    /// Cell, column, row and pairs of each cell of the chain, in its order; none where no chain is asked for.
+    chain: Vec<[String; 4]>,
+}
+
+/// The fields of lines.
+fn fields(text: &str, gap: char) -> Vec<[String; 4]> {
+    let lines = text.lines().map(|line| {
+        let mut fields = line.split(gap).map(str::to_string);
+        std::array::from_fn(|_| fields.next().unwrap())
+    });
+    lines.collect()
 }
 
 impl Harbour {
-    fn new(folder: &Path) -> Self {
+    /// With the chain to a pair, where it is given.
+    fn new(folder: &Path, why: Option<&str>) -> Self {
         let requests = Path::new(env!("CARGO_MANIFEST_DIR")).join("examples/inner-fairway.mtx");
-        let (html, svg) = (folder.join("map.html"), folder.join("map.svg"));
-        let output = Command::new(env!("CARGO_BIN_EXE_redstartgilt"))
-            .args(["--demo", "--csv", "--requests"])
-            .arg(requests)
-            .arg("--html")
-            .arg(&html)
-            .arg("--svg")
-            .arg(&svg)
-            .output()
-            .unwrap();
-        assert!(output.status.success());
-        let csv = String::from_utf8(output.stdout).unwrap();
-        let lines = csv.lines().skip(1).map(|line| {
-            let mut fields = line.split(',').map(str::to_string);
-            std::array::from_fn(|_| fields.next().unwrap())
+        let run = |words: &[&str]| {
+            let output = Command::new(env!("CARGO_BIN_EXE_redstartgilt"))
+                .args(["--demo", "--requests"])
+                .arg(&requests)
+                .args(words)
+                .current_dir(folder)
+                .output()
+                .unwrap();
+            assert!(output.status.success());
+            String::from_utf8(output.stdout).unwrap()
+        };
+        let name = if why.is_some() { "chain" } else { "map" };
+        let [html, svg] = ["html", "svg"].map(|kind| format!("{name}.{kind}"));
+        let csv = run(&["--csv", "--html", &html, "--svg", &svg]);
+        let chain = why.map_or(String::new(), |why| {
+            let printed = run(&["--why", why, "--html", &html, "--svg", &svg]);
+            let (_, cells) = printed.split_once("\ncell column row pairs\n").unwrap();
+            cells.to_string()
         });
         Self {
-            html,
-            svg,
-            lines: lines.collect(),
+            html: folder.join(html),
+            svg: folder.join(svg),
+            lines: fields(csv.split_once('\n').unwrap().1, ','),
+            chain: fields(&chain, ' '),
         }
+    }
+
+    /// The pairs of a cell of the chain as the page shows them.
+    fn pairs_at(&self, column: usize, row: usize) -> Option<String> {
+        let place = [column.to_string(), row.to_string()];
+        let [_, _, _, pairs] = self.chain.iter().find(|line| line[1..3] == place)?;
+        let [_, _, _, last] = self.chain.last().unwrap();
+        let count = last.rsplit('-').next().unwrap();
+        Some(match pairs.split_once('-') {
+            Some((first, last)) => format!("pairs {first} to {last} of {count}"),
+            None => format!("pair {pairs} of {count}"),
+        })
     }
 
     fn at(&self, column: usize, row: usize) -> Option<&[String; 4]> {
@@ -78,23 +106,27 @@ fn check_readout(page: &mut Page<'_>, harbour: &Harbour, column: usize, row: usi
         Some(deviation) => assert!((shown.parse::<f64>().unwrap() - deviation).abs() < 1e-4, "{shown}"),
         None => assert_eq!(shown, "none"),
     }
+    if !harbour.chain.is_empty() {
+        let pairs = harbour.pairs_at(column, row);
+        assert_eq!(page.text_of("on-chain"), pairs.as_deref().unwrap_or("none"));
+    }
 }
 
 /// What is read out, too.
 fn check_selected(page: &mut Page<'_>, harbour: &Harbour, column: usize, row: usize) {
     check_readout(page, harbour, column, row);
     let ([place, coverage, variance], deviation) = harbour.expected(column, row);
-    let spoken = page.text_of("spoken");
-    match deviation {
-        Some(_) => assert_eq!(
-            spoken,
-            format!(
-                "{place}: {coverage}, variance {variance}, deviation {}",
-                page.text_of("deviation")
-            )
+    let mut expected = match deviation {
+        Some(_) => format!(
+            "{place}: {coverage}, variance {variance}, deviation {}",
+            page.text_of("deviation")
         ),
-        None => assert_eq!(spoken, format!("{place}: {coverage}")),
+        None => format!("{place}: {coverage}"),
+    };
+    if let Some(pairs) = harbour.pairs_at(column, row) {
+        expected.push_str(&format!(", chain: {pairs}"));
     }
+    assert_eq!(page.text_of("spoken"), expected);
     let moved = page.value("document.getElementById('selected').getAttribute('transform')");
     assert_eq!(moved, format!("translate({} {})", (column - 1) * 20, (row - 1) * 20));
 }
@@ -208,6 +240,59 @@ fn keys(page: &mut Page<'_>, harbour: &Harbour) {
     assert_eq!(page.text_of("coverage"), "not computed");
 }
 
+/// The chain is marked on its cells, and keys and pointer reach them through the marks.
+fn chain(page: &mut Page<'_>, harbour: &Harbour) {
+    let places = harbour.chain.iter().map(|line| {
+        let number = |place: usize| line[place].parse::<usize>().unwrap();
+        (number(1), number(2))
+    });
+    let places = places.collect::<Vec<_>>();
+    assert_eq!(places.len(), 3);
+    assert_eq!(page.value("document.querySelectorAll('#chain .mark').length"), "3");
+    assert_eq!(page.value("document.querySelectorAll('#why li').length"), "4");
+    page.value("document.getElementById('next-on-chain').focus()");
+    for (column, row) in places.iter().chain(&places[..1]) {
+        page.press("Enter", 13, false);
+        check_selected(page, harbour, *column, *row);
+        assert!(page.text_of("spoken").contains(", chain: pair"));
+    }
+    // From a cell that is not on it the first one is next.
+    let place = middle(page, 2, 3);
+    page.click(place);
+    check_selected(page, harbour, 2, 3);
+    assert_eq!(page.text_of("on-chain"), "none");
+    page.value("document.getElementById('next-on-chain').click()");
+    check_selected(page, harbour, places[0].0, places[0].1);
+    for (column, row) in places {
+        let place = middle(page, column, row);
+        page.mouse("mouseMoved", place);
+        check_readout(page, harbour, column, row);
+        let under = format!(
+            "document.elementFromPoint({}, {}).getAttribute('class')",
+            place.0, place.1
+        );
+        assert_eq!(page.value(&under), "cell");
+        // A mark has its cell's middle.
+        let cell = format!(
+            "document.querySelectorAll('.cell')[{}]",
+            (row - 1) * COLUMNS + column - 1
+        );
+        let of = |part: &str| {
+            format!(
+                "(() => {{ const box = {part}.getBoundingClientRect(); \
+                 return [(box.left + box.right) / 2, (box.top + box.bottom) / 2]; }})()"
+            )
+        };
+        let apart = format!(
+            "Math.min(...Array.from(document.querySelectorAll('#chain .mark'), (mark) => {{ \
+             const [one, other] = [{}, {}]; return Math.hypot(one[0] - other[0], one[1] - other[1]); }}))",
+            of("mark"),
+            of(&cell)
+        );
+        assert!(page.number(&apart) < 0.5);
+    }
+}
+
 fn pointer(page: &mut Page<'_>, harbour: &Harbour) {
     let start = middle(page, 1, 1);
     page.click(start);
@@ -308,6 +393,34 @@ fn without_colour(browser: &mut Browser, harbour: &Harbour) {
     }
 }
 
+/// The marks are of black and white, light and dark: on every cell of the chain both are seen.
+fn marks_without_colour(browser: &mut Browser, harbour: &Harbour) {
+    let mut parts = Vec::new();
+    {
+        let mut page = browser.page();
+        page.screen(1280, 900, false);
+        for (scheme, file) in [
+            ("light", &harbour.html),
+            ("dark", &harbour.html),
+            ("light", &harbour.svg),
+        ] {
+            page.open(file);
+            page.scheme(scheme);
+            for [_, column, row, _] in &harbour.chain {
+                let [column, row] = [column, row].map(|number| number.parse().unwrap());
+                let (x, y) = middle(&mut page, column, row);
+                let top = y + page.number("scrollY");
+                parts.push((page.painted(x - 9.0, top - 9.0, 18.0, 18.0), scheme));
+            }
+        }
+    }
+    let mut blank = browser.page();
+    for (painted, scheme) in parts {
+        let (least, largest) = blank.lightness(&painted);
+        assert!(largest - least > 200.0, "{scheme}: {least} to {largest}");
+    }
+}
+
 /// On a small screen, upright or not, nothing is wider than it, and the readout is in sight while the map is touched.
 fn small_screen(page: &mut Page<'_>, harbour: &Harbour) {
     for (width, height) in [(360, 640), (640, 360)] {
@@ -360,7 +473,8 @@ fn the_harbour_in_a_browser() {
     let folder = Path::new(env!("CARGO_TARGET_TMPDIR")).join("browser");
     let _ = std::fs::remove_dir_all(&folder);
     std::fs::create_dir_all(&folder).unwrap();
-    let harbour = Harbour::new(&folder);
+    let harbour = Harbour::new(&folder, None);
+    let with_chain = Harbour::new(&folder, Some("29,30"));
     let mut browser = Browser::start(&program, &folder.join("profile"));
     {
         let mut page = browser.page();
@@ -371,6 +485,13 @@ fn the_harbour_in_a_browser() {
         pointer(&mut page, &harbour);
         light_and_dark(&mut page);
         small_screen(&mut page, &harbour);
+        page.screen(1280, 900, false);
+        page.open(&with_chain.html);
+        contents(&mut page, &with_chain);
+        keys(&mut page, &with_chain);
+        chain(&mut page, &with_chain);
+        small_screen(&mut page, &with_chain);
     }
     without_colour(&mut browser, &harbour);
+    marks_without_colour(&mut browser, &with_chain);
 }

@@ -4,11 +4,11 @@ use Rattle.pairs.specs.Scratch.{queueStart-total}
 use Rattle.scratch.proofs.queue_start.Statement.{statement}
 use Rattle.scratch.proofs.queue_start.Tie as tie
 
-pair-total-requires : tie.Need-pair-total-requires
-pair-total-requires c κs = search needs
+mark-words-requires : tie.Need-mark-words-requires
+mark-words-requires c κs = search needs
 
 returns : tie.Need-returns
-returns c = (c .pair-total .ensures .0 ∙ queueStart-total (c .before .args .n), c .pair-total .ensures .1)
+returns c = (c .mark-words .ensures .0 ∙ queueStart-total (c .before .args .n), c .mark-words .ensures .1)
 
 pub queue-start-spec : {M : Type 1} → statement M
-queue-start-spec = tie.close (tie.spec pair-total-requires returns)
+queue-start-spec = tie.close (tie.spec mark-words-requires returns)

@@ -47,6 +47,13 @@ fn time(case: &Case, runs: usize) -> Result<f64, Stop> {
             let (factor, operator) = (fed::factor(case, None), fed::operator(case)?);
             median_ms(runs, || selected_inverse_transformed_diag(black_box(&factor), &operator))
         }
+        // the requests closed, and nothing else
+        "closing" => {
+            let (factor, requests) = (fed::factor(case, None), fed::requests(case)?);
+            let columns = cholesky_columns(&factor)?;
+            let pairs = cholesky_factor_pair_count(&columns);
+            median_ms(runs, || Ok(takahashi_dependency_closure(black_box(&columns), &requests, usize::MAX, pairs)))
+        }
         _ => case.fault("a kind that is not timed"),
     }
 }

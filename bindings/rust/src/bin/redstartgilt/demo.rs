@@ -2,10 +2,11 @@
 
 use crate::failure::{written, Failure};
 use crate::grid::Grid;
-use crate::map::{Cell, Map};
+use crate::map::{Cell, Map, Placed};
 use crate::options::Options;
 use crate::report::{self, NOT_COMPUTED};
-use crate::{cell_of, find, write_map, Found};
+use crate::why::Why;
+use crate::{cell_of, find, requested, write_map, Found};
 use redstartgilt::{
     selected_inverse_transformed_covariances, selected_inverse_transformed_diag, CholeskyFactor, Error, Permutation,
     SparseRowOperator,
@@ -327,16 +328,26 @@ pub fn run(output: &mut impl Write, options: &Options) -> Result<(), Failure> {
     let refused = |error| Failure::refused_at(PLACE, error);
     let harbour = Harbour::new();
     let factor = harbour.factor().map_err(refused)?;
-    let found = find(PLACE, &factor, options)?;
+    let requested = requested(&factor, options)?;
+    let why = options.why.map(|pair| Why::find(PLACE, &factor, &requested, pair));
+    let why = why.transpose()?;
+    let found = find(PLACE, &factor, &requested, options)?;
+    let placed = Placed {
+        grid: harbour.grid,
+        cells: &harbour.cells,
+    };
     let map = Map {
         title: "Harbour: variance of the depth",
         unit: Some("m"),
-        grid: harbour.grid,
         cells: &harbour.map_cells(&found.variances),
+        placed: &placed,
+        why: why.as_ref(),
         diagnostics: &found.diagnostics,
     };
     write_map(options, &map)?;
-    written(if options.csv {
+    written(if let Some(why) = &why {
+        report::why(output, options.csv, why, Some(&placed))
+    } else if options.csv {
         harbour.csv(output, &found)
     } else {
         let basin_mean = harbour.basin_mean(&factor).map_err(refused)?;

@@ -7,6 +7,7 @@ use crate::grid::Grid;
 use crate::map::{deviation, fill, Cell, Fill, Map};
 use crate::markup::{escaped, fill_value, pattern};
 use crate::scale::{short, Scale};
+use crate::trail::{Frame, Trail};
 use redstartgilt::count_and_least;
 use std::fmt::Write;
 
@@ -19,6 +20,8 @@ const SIDE: usize = 20;
 const SCREEN_SIDES: (usize, usize) = (6, 40);
 /// The longer side of a map on the screen, where cells of the least side allow it.
 const SCREEN_MAP: usize = 860;
+/// The least height of the text of marks on a large screen, and the largest in the map's own units.
+const MARK_TEXTS: (f64, f64) = (8.0, 8.0);
 
 /// Nothing is fetched: only the page's own style and script are used.
 const POLICY: &str = "default-src 'none'; style-src 'unsafe-inline'; script-src 'unsafe-inline'";
@@ -41,6 +44,7 @@ pub fn page(map: &Map<'_>) -> String {
     readout(&mut html, map);
     legend(&mut html, map, scale.as_ref());
     diagnosis(&mut html, map);
+    why(&mut html, map);
     table(&mut html, map);
     let _ = write!(html, "</main>\n<script>\n{SCRIPT}</script>\n</body>\n</html>\n");
     html
@@ -55,10 +59,28 @@ fn numbers<'a>(map: &'a Map<'_>) -> impl Iterator<Item = Option<usize>> + 'a {
     })
 }
 
-fn drawing(html: &mut String, map: &Map<'_>, scale: Option<&Scale>) {
-    let Grid { width, height } = map.grid;
+/// The largest side of a cell on the screen.
+fn screen_side(grid: Grid) -> usize {
     let (least, largest) = SCREEN_SIDES;
-    let side = (SCREEN_MAP / width.max(height)).clamp(least, largest);
+    (SCREEN_MAP / grid.width.max(grid.height)).clamp(least, largest)
+}
+
+/// The chain in the map's own units.
+fn trail<'a>(map: &'a Map<'a>) -> Option<Trail<'a>> {
+    let least_text = MARK_TEXTS.0 * SIDE as f64 / screen_side(map.placed.grid) as f64;
+    Trail::new(
+        map,
+        Frame {
+            left: 0.0,
+            top: 0.0,
+            side: SIDE as f64,
+            texts: (least_text, MARK_TEXTS.1.max(least_text)),
+        },
+    )
+}
+
+fn drawing(html: &mut String, map: &Map<'_>, scale: Option<&Scale>) {
+    let Grid { width, height } = map.placed.grid;
     let _ = write!(
         html,
         "<section id=\"chart\" aria-label=\"Map\">\n<div id=\"frame\">\n\
@@ -67,13 +89,13 @@ fn drawing(html: &mut String, map: &Map<'_>, scale: Option<&Scale>) {
          aria-label=\"Map of variances, {width} columns and {height} rows\" aria-describedby=\"keys\">\n<defs>\n",
         width * SIDE,
         height * SIDE,
-        width * least,
-        width * side
+        width * SCREEN_SIDES.0,
+        width * screen_side(map.placed.grid)
     );
     html.extend(map.patterns().map(|used| pattern(used, SIDE)));
     html.push_str("</defs>\n<g id=\"cells\">\n");
-    for ((place, cell), number) in map.cells.iter().enumerate().zip(numbers(map)) {
-        let (column, row) = map.grid.place(place);
+    for (((place, cell), number), pairs) in map.cells.iter().enumerate().zip(numbers(map)).zip(pairs_of_cells(map)) {
+        let (column, row) = map.placed.grid.place(place);
         let _ = write!(
             html,
             "<rect class=\"cell\" x=\"{}\" y=\"{}\" width=\"{SIDE}\" height=\"{SIDE}\" fill=\"{}\" data-coverage=\"{}\"",
@@ -86,6 +108,8 @@ fn drawing(html: &mut String, map: &Map<'_>, scale: Option<&Scale>) {
             ("cell", number.map(|number| number.to_string())),
             ("variance", cell.variance()),
             ("deviation", cell.deviation()),
+            ("chain", pairs.as_ref().map(|(_, words)| words.clone())),
+            ("chain-order", pairs.map(|(order, _)| order.to_string())),
         ];
         for (name, value) in of_cell {
             if let Some(value) = value {
@@ -93,6 +117,9 @@ fn drawing(html: &mut String, map: &Map<'_>, scale: Option<&Scale>) {
             }
         }
         html.push_str("/>\n");
+    }
+    if let Some(trail) = trail(map) {
+        html.push_str(&trail.drawn());
     }
     for cursor in ["pointed", "selected"] {
         let _ = writeln!(
@@ -106,8 +133,16 @@ fn drawing(html: &mut String, map: &Map<'_>, scale: Option<&Scale>) {
          <p id=\"keys\">Point at a cell, or move with the arrow keys. Home and End go to the ends of the row, with \
          Control to the first and the last cell.</p>\n",
     );
-    if map.not_computed().1 > 0 {
-        html.push_str("<p><button id=\"next\" type=\"button\">Next cell not computed</button></p>\n");
+    let buttons = [
+        (map.not_computed().1 > 0, "next", "Next cell not computed"),
+        (map.chain().is_some(), "next-on-chain", "Next cell of the chain"),
+    ];
+    if buttons.iter().any(|(there, _, _)| *there) {
+        html.push_str("<p>");
+        for (_, id, words) in buttons.iter().filter(|(there, _, _)| *there) {
+            let _ = writeln!(html, "<button id=\"{id}\" type=\"button\">{words}</button>");
+        }
+        html.push_str("</p>\n");
     }
     html.push_str(
         "<noscript><p>Without scripts the cells are in the table below.</p></noscript>\n</section>\n\
@@ -115,17 +150,32 @@ fn drawing(html: &mut String, map: &Map<'_>, scale: Option<&Scale>) {
     );
 }
 
+/// The pairs of the chain that each cell of the grid is in, in words, after the cell's number on the chain.
+fn pairs_of_cells(map: &Map<'_>) -> Vec<Option<(usize, String)>> {
+    let cells = map.on_chain().into_iter();
+    cells
+        .map(|on_chain| {
+            let (order, on_chain) = on_chain?;
+            Some((order, map.chain()?.pairs_of(&on_chain)))
+        })
+        .collect()
+}
+
 /// What is known of the cell that is pointed at or selected.
 fn readout(html: &mut String, map: &Map<'_>) {
     html.push_str(
         "<section id=\"readout\" aria-labelledby=\"readout-title\">\n<h2 id=\"readout-title\">Cell</h2>\n<dl>\n",
     );
-    for (id, name) in [
+    let mut lines = vec![
         ("place", "place".to_string()),
         ("coverage", "coverage".to_string()),
         ("variance", map.variance_name()),
         ("deviation", map.deviation_name()),
-    ] {
+    ];
+    if map.chain().is_some() {
+        lines.push(("on-chain", "chain".to_string()));
+    }
+    for (id, name) in lines {
         let _ = writeln!(
             html,
             "<div><dt>{}</dt><dd id=\"{id}\">\u{2013}</dd></div>",
@@ -136,11 +186,14 @@ fn readout(html: &mut String, map: &Map<'_>) {
 }
 
 fn swatch(fill: &Fill) -> String {
-    format!(
-        "<svg class=\"swatch\" viewBox=\"0 0 32 20\" aria-hidden=\"true\"><rect width=\"32\" height=\"20\" \
-         fill=\"{}\"/></svg>",
+    drawn_swatch(&format!(
+        "<rect width=\"32\" height=\"20\" fill=\"{}\"/>",
         fill_value(fill)
-    )
+    ))
+}
+
+fn drawn_swatch(drawn: &str) -> String {
+    format!("<svg class=\"swatch\" viewBox=\"0 0 32 20\" aria-hidden=\"true\">{drawn}</svg>")
 }
 
 /// Colours with their numbers, the largest first, then the patterns.
@@ -185,6 +238,42 @@ fn legend(html: &mut String, map: &Map<'_>, scale: Option<&Scale>) {
             );
         }
         html.push_str("</ul>\n");
+    }
+    chain_legend(html, map);
+    html.push_str("</section>\n");
+}
+
+/// The signs of the chain, and what its numbers are.
+fn chain_legend(html: &mut String, map: &Map<'_>) {
+    let Some(trail) = trail(map) else {
+        return;
+    };
+    html.push_str("<ul id=\"chain-legend\">\n");
+    for sign in trail.signs() {
+        let drawn = sign.drawn((4.0, 2.0), (24.0, 16.0), 11.0);
+        let _ = writeln!(html, "<li>{} {}</li>", drawn_swatch(drawn.trim_end()), sign.words);
+    }
+    let _ = writeln!(html, "</ul>\n<p>{}</p>", trail.number_words().join(" "));
+}
+
+/// The answer for the pair that is asked about.
+fn why(html: &mut String, map: &Map<'_>) {
+    let Some(why) = map.why else {
+        return;
+    };
+    let _ = writeln!(
+        html,
+        "<section id=\"why\" aria-labelledby=\"why-title\">\n<h2 id=\"why-title\">{}</h2>\n<p>{}</p>\n<p>{}</p>",
+        why.title(),
+        why.answer(),
+        why.numbering()
+    );
+    if !why.couplings.is_empty() {
+        html.push_str("<ol>\n");
+        for sentence in why.sentences() {
+            let _ = writeln!(html, "<li>{sentence}</li>");
+        }
+        html.push_str("</ol>\n");
     }
     html.push_str("</section>\n");
 }
@@ -232,18 +321,27 @@ fn table(html: &mut String, map: &Map<'_>) {
         html,
         "<details id=\"all\">\n<summary>All cells as a table</summary>\n<table>\n<thead><tr><th scope=\"col\">cell</th>\
          <th scope=\"col\">column</th><th scope=\"col\">row</th><th scope=\"col\">coverage</th>\
-         <th scope=\"col\">{}</th><th scope=\"col\">{}</th></tr></thead>\n<tbody>",
+         <th scope=\"col\">{}</th><th scope=\"col\">{}</th>{}</tr></thead>\n<tbody>",
         escaped(&map.variance_name()),
-        escaped(&map.deviation_name())
+        escaped(&map.deviation_name()),
+        if map.chain().is_some() {
+            "<th scope=\"col\">chain</th>"
+        } else {
+            ""
+        }
     );
-    for ((place, cell), number) in map.cells.iter().enumerate().zip(numbers(map)) {
+    for (((place, cell), number), pairs) in map.cells.iter().enumerate().zip(numbers(map)).zip(pairs_of_cells(map)) {
         let Some(number) = number else {
             continue;
         };
-        let (column, row) = map.grid.place(place);
+        let pairs = match map.chain() {
+            Some(_) => format!("<td>{}</td>", pairs.map_or("none".to_string(), |(_, words)| words)),
+            None => String::new(),
+        };
+        let (column, row) = map.placed.grid.place(place);
         let _ = writeln!(
             html,
-            "<tr><th scope=\"row\">{number}</th><td>{}</td><td>{}</td><td>{}</td><td>{}</td><td>{}</td></tr>",
+            "<tr><th scope=\"row\">{number}</th><td>{}</td><td>{}</td><td>{}</td><td>{}</td><td>{}</td>{pairs}</tr>",
             column + 1,
             row + 1,
             cell.coverage(),

@@ -14,9 +14,11 @@ mod options;
 mod report;
 mod scale;
 mod svg;
+mod trail;
+mod why;
 
 use failure::{written, Failure};
-use map::{Cell, Map};
+use map::{Cell, Map, Placed};
 use options::{Command, Options};
 use redstartgilt::{
     selected_inverse_diag_with_diagnostics, selected_inverse_entries, selected_inverse_entries_with_limit,
@@ -26,6 +28,7 @@ use std::fmt::Display;
 use std::io::{self, BufWriter, Write};
 use std::path::Path;
 use std::process::ExitCode;
+use why::Why;
 
 fn main() -> ExitCode {
     let mut output = BufWriter::new(io::stdout().lock());
@@ -77,20 +80,33 @@ fn run_factor(output: &mut impl Write, file: &Path, options: &Options) -> Result
     if let Some(operator) = &options.operator {
         return operators::run(output, file, &factor, operator, options);
     }
-    let found = find(file.display(), &factor, options)?;
-    if let Some(grid) = options.grid {
+    let requested = requested(&factor, options)?;
+    let cells = (0..n).collect::<Vec<_>>();
+    let why = options
+        .why
+        .map(|pair| Why::find(file.display(), &factor, &requested, pair));
+    let why = why.transpose()?;
+    let placed = options.grid.map(|grid| Placed { grid, cells: &cells });
+    if let (Some(why), None) = (&why, options.grid) {
+        return written(report::why(output, options.csv, why, None));
+    }
+    let found = find(file.display(), &factor, &requested, options)?;
+    if let Some(placed) = &placed {
         let name = file.file_name().unwrap_or(file.as_os_str());
         let cells = found.variances.iter().map(|variance| cell_of(*variance));
         let map = Map {
             title: &format!("Variances of {}", name.to_string_lossy()),
             unit: None,
-            grid,
             cells: &cells.collect::<Vec<_>>(),
+            placed,
+            why: why.as_ref(),
             diagnostics: &found.diagnostics,
         };
         write_map(options, &map)?;
     }
-    written(if options.entries {
+    written(if let Some(why) = &why {
+        report::why(output, options.csv, why, placed.as_ref())
+    } else if options.entries {
         report::entries(output, options.csv, &found.diagnostics, found.entries.into_iter())
     } else {
         report::variances(output, options.csv, &found.diagnostics, &found.variances)
@@ -114,20 +130,29 @@ fn write_map(options: &Options, map: &Map<'_>) -> Result<(), Failure> {
     Ok(())
 }
 
+/// The pairs that the options ask for, in the factor's order.
+fn requested(factor: &CholeskyFactor, options: &Options) -> Result<SparseSymmetricPattern, Failure> {
+    let n = factor.dimension();
+    match &options.requests {
+        Some(file) => cell_lists::requests(file, n, &factor.permutation()),
+        None => Ok(SparseSymmetricPattern::diagonal(n)),
+    }
+}
+
 /// The answer to what the options ask of a factor; `place` is for messages.
-fn find(place: impl Display, factor: &CholeskyFactor, options: &Options) -> Result<Found, Failure> {
+fn find(
+    place: impl Display,
+    factor: &CholeskyFactor,
+    requested: &SparseSymmetricPattern,
+    options: &Options,
+) -> Result<Found, Failure> {
     let refused = |error| Failure::refused_at(&place, error);
     if options.requests.is_none() && options.limit.is_none() && !options.entries {
         return all_variances(factor).map_err(refused);
     }
-    let permutation = factor.permutation();
-    let requested = match &options.requests {
-        Some(file) => cell_lists::requests(file, factor.dimension(), &permutation)?,
-        None => SparseSymmetricPattern::diagonal(factor.dimension()),
-    };
     let selected = match options.limit {
-        Some(limit) => selected_inverse_entries_with_limit(factor, &requested, limit),
-        None => selected_inverse_entries(factor, &requested),
+        Some(limit) => selected_inverse_entries_with_limit(factor, requested, limit),
+        None => selected_inverse_entries(factor, requested),
     }
     .map_err(refused)?;
     let Some(inverse) = selected.inverse else {
@@ -139,7 +164,7 @@ fn find(place: impl Display, factor: &CholeskyFactor, options: &Options) -> Resu
             .permute_factor_to_original_marked(&inverse.diag())
             .map_err(refused)?,
         entries: if options.entries {
-            entries_of_cells(&inverse, &permutation)
+            entries_of_cells(&inverse, &factor.permutation())
         } else {
             Vec::new()
         },

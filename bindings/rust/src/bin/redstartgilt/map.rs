@@ -2,6 +2,7 @@
 
 use crate::grid::Grid;
 use crate::scale::{short, Scale};
+use crate::why::{OnChain, Why};
 use redstartgilt::SelectedInverseDiagnostics;
 
 /// What a cell of the grid shows.
@@ -13,14 +14,30 @@ pub enum Cell {
     Land,
 }
 
+/// Where the cells of a factor are.
+pub struct Placed<'a> {
+    pub grid: Grid,
+    /// The grid's cell of each.
+    pub cells: &'a [usize],
+}
+
+impl Placed<'_> {
+    /// Column and row of a cell of the factor.
+    pub fn place(&self, cell: usize) -> (usize, usize) {
+        self.grid.place(self.cells[cell])
+    }
+}
+
 /// A map of variances.
 pub struct Map<'a> {
     pub title: &'a str,
     /// The unit of a deviation, where it is known; that of a variance is its square.
     pub unit: Option<&'a str>,
-    pub grid: Grid,
     /// One for each cell of the grid, row by row from the top left.
     pub cells: &'a [Cell],
+    pub placed: &'a Placed<'a>,
+    /// The chain to a pair, where it is asked for.
+    pub why: Option<&'a Why>,
     pub diagnostics: &'a SelectedInverseDiagnostics,
 }
 
@@ -120,6 +137,20 @@ impl Map<'_> {
             self.count(|cell| !cell.is_land()),
             self.count(|cell| cell == Cell::NotComputed),
         )
+    }
+
+    /// The chain to a pair, where there is one.
+    pub fn chain(&self) -> Option<&Why> {
+        self.why.filter(|why| !why.pairs.is_empty())
+    }
+
+    /// The cell of the chain at each cell of the grid, with its number in the order in which they come into it.
+    pub fn on_chain(&self) -> Vec<Option<(usize, OnChain)>> {
+        let mut found = vec![None; self.cells.len()];
+        for (order, on_chain) in self.chain().into_iter().flat_map(Why::cells).enumerate() {
+            found[self.placed.cells[on_chain.cell]] = Some((order, on_chain));
+        }
+        found
     }
 
     /// The scale of the finite variances, if there is one.

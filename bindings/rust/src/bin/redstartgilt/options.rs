@@ -11,7 +11,7 @@ redstartgilt: variances from a sparse Cholesky factor, by a proved selected inve
 Usage:
   redstartgilt [OPTIONS] FACTOR
   redstartgilt --operator FILE [--with FILE [--pairs FILE]] [--permutation FILE] [--csv] FACTOR
-  redstartgilt --demo [--requests FILE] [--csv] [--svg FILE] [--html FILE]
+  redstartgilt --demo [--requests FILE] [--why R,C] [--csv] [--svg FILE] [--html FILE]
 
 FACTOR is a Matrix Market file of a lower factor L: the header
   %%MatrixMarket matrix coordinate real general
@@ -31,6 +31,11 @@ Options:
                       without it 10 times the stored entries
   --entries           print row, column and value of every entry that was computed, by column then row, and not the
                       variances
+  --why R,C           print why the pair of the cells R and C is computed, and not the variances: a chain of pairs from
+                      one that was requested to this one, each needed for the one before and none shorter, with the
+                      entry of the factor that leads to each; or that the pair is not in the set. A chain has no limit,
+                      so it is told also where the set passes one. With --svg or --html the map shows it: the cells
+                      of the chain have the numbers of the pairs that they are in
   --operator FILE     print the variance of weighted sums of cells, and not of the cells: a Matrix Market file like
                       that of a factor, general, with a row for each sum and a column for each cell; an entry is the
                       weight of its column's cell in its row's sum
@@ -91,6 +96,8 @@ pub struct Options {
     pub pairs: Option<PathBuf>,
     pub limit: Option<usize>,
     pub entries: bool,
+    /// Two cells, counted from 0.
+    pub why: Option<(usize, usize)>,
     pub csv: bool,
     pub svg: Option<PathBuf>,
     pub html: Option<PathBuf>,
@@ -115,6 +122,7 @@ pub fn read(words: impl IntoIterator<Item = OsString>) -> Result<Command, Failur
         pairs: None,
         limit: None,
         entries: false,
+        why: None,
         csv: false,
         svg: None,
         html: None,
@@ -143,6 +151,7 @@ pub fn read(words: impl IntoIterator<Item = OsString>) -> Result<Command, Failur
                 | "--with"
                 | "--pairs"
                 | "--limit"
+                | "--why"
                 | "--svg"
                 | "--html"
                 | "--grid"
@@ -162,6 +171,7 @@ pub fn read(words: impl IntoIterator<Item = OsString>) -> Result<Command, Failur
             "--with" => options.with.replace(value.into()).is_some(),
             "--pairs" => options.pairs.replace(value.into()).is_some(),
             "--limit" => options.limit.replace(number(&value)?).is_some(),
+            "--why" => options.why.replace(pair(&value)?).is_some(),
             "--svg" => options.svg.replace(value.into()).is_some(),
             "--html" => options.html.replace(value.into()).is_some(),
             "--grid" => options.grid.replace(grid(&value)?).is_some(),
@@ -211,11 +221,18 @@ fn checked(options: Options, demo: bool) -> Result<Command, Failure> {
             ("--requests", options.requests.is_some()),
             ("--limit", options.limit.is_some()),
             ("--entries", options.entries),
+            ("--why", options.why.is_some()),
             ("--grid", options.grid.is_some()),
         ];
         if let Some((name, _)) = other.iter().find(|(_, given)| *given) {
             return Err(Failure::usage(format!("--operator does not go with {name}")));
         }
+    }
+    if options.why.is_some() && options.entries {
+        return Err(Failure::usage("--why does not go with --entries"));
+    }
+    if options.why.is_some() && options.limit.is_some() && options.svg.is_none() && options.html.is_none() {
+        return Err(Failure::usage("--why goes with --limit only where a map is drawn"));
     }
     if options.with.is_some() && options.operator.is_none() {
         return Err(Failure::usage("--with needs --operator"));
@@ -234,6 +251,21 @@ fn number(value: &OsString) -> Result<usize, Failure> {
         .to_str()
         .and_then(|text| text.parse().ok())
         .ok_or_else(|| Failure::usage(format!("--limit needs a whole number, not {}", value.to_string_lossy())))
+}
+
+/// Two cells as in 5,3, counted from 1.
+fn pair(value: &OsString) -> Result<(usize, usize), Failure> {
+    let cell = |text: &str| text.trim().parse::<usize>().ok()?.checked_sub(1);
+    value
+        .to_str()
+        .and_then(|text| text.split_once(','))
+        .and_then(|(row, column)| Some((cell(row)?, cell(column)?)))
+        .ok_or_else(|| {
+            Failure::usage(format!(
+                "--why needs two numbers above 0 as in 5,3, not {}",
+                value.to_string_lossy()
+            ))
+        })
 }
 
 fn grid(value: &OsString) -> Result<Grid, Failure> {

@@ -19,10 +19,13 @@
     };
 
     const spokenText = (place) => {
-        const { coverage, variance, deviation } = cells[place].dataset;
+        const { coverage, variance, deviation, chain } = cells[place].dataset;
         const parts = [`${placeText(place)}: ${coverage}`];
         if (variance !== undefined) {
             parts.push(`variance ${variance}`, `deviation ${deviation ?? "none"}`);
+        }
+        if (chain !== undefined) {
+            parts.push(`chain: ${chain}`);
         }
         return parts.join(", ");
     };
@@ -34,6 +37,10 @@
         byId("coverage").textContent = data.coverage ?? missing;
         byId("variance").textContent = data.variance ?? missing;
         byId("deviation").textContent = data.deviation ?? missing;
+        const onChain = byId("on-chain");
+        if (onChain !== null) {
+            onChain.textContent = data.chain ?? missing;
+        }
     };
 
     const outline = (name, place) => {
@@ -124,6 +131,15 @@
         if (place !== null) {
             select(place);
         }
+    });
+    // The cells of the chain, in the order in which they come into it.
+    const chain = cells
+        .map((cell, place) => [Number(cell.dataset.chainOrder), place])
+        .filter(([order]) => !Number.isNaN(order))
+        .sort(([one], [other]) => one - other)
+        .map(([, place]) => place);
+    byId("next-on-chain")?.addEventListener("click", () => {
+        select(chain[(chain.indexOf(selected) + 1) % chain.length]);
     });
     byId("next")?.addEventListener("click", () => {
         const from = selected ?? -1;

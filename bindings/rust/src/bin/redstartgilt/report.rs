@@ -1,5 +1,7 @@
 //! What is printed.
 
+use crate::map::Placed;
+use crate::why::Why;
 use redstartgilt::{count_and_least, SelectedInverseDiagnostics};
 use std::io::{self, Write};
 
@@ -120,6 +122,36 @@ pub fn entries(
     writeln!(output, "row{gap}column{gap}value")?;
     for (row, column, value) in entries {
         writeln!(output, "{}{gap}{}{gap}{value:?}", row + 1, column + 1)?;
+    }
+    Ok(())
+}
+
+/// The chain to a pair: with `csv` a line for each pair, otherwise in sentences, and its cells where they have places.
+pub fn why(output: &mut impl Write, csv: bool, why: &Why, placed: Option<&Placed<'_>>) -> io::Result<()> {
+    if csv {
+        writeln!(output, "pair,row,column,factor_row,factor_column")?;
+        let entries = why.couplings.iter().map(|coupling| Some(coupling.entry));
+        for (number, ((row, column), entry)) in why.pairs.iter().zip([None].into_iter().chain(entries)).enumerate() {
+            let entry = match entry {
+                Some((row, column)) => format!("{},{}", row + 1, column + 1),
+                None => ",".to_string(),
+            };
+            writeln!(output, "{},{},{},{entry}", number + 1, row + 1, column + 1)?;
+        }
+        return Ok(());
+    }
+    writeln!(output, "{}\n{}", why.answer(), why.numbering())?;
+    for (number, sentence) in why.sentences().iter().enumerate() {
+        writeln!(output, "{}  {sentence}", number + 1)?;
+    }
+    let Some(placed) = placed.filter(|_| !why.pairs.is_empty()) else {
+        return Ok(());
+    };
+    writeln!(output, "cell column row pairs")?;
+    for on_chain in why.cells() {
+        let (column, row) = placed.place(on_chain.cell);
+        let (cell, pairs) = (on_chain.cell + 1, on_chain.range('-'));
+        writeln!(output, "{cell} {} {} {pairs}", column + 1, row + 1)?;
     }
     Ok(())
 }

@@ -4,6 +4,7 @@ use crate::grid::Grid;
 use crate::map::{fill, Fill, Map};
 use crate::markup::{escaped, fill_value, pattern};
 use crate::scale::{short, Scale};
+use crate::trail::{Frame, Trail};
 use std::fmt::Write;
 
 const MARGIN: usize = 24;
@@ -11,15 +12,33 @@ const TITLE_ROOM: usize = 88;
 const LEGEND_ROOM: usize = 190;
 const BAR_WIDTH: usize = 20;
 const KEY_ROOM: usize = 22;
+const LINE_ROOM: usize = 20;
+/// The least and the largest height of the text of marks.
+const MARK_TEXTS: (f64, f64) = (7.0, 12.0);
+/// That of a mark in the legend.
+const KEY_TEXT: f64 = 10.0;
 
 /// The map as an SVG document.
 pub fn draw(map: &Map<'_>) -> String {
-    let Grid { width, height } = map.grid;
+    let Grid { width, height } = map.placed.grid;
     let side = (720 / width.max(height)).clamp(4, 40);
     let (map_width, map_height) = (width * side, height * side);
     let bar_height = map_height.max(120);
+    let top = TITLE_ROOM + if map.why.is_some() { LINE_ROOM } else { 0 };
+    let trail = Trail::new(
+        map,
+        Frame {
+            left: MARGIN as f64,
+            top: top as f64,
+            side: side as f64,
+            texts: MARK_TEXTS,
+        },
+    );
+    let trail_room = trail.as_ref().map_or(0, |trail| {
+        KEY_ROOM * trail.signs().len() + LINE_ROOM * trail.number_words().len()
+    });
     let whole_width = map_width + LEGEND_ROOM + 2 * MARGIN;
-    let whole_height = TITLE_ROOM + bar_height + 16 + KEY_ROOM * map.patterns().count() + MARGIN;
+    let whole_height = top + bar_height + 16 + KEY_ROOM * map.patterns().count() + trail_room + MARGIN;
     let scale = map.scale();
     let title = escaped(map.title);
     let (cells, missing) = map.not_computed();
@@ -34,40 +53,59 @@ pub fn draw(map: &Map<'_>) -> String {
          <text x=\"{MARGIN}\" y=\"30\" font-size=\"18\">{title}</text>\n\
          <text x=\"{MARGIN}\" y=\"52\">{missing} of {cells} cells not computed</text>\n"
     );
+    if let Some(why) = map.why {
+        let _ = writeln!(svg, "<text x=\"{MARGIN}\" y=\"74\">{}</text>", escaped(&why.title()));
+    }
     if map.patterns().next().is_some() {
         svg.push_str("<defs>\n");
         svg.extend(map.patterns().map(|used| pattern(used, side)));
         svg.push_str("</defs>\n");
     }
     svg.push_str("<g stroke=\"#ffffff\" stroke-width=\"0.5\">\n");
-    for (number, cell) in map.cells.iter().enumerate() {
-        let (column, row) = map.grid.place(number);
-        let words = cell.variance().unwrap_or_else(|| cell.coverage().to_string());
+    for ((number, cell), on_chain) in map.cells.iter().enumerate().zip(map.on_chain()) {
+        let (column, row) = map.placed.grid.place(number);
+        let mut words = cell.variance().unwrap_or_else(|| cell.coverage().to_string());
+        if let (Some(why), Some((_, on_chain))) = (map.why, on_chain) {
+            let _ = write!(words, ", chain: {}", why.pairs_of(&on_chain));
+        }
         let _ = writeln!(
             svg,
             "<rect class=\"cell\" x=\"{}\" y=\"{}\" width=\"{side}\" height=\"{side}\" fill=\"{}\">\
              <title>column {}, row {}: {words}</title></rect>",
             MARGIN + column * side,
-            TITLE_ROOM + row * side,
+            top + row * side,
             fill_value(&fill(*cell, scale.as_ref())),
             column + 1,
             row + 1
         );
     }
     svg.push_str("</g>\n");
-    legend(&mut svg, map, scale.as_ref(), MARGIN + map_width + 24, bar_height);
+    if let Some(trail) = &trail {
+        svg.push_str(&trail.drawn());
+    }
+    let corner = (MARGIN + map_width + 24, top);
+    let below = legend(&mut svg, map, scale.as_ref(), corner, bar_height);
+    if let Some(trail) = &trail {
+        trail_legend(&mut svg, trail, (corner.0, below));
+    }
     svg.push_str("</svg>\n");
     svg
 }
 
-/// The scale with its numbers, and the patterns of cells without one.
-fn legend(svg: &mut String, map: &Map<'_>, scale: Option<&Scale>, left: usize, bar_height: usize) {
+/// The scale with its numbers, and the patterns of cells without one; gives the place below them.
+fn legend(
+    svg: &mut String,
+    map: &Map<'_>,
+    scale: Option<&Scale>,
+    (left, top): (usize, usize),
+    bar_height: usize,
+) -> usize {
     let words_left = left + BAR_WIDTH + 8;
     if let Some(scale) = scale {
         let _ = writeln!(
             svg,
             "<text x=\"{left}\" y=\"{}\">{}</text>",
-            TITLE_ROOM - 15,
+            top - 15,
             escaped(&map.variance_name())
         );
         svg.push_str("<defs><linearGradient id=\"scale\" x1=\"0\" y1=\"1\" x2=\"0\" y2=\"0\">\n");
@@ -77,18 +115,18 @@ fn legend(svg: &mut String, map: &Map<'_>, scale: Option<&Scale>, left: usize, b
         let _ = writeln!(
             svg,
             "</linearGradient></defs>\n\
-             <rect x=\"{left}\" y=\"{TITLE_ROOM}\" width=\"{BAR_WIDTH}\" height=\"{bar_height}\" fill=\"url(#scale)\"/>"
+             <rect x=\"{left}\" y=\"{top}\" width=\"{BAR_WIDTH}\" height=\"{bar_height}\" fill=\"url(#scale)\"/>"
         );
         for (part, value) in scale.ticks() {
             let _ = writeln!(
                 svg,
                 "<text x=\"{words_left}\" y=\"{}\" dominant-baseline=\"middle\">{}</text>",
-                TITLE_ROOM as f64 + bar_height as f64 * (1.0 - part),
+                top as f64 + bar_height as f64 * (1.0 - part),
                 short(value)
             );
         }
     }
-    let mut top = TITLE_ROOM + bar_height + 16;
+    let mut top = top + bar_height + 16;
     for used in map.patterns() {
         let _ = writeln!(
             svg,
@@ -99,5 +137,26 @@ fn legend(svg: &mut String, map: &Map<'_>, scale: Option<&Scale>, left: usize, b
             used.words()
         );
         top += KEY_ROOM;
+    }
+    top
+}
+
+/// The signs of the chain, and what its numbers are.
+fn trail_legend(svg: &mut String, trail: &Trail<'_>, (left, top): (usize, usize)) {
+    let mut top = top;
+    for sign in trail.signs() {
+        let _ = writeln!(
+            svg,
+            "{}<text x=\"{}\" y=\"{}\">{}</text>",
+            sign.drawn((left as f64, top as f64), (BAR_WIDTH as f64, 14.0), KEY_TEXT),
+            left + BAR_WIDTH + 8,
+            top + 12,
+            sign.words
+        );
+        top += KEY_ROOM;
+    }
+    for words in trail.number_words() {
+        let _ = writeln!(svg, "<text x=\"{left}\" y=\"{}\">{words}</text>", top + 12);
+        top += LINE_ROOM;
     }
 }

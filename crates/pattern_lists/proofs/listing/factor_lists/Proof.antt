@@ -6,8 +6,7 @@ use lib.ListN.{length, take, drop}
 use lib.Seq.{length-take-le}
 use denote.Ref.{now}
 use borrow.Author.Needs.{needs}
-use Rattle.bits.specs.Bits.{bitWords}
-use Rattle.pairs.specs.Pair.{pairTotal}
+use Rattle.pairs.specs.Scratch.{markWords}
 use Rattle.pattern_lists.proofs.PatternLists.{scratch-short, scratch-part}
 use Rattle.pattern_lists.proofs.listing.factor_lists.Statement.{statement}
 use Rattle.pattern_lists.proofs.listing.factor_lists.Tie as tie
@@ -16,8 +15,8 @@ abbrev start : tie.After-mark-words → tie.Start
 start q = q .before .before .before .before .before .before .before
 
 -- the marks' words, and the part's length
-words : (c : tie.After-mark-words) → c .mark-words .result - 0 ≡ bitWords (pairTotal (start c .args .n))
-words c = omega (arith, c .mark-words .ensures)
+words : (c : tie.After-mark-words) → c .mark-words .result - 0 ≡ markWords (start c .args .n)
+words c = omega (arith, c .mark-words .ensures .0)
 
 mark-words-requires : tie.Need-mark-words-requires
 mark-words-requires c κs = search needs
@@ -25,7 +24,7 @@ mark-words-requires c κs = search needs
 returns : tie.Need-returns
 returns c =
     let a = start (c .before) .args in
-    scratch-short (a .n) _ (now (a .scratch)) (now (a .pair-rows)) (now (a .pair-columns)) (omega (arith, c .if1 .taken, c .before .mark-words .ensures))
+    scratch-short (a .n) _ (now (a .scratch)) (now (a .pair-rows)) (now (a .pair-columns)) (omega (arith, c .if1 .taken, c .before .mark-words .ensures .0))
 
 sub-list-factor : tie.Need-sub-list-factor
 sub-list-factor c = search needs
@@ -40,7 +39,7 @@ list-factor-requires : tie.Need-list-factor-requires
 list-factor-requires c κs =
     let t = c .before .before .before in
     let s = start (t .before) in
-    (s .pre .0, (s .pre .1, ap (λ (k : ℕ). length (take k (now (s .args .scratch)))) (words (t .before)) ∙ length-take-le (bitWords (pairTotal (s .args .n))) (now (s .args .scratch)) (omega (arith, t .if1 .left, words (t .before)))))
+    (s .pre .0, (s .pre .1, ap (λ (k : ℕ). length (take k (now (s .args .scratch)))) (words (t .before)) ∙ length-take-le (markWords (s .args .n)) (now (s .args .scratch)) (omega (arith, t .if1 .left, words (t .before)))))
 
 same-length : tie.Need-same-length
 same-length c = search needs
