@@ -5,11 +5,10 @@ use mathlib.Core.Path.{_≡_, sym, ap, _∙_}
 use mathlib.Core.Bool.{Bool}
 use mathlib.Core.List.{List, [], _∷_}
 use lib.ListN.{length}
-use Rattle.lists.specs.Overwrite.{overwrite, cleared}
+use Rattle.lists.specs.Overwrite.{overwrite}
 use Rattle.refusal.specs.Steps.{Step, refused, after, settle, verdict, Passed, first-refused, after-refused, append-refused, append-passed}
 use Rattle.refusal.specs.Refusal.{refusalNumber}
 use Rattle.refusal.specs.declared.Refusal.{Refusal}
-use Rattle.pairs.specs.Scratch.{markWords}
 use Rattle.pairs.specs.Pair.{pairCount, pairRows, pairColumns}
 use Rattle.pattern_lists.specs.ListedMarks.{outputSteps}
 use Rattle.pattern_lists.specs.declared.listed.PatternPairs.{PatternPairs}
@@ -23,7 +22,7 @@ module _ (checks : List Step) (n : ℕ) (S : ℕ → ℕ → Bool) (scratch rows
       let whole = append-refused checks (scratchStep n (length scratch) ∷ outputSteps (pairCount n S) (length rows) (length columns)) (refusalNumber why) tt e in
       record {
         replies = sym (first-refused _ (refusalNumber why) (pairCount n S) whole);
-        scratch-is = sym (after-refused _ (refusalNumber why) (cleared (markWords n) scratch) scratch (append-refused checks _ (refusalNumber why) tt e));
+        scratch-is = sym (after-refused _ (refusalNumber why) _ scratch (append-refused checks _ (refusalNumber why) tt e));
         rows-are = sym (after-refused _ (refusalNumber why) (overwrite (pairRows n S) rows) rows whole);
         columns-are = sym (after-refused _ (refusalNumber why) (overwrite (pairColumns n S) columns) columns whole);
       }
@@ -33,7 +32,7 @@ module _ (checks : List Step) (n : ℕ) (S : ℕ → ℕ → Bool) (scratch rows
   unfolding after
   lists-passed p L = record {
     replies = L .replies ∙ sym (append-passed checks _ (pairCount n S) p);
-    scratch-is = L .scratch-is ∙ ap (settle scratch) (sym (append-passed checks _ (cleared (markWords n) scratch) p));
+    scratch-is = L .scratch-is ∙ ap (settle scratch) (sym (append-passed checks _ _ p));
     rows-are = L .rows-are ∙ ap (settle rows) (sym (append-passed checks _ (overwrite (pairRows n S) rows) p));
     columns-are = L .columns-are ∙ ap (settle columns) (sym (append-passed checks _ (overwrite (pairColumns n S) columns) p));
   }
