@@ -84,8 +84,8 @@ typedef struct { size_t num_negative; double min_value; } redstartgilt_least;
  * redstartgilt_get reads it. Requests are two lists of equal length, of indices below the dimension, in any order, and
  * may repeat.
  *
- * Lengths needed: result_starts n + 1, result_rows and result_values the lesser of limit and T, scratch 2T + 4n, of any
- * contents. Refuses, in this order:
+ * Lengths needed: result_starts n + 1, result_rows and result_values the lesser of limit and T, scratch
+ * ceil(T/32) + T + 4n, of any contents. Refuses, in this order:
  *   1   n above 2,048, or more than 1,048,576 rows or request rows
  *   2   starts not n + 1, the first not 0, a falling one, the last not rows_len, or values_len not rows_len
  *   3   a row index of n or more, or not above the one before it in its column
@@ -95,9 +95,9 @@ typedef struct { size_t num_negative; double min_value; } redstartgilt_least;
  *   6   a column without a diagonal entry that is kept, or with one at most 0.0
  *   7   a list too short
  * Otherwise the status is COMPLETE, or CLOSURE_TOO_LARGE where the closed set has more than limit pairs; closure_pairs
- * is then limit + 1, and the result lists are left as they were. Either status leaves the first 2T + 4n words of the
- * scratch 0, and later words as they were. requested_pairs counts distinct requests, factor_pairs the kept entries of
- * L, and closure_over_factor is closure_pairs / max(factor_pairs, 1). */
+ * is then limit + 1, and the result lists are left as they were. Either status leaves the first ceil(T/32) + T + 4n
+ * words of the scratch 0, and later words as they were. requested_pairs counts distinct requests, factor_pairs the kept
+ * entries of L, and closure_over_factor is closure_pairs / max(factor_pairs, 1). */
 redstartgilt_selected redstartgilt_selected_inverse_entries_with_limit(
     size_t n, const uint32_t *starts, size_t starts_len, const uint32_t *rows, size_t rows_len, const double *values, size_t values_len,
     size_t dimension, const uint32_t *request_rows, size_t request_rows_len, const uint32_t *request_columns, size_t request_columns_len,
@@ -222,12 +222,12 @@ redstartgilt_selected redstartgilt_selected_inverse_transformed_diag(
  *   const uint32_t a_starts[] = {0, 1, 3}, a_columns[] = {0, 0, 1}, b_starts[] = {0, 1, 3}, b_columns[] = {1, 0, 1};
  *   const double a_weights[] = {1.0, 1.0, 1.0}, b_weights[] = {1.0, 1.0, 1.0};
  *   const uint32_t a_rows[] = {0, 1}, b_rows[] = {0, 1};
- *   uint32_t result_starts[3], result_rows[3], scratch[14];
+ *   uint32_t result_starts[3], result_rows[3], scratch[12];
  *   double result_values[3], output[2];
  *   redstartgilt_selected reply = redstartgilt_selected_inverse_transformed_covariances(
  *       2, starts, 3, rows, 3, values, 3,
  *       2, a_starts, 3, a_columns, 3, a_weights, 3, 2, b_starts, 3, b_columns, 3, b_weights, 3, a_rows, 2, b_rows, 2,
- *       result_starts, 3, result_rows, 3, result_values, 3, scratch, 14, output, 2);
+ *       result_starts, 3, result_rows, 3, result_values, 3, scratch, 12, output, 2);
  * gives refusal 0, COMPLETE, and the covariances -2 and 2. */
 redstartgilt_selected redstartgilt_selected_inverse_transformed_covariances(
     size_t n, const uint32_t *starts, size_t starts_len, const uint32_t *rows, size_t rows_len, const double *values, size_t values_len,
@@ -298,9 +298,10 @@ redstartgilt_requests redstartgilt_read_requests(
     const uint8_t *text, size_t text_len, uint32_t *rows, size_t rows_len, uint32_t *columns, size_t columns_len);
 
 /* The pairs of the factor's kept entries, ascending by row then column: pair k is (pair_rows[k], pair_columns[k]).
- * Scratch needs T words, the outputs a place for each pair, at most the lesser of rows_len and T. Refuses with 1, 2, 3,
- * 18 as selected entries does, then with 7 for the scratch, then with 7 for an output. Past the other refusals and with
- * scratch long enough, its first T words end 0, also when an output is too short; the outputs are then as they were. */
+ * Scratch needs ceil(T/32) words, the outputs a place for each pair, at most the lesser of rows_len and T. Refuses with
+ * 1, 2, 3, 18 as selected entries does, then with 7 for the scratch, then with 7 for an output. Past the other refusals
+ * and with scratch long enough, its first ceil(T/32) words end 0, also when an output is too short; the outputs are then
+ * as they were. */
 redstartgilt_pairs redstartgilt_from_cholesky_factor(
     size_t n, const uint32_t *starts, size_t starts_len, const uint32_t *rows, size_t rows_len, const double *values, size_t values_len,
     uint32_t *scratch, size_t scratch_len, uint32_t *pair_rows, size_t pair_rows_len, uint32_t *pair_columns, size_t pair_columns_len);

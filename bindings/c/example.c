@@ -20,7 +20,7 @@ int main(void)
     uint32_t result_starts[3];
     uint32_t result_rows[3]; /* the lesser of the limit, 3, and T, which is 3 */
     double result_values[3];
-    uint32_t scratch[14]; /* 2T + 4n */
+    uint32_t scratch[12]; /* ceil(T/32) + T + 4n */
     double diagonal[2];
     uint8_t marks[2];
 

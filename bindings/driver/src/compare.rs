@@ -335,7 +335,7 @@ fn answered(case: &Block, answer: &Block, mut call: Call, by_rules: Option<&Expe
             fill(&mut call.output_marks, answer.items("gets").map(|word| u8::from(word != "none")).collect());
         }
         "patfactor" | "patoperator" => {
-            call.scratch[..rules::triangle(call.n)].fill(0);
+            call.scratch[..rules::mark_words(call.n)].fill(0);
             reply.pairs = fill(&mut call.pair_rows, answer.numbers("prows"));
             fill(&mut call.pair_columns, answer.numbers("pcols"));
         }

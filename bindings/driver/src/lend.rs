@@ -6,7 +6,7 @@ use crate::list::List;
 use crate::matrix_market;
 use crate::random::Random;
 use crate::refusals::{refusal, MOST_COLUMNS};
-use crate::rules::{self, scratch_words, triangle};
+use crate::rules::{self, chain_words, mark_words, scratch_words, triangle};
 
 /// The lengths that a call needs; small ones where it is refused whatever it is lent.
 pub struct Needs {
@@ -30,7 +30,11 @@ pub fn needs(call: &Call) -> Needs {
     Needs {
         starts: n + 1,
         entries: rules::limit(call).min(triangle(n)),
-        scratch: if pattern { triangle(n) } else { scratch_words(n) },
+        scratch: match call.function {
+            Function::FactorPattern | Function::OperatorPattern => mark_words(n),
+            Function::DependencyChain => chain_words(n),
+            _ => scratch_words(n),
+        },
         output: match call.function {
             Function::Diag => call.starts.len().saturating_sub(1),
             Function::OriginalDiag => n,

@@ -61,7 +61,7 @@ fn entries(call: &Call) -> Steps {
 
 fn dependency_chain(call: &Call) -> Steps {
     requests(call)?;
-    refuse(7, call.scratch.len() < rules::scratch_words(call.n))?;
+    refuse(7, call.scratch.len() < rules::chain_words(call.n))?;
     refuse(5, call.row >= call.n || call.column >= call.n)?;
     let pairs = Chains::of(call).length(call.ordered());
     refuse(7, call.pair_rows.len() < pairs || call.pair_columns.len() < pairs)
@@ -130,7 +130,7 @@ fn operator_pattern(call: &Call) -> Steps {
 }
 
 fn pattern_room(call: &Call) -> Steps {
-    refuse(7, call.scratch.len() < triangle(call.n))?;
+    refuse(7, call.scratch.len() < rules::mark_words(call.n))?;
     let pairs = rules::requested(call).count();
     refuse(7, call.pair_rows.len() < pairs || call.pair_columns.len() < pairs)
 }

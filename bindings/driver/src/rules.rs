@@ -14,7 +14,16 @@ pub fn triangle(n: usize) -> usize {
     n * (n + 1) / 2
 }
 
+/// A bit for each pair.
+pub fn mark_words(n: usize) -> usize {
+    triangle(n).div_ceil(32)
+}
+
 pub fn scratch_words(n: usize) -> usize {
+    mark_words(n) + triangle(n) + 4 * n
+}
+
+pub fn chain_words(n: usize) -> usize {
     2 * triangle(n) + 4 * n
 }
 
@@ -251,14 +260,13 @@ pub fn expected(call: Call) -> Expected {
 /// What a refused call leaves: of a scratch that is long enough the marks end 0 in pattern lists, and all words where the
 /// chain list is short, and after 8.
 pub fn refused(number: u32, mut call: Call) -> Expected {
-    let pattern = matches!(call.function, Function::FactorPattern | Function::OperatorPattern);
-    if pattern && number == 7 && call.scratch.len() >= triangle(call.n) {
-        let marks = triangle(call.n);
-        call.scratch[..marks].fill(0);
-    }
-    let words = scratch_words(call.n);
-    let short = call.function == Function::DependencyChain && number == 7 && call.scratch.len() >= words;
-    if short || (call.function == Function::OriginalDiag && number == 8) {
+    let words = match (call.function, number) {
+        (Function::FactorPattern | Function::OperatorPattern, 7) => mark_words(call.n),
+        (Function::DependencyChain, 7) => chain_words(call.n),
+        (Function::OriginalDiag, 8) => scratch_words(call.n),
+        _ => 0,
+    };
+    if call.scratch.len() >= words {
         call.scratch[..words].fill(0);
     }
     Expected::untouched(Reply::refused(number), call)
@@ -291,7 +299,7 @@ fn accepted(mut call: Call) -> Expected {
                 call.pair_rows[at] = row as u32;
                 call.pair_columns[at] = column as u32;
             }
-            call.scratch[..scratch_words(call.n)].fill(0);
+            call.scratch[..chain_words(call.n)].fill(0);
             Expected::untouched(Reply { pairs: chain.len(), ..Reply::default() }, call)
         }
         Function::FactorPattern | Function::OperatorPattern => {
@@ -300,7 +308,7 @@ fn accepted(mut call: Call) -> Expected {
                 call.pair_rows[at] = row as u32;
                 call.pair_columns[at] = column as u32;
             }
-            call.scratch[..set.marks.len()].fill(0);
+            call.scratch[..mark_words(call.n)].fill(0);
             Expected::untouched(Reply { pairs: set.count(), ..Reply::default() }, call)
         }
         Function::Inverse => {

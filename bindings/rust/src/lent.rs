@@ -9,8 +9,8 @@
 //!
 //! let factor = FactorLists { n: 2, starts: &[0, 2, 3], rows: &[0, 1, 1], values: &[1.0, 2.0, 1.0] };
 //! let (mut starts, mut rows, mut values) = ([0; 3], [0; 3], [0.0; 3]);
-//! let mut scratch = [0; 14];
-//! assert_eq!(lent::scratch_words(2), 14);
+//! let mut scratch = [0; 12];
+//! assert_eq!(lent::scratch_words(2), 12);
 //! let result = ResultLists { starts: &mut starts, rows: &mut rows, values: &mut values };
 //! let diagnostics =
 //!     lent::selected_inverse_entries_with_limit(factor, 2, &[0], &[0], 3, result, &mut scratch)?;
@@ -143,9 +143,16 @@ pub const fn result_places(n: usize, limit: usize) -> usize {
     }
 }
 
-/// The scratch words that a call that fills result lists needs: 2·[`pair_total`] + 4n.
+/// The scratch words that a pattern list needs, one bit for each pair: [`pair_total`] / 32, rounded up.
+pub const fn mark_words(n: usize) -> usize {
+    pair_total(n).div_ceil(32)
+}
+
+/// The scratch words that a call that fills result lists needs: [`mark_words`] + [`pair_total`] + 4n.
 pub const fn scratch_words(n: usize) -> usize {
-    pair_total(n).saturating_mul(2).saturating_add(n.saturating_mul(4))
+    mark_words(n)
+        .saturating_add(pair_total(n))
+        .saturating_add(n.saturating_mul(4))
 }
 
 /// The scratch words that [`dependency_chain`] needs: 2·[`pair_total`] + 4n.
@@ -488,7 +495,7 @@ pub fn selected_inverse_transformed_diag(
 /// // Cell 1.
 /// let b = OperatorLists { ncols: 2, row_starts: &[0, 1], columns: &[1], weights: &[1.0] };
 /// let (mut starts, mut rows, mut values) = ([0; 3], [0; 3], [0.0; 3]);
-/// let (mut scratch, mut output) = ([0; 14], [0.0; 2]);
+/// let (mut scratch, mut output) = ([0; 12], [0.0; 2]);
 /// let result = ResultLists { starts: &mut starts, rows: &mut rows, values: &mut values };
 /// lent::selected_inverse_transformed_covariances(
 ///     factor, a, b, &[0, 1], &[0, 0], result, &mut scratch, &mut output,
@@ -653,8 +660,8 @@ pub fn read_requests(text: &[u8], rows: &mut [u32], columns: &mut [u32]) -> Resu
 
 /// Writes the pairs of the factor's kept entries, ascending by row then column, and gives their number.
 ///
-/// Refuses with 1, 2, 3, 18, then with 7 for scratch below [`pair_total`] words or a short output. Past the others and
-/// with scratch long enough, its first [`pair_total`] words end 0, also when an output is short.
+/// Refuses with 1, 2, 3, 18, then with 7 for scratch below [`mark_words`] or a short output. Past the others and with
+/// scratch long enough, its first [`mark_words`] words end 0, also when an output is short.
 pub fn from_cholesky_factor(
     factor: FactorLists<'_>,
     scratch: &mut [u32],

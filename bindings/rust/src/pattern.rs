@@ -158,14 +158,14 @@ impl SparseSymmetricPattern {
     }
 
     /// The pairs that a call lists, at most `most` of them. `dimension` must be one that the library accepts, as the
-    /// lists have its square's length.
+    /// scratch grows with its square.
     fn listed(
         dimension: usize,
         most: usize,
         list: impl FnOnce(&mut [u32], &mut [u32], &mut [u32]) -> Result<usize, Error>,
     ) -> Result<Self, Error> {
         let total = lent::pair_total(dimension);
-        let mut scratch = vec![0; total];
+        let mut scratch = vec![0; lent::mark_words(dimension)];
         let mut rows = vec![0; most.min(total)];
         let mut columns = vec![0; most.min(total)];
         let pairs = list(&mut scratch, &mut rows, &mut columns)?;

@@ -362,7 +362,7 @@ impl Lent {
 
 #[test]
 fn short_lists_are_left_as_they_were() {
-    let enough = [3, 3, 3, 14, 2];
+    let enough = [3, 3, 3, 12, 2];
     for place in 0..enough.len() {
         let mut lengths = enough;
         lengths[place] -= 1;
@@ -376,12 +376,12 @@ fn short_lists_are_left_as_they_were() {
     let (result, scratch, output) = lists.result();
     lent::selected_inverse_diag_with_diagnostics(F2, &[1, 0], result, scratch, output).unwrap();
     assert_eq!(lists.output, [1.0, 5.0]);
-    assert_eq!(lists.scratch, [0; 14]);
+    assert_eq!(lists.scratch, [0; 12]);
 }
 
 #[test]
 fn results_need_no_more_than_the_limit() {
-    let mut lists = Lent::new([3, 1, 1, 14, 0]);
+    let mut lists = Lent::new([3, 1, 1, 12, 0]);
     let (result, scratch, _) = lists.result();
     let diagnostics = lent::selected_inverse_entries_with_limit(F2, 2, &[1], &[1], 1, result, scratch).unwrap();
     assert!(diagnostics.is_complete());
@@ -393,7 +393,7 @@ fn results_need_no_more_than_the_limit() {
 
 #[test]
 fn lent_lists_of_unequal_length() {
-    let mut lists = Lent::new([3, 3, 3, 14, 2]);
+    let mut lists = Lent::new([3, 3, 3, 12, 2]);
     let (result, scratch, _) = lists.result();
     let reply = lent::selected_inverse_entries(F2, 2, &[1], &[], result, scratch);
     assert_eq!(reply, Err(Error::DimensionMismatch));
@@ -412,7 +412,7 @@ fn lent_lists_of_unequal_length() {
 
 #[test]
 fn lent_covariances() {
-    let enough = [3, 3, 3, 14, 2];
+    let enough = [3, 3, 3, 12, 2];
     for place in 0..enough.len() {
         let mut lengths = enough;
         lengths[place] -= 1;
@@ -423,7 +423,7 @@ fn lent_covariances() {
         assert_eq!(reply, Err(Error::TooShort), "{place}");
         assert!(lists.untouched());
     }
-    let mut lists = Lent::new([4, 4, 4, 15, 3]);
+    let mut lists = Lent::new([4, 4, 4, 13, 3]);
     // Row pairs of unequal length, then a broken operator, then a row pair outside, then no diagonal.
     let broken = OperatorLists { row_starts: &[], ..SUM };
     let bare = FactorLists {
@@ -449,7 +449,7 @@ fn lent_covariances() {
     lent::selected_inverse_transformed_covariances(F2, SUM, SUM, &[0, 0], &[0, 0], result, scratch, output).unwrap();
     assert_eq!(lists.output, [2.0, 2.0, 7.0]);
     assert_eq!(lists.values, [5.0, -2.0, 1.0, 7.0]);
-    assert_eq!((lists.scratch[13], lists.scratch[14]), (0, 7));
+    assert_eq!((lists.scratch[11], lists.scratch[12]), (0, 7));
 }
 
 /// What calls are given beside a factor of dimension 2.
@@ -469,7 +469,7 @@ const SOUND: Beside<'static> = Beside {
     orig_to_perm: &[1, 0],
     operator: SUM,
     row_pairs: &[0],
-    lengths: [3, 3, 3, 14, 2],
+    lengths: [3, 3, 3, 12, 2],
 };
 
 /// The refusal of each call that takes a factor. A refused call must leave its lists as they were.
@@ -715,15 +715,16 @@ fn short_request_lists() {
 fn pattern_lists() {
     let (mut scratch, mut rows, mut columns) = ([7; 3], [7; 2], [7; 3]);
     assert_eq!(
-        lent::from_cholesky_factor(F2, &mut scratch[..2], &mut rows, &mut columns),
+        lent::from_cholesky_factor(F2, &mut [], &mut rows, &mut columns),
         Err(Error::TooShort)
     );
-    assert_eq!(scratch, [7; 3]);
+    // Three bits stand in one word; those behind it stay.
+    assert_eq!(lent::mark_words(2), 1);
     assert_eq!(
         lent::from_cholesky_factor(F2, &mut scratch, &mut rows, &mut columns),
         Err(Error::TooShort)
     );
-    assert_eq!((scratch, rows, columns), ([0; 3], [7; 2], [7; 3]));
+    assert_eq!((scratch, rows, columns), ([0, 7, 7], [7; 2], [7; 3]));
     let mut rows = [7; 4];
     let mut columns = [7; 4];
     assert_eq!(

@@ -63,8 +63,8 @@ fn a_used_workspace_gives_the_same() {
             selected_inverse_transformed_covariances(&factor, &operator, &cells, &pairs)
         );
     }
-    // 30 columns: 31 starts, 465 rows and values, 2 * 465 + 4 * 30 words of scratch.
-    assert_eq!(workspace.bytes(), 4 * (31 + 465 + 1_050) + 8 * 465);
+    // 30 columns: 31 starts, 465 rows and values, 15 + 465 + 4 * 30 words of scratch.
+    assert_eq!(workspace.bytes(), 4 * (31 + 465 + 600) + 8 * 465);
 }
 
 #[test]
@@ -73,7 +73,7 @@ fn a_limit_keeps_the_lists_short() {
     let factor = factor(30, 3);
     let requested = SparseSymmetricPattern::new(30);
     selected_inverse_entries_with_limit_in(&factor, &requested, 10, &mut workspace).unwrap();
-    assert_eq!(workspace.bytes(), 4 * (31 + 10 + 1_050) + 8 * 10);
+    assert_eq!(workspace.bytes(), 4 * (31 + 10 + 600) + 8 * 10);
 }
 
 /// The recurrence on every pair, against the equation L Lᵀ Z = I.
