@@ -3,7 +3,7 @@
 use Prim.Native.Nat.{ℕ, _+_, _-_, _/_, _≤_, _<_}
 use native.Mathlib.Omega.{arith}
 use mathlib.Core.Path.{_≡_, refl, sym, ap, ap₂, _∙_}
-use mathlib.Core.Bool.{Bool, true, false, _&&_, _||_, or-false, or-assoc}
+use mathlib.Core.Bool.{Bool, false, _&&_, _||_, or-false, or-assoc}
 use mathlib.Core.List.{List}
 use lib.Dec.{eqb}
 use lib.ListN.{length, getD, length-set}
@@ -11,9 +11,10 @@ use borrow.Author.Tests.{eqb-true, eq-eqb}
 use Rattle.lists.specs.Test.{and-left, and-right, and-both, same-truth}
 use Rattle.lists.specs.Sum.{bit, sumTo, sumTo-eq}
 use Rattle.lists.specs.Select.{tally, tally-sum}
-use Rattle.bits.specs.Bits.{bitAt, bitWords, withBit, bit-clear, bit-set, word-below}
+use Rattle.bits.specs.Bits.{bitAt, withBit, bit-clear, bit-set, word-below}
 use Rattle.refusal.specs.Bounds.{maxDimension}
 use Rattle.pairs.specs.Pair.{pairTotal, rowPlace, rowPlace-below, rowPlace-same, pairCount, pairCount-sum}
+use Rattle.pairs.specs.Scratch.{markWords}
 
 -- the set that the marks say
 abbrev pub marking : List ℕ → ℕ → ℕ → Bool
@@ -43,7 +44,7 @@ pub record Added (new : ℕ → ℕ → Bool) (s s′ : List ℕ) : Type 0 where
 -- ---- the marks of all pairs of n columns
 
 module _ (n : ℕ) (s : List ℕ) where
-  pub pair-marked : length s ≡ bitWords (pairTotal n) → (r c : ℕ) → c ≤ r → r < n → HasMark s r c
+  pub pair-marked : length s ≡ markWords n → (r c : ℕ) → c ≤ r → r < n → HasMark s r c
   pair-marked e r c h l = omega (arith, word-below (rowPlace r c) (pairTotal n) (rowPlace-below r c n h l))
 
   -- the bits that are set are as many as the pairs of the set

@@ -18,7 +18,7 @@ use Rattle.pairs.specs.Marks.{Added, marking, marking-none, pair-marked}
 use Rattle.pattern_lists.specs.ListedMarks.{outputSteps, ListedMarks}
 use Rattle.pattern_lists.specs.declared.listed.PatternPairs.{PatternPairs}
 use Rattle.pattern_lists.specs.declared.listed.PatternPairs.the-variants.{Refused}
-use Rattle.pattern_lists.specs.PatternLists.{scratchStep, PatternLists}
+use Rattle.pattern_lists.specs.PatternLists.{patternWords, scratchStep, PatternLists}
 
 -- all words cleared: no pair is marked
 pub cleared-zero : (s s′ : List ℕ) → s′ ≡ cleared (length s) s → (p : ℕ) → p < length s′ → getD s′ p 0 ≡ 0
@@ -63,9 +63,9 @@ cleared-front m s h =
 
 module _ (n : ℕ) (S : ℕ → ℕ → Bool) (scratch rows columns : List ℕ) where
   -- 7: the scratch is below the marks' words
-  pub scratch-short : length scratch < markWords n → PatternLists [] n S (Refused TooShort) scratch rows columns scratch rows columns
+  pub scratch-short : length scratch < patternWords n → PatternLists [] n S (Refused TooShort) scratch rows columns scratch rows columns
   scratch-short h =
-      let t = lt-ltb (length scratch) (markWords n) h in
+      let t = lt-ltb (length scratch) (patternWords n) h in
       let whole = first-hit 7 (outputSteps (pairCount n S) (length rows) (length columns)) tt t in
       record {
         replies = sym (first-refused _ 7 (pairCount n S) whole);
@@ -75,17 +75,17 @@ module _ (n : ℕ) (S : ℕ → ℕ → Bool) (scratch rows columns : List ℕ) 
       }
 
   -- the marks are the scratch's first words
-  pub scratch-part : {reply : PatternPairs} {part left scratch′ rows′ columns′ : List ℕ} → markWords n ≤ length scratch → part ≡ take (markWords n) scratch → scratch′ ≡ left ++ drop (markWords n) scratch
+  pub scratch-part : {reply : PatternPairs} {part left scratch′ rows′ columns′ : List ℕ} → patternWords n ≤ length scratch → part ≡ take (patternWords n) scratch → scratch′ ≡ left ++ drop (patternWords n) scratch
       → ListedMarks n S reply part rows columns left rows′ columns′ → PatternLists [] n S reply scratch rows columns scratch′ rows′ columns′
   unfolding after
   scratch-part {reply} {part} h p q L =
-      let t = le-ltb (length scratch) (markWords n) h in
+      let t = le-ltb (length scratch) (patternWords n) h in
       let rest = outputSteps (pairCount n S) (length rows) (length columns) in
       record {
         replies = L .replies ∙ sym (first-skip 7 rest (pairCount n S) t refl);
         scratch-is =
-            q ∙ ap (λ (l : List ℕ). l ++ drop (markWords n) scratch) (L .clears ∙ ap (λ (l : List ℕ). cleared (length l) l) p)
-            ∙ cleared-front (markWords n) scratch h
+            q ∙ ap (λ (l : List ℕ). l ++ drop (patternWords n) scratch) (L .clears ∙ ap (λ (l : List ℕ). cleared (length l) l) p)
+            ∙ cleared-front (patternWords n) scratch h
             ∙ sym (after-passed (scratchStep n (length scratch) ∷ []) _ scratch (first-skip 7 [] tt t (first-end tt)));
         rows-are = L .rows-are ∙ ap (settle rows) (sym (first-skip 7 rest (overwrite (pairRows n S) rows) t refl));
         columns-are = L .columns-are ∙ ap (settle columns) (sym (first-skip 7 rest (overwrite (pairColumns n S) columns) t refl));

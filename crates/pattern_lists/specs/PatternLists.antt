@@ -13,11 +13,15 @@ use Rattle.pairs.specs.Pair.{pairCount, pairRows, pairColumns}
 use Rattle.pattern_lists.specs.ListedMarks.{outputSteps, listReply}
 use Rattle.pattern_lists.specs.declared.listed.PatternPairs.{PatternPairs}
 
--- 7: scratch below the words of T bits, ceil(T/32)
-abbrev pub scratchStep : ℕ → ℕ → Step
-scratchStep n scratch = (7, ltb scratch (markWords n))
+-- how many words of scratch a list uses: those of its marks, ceil(T/32)
+abbrev pub patternWords : ℕ → ℕ
+patternWords n = markWords n
 
--- past these the scratch's first ceil(T/32) words end 0
+-- 7: scratch below them
+abbrev pub scratchStep : ℕ → ℕ → Step
+scratchStep n scratch = (7, ltb scratch (patternWords n))
+
+-- past these the scratch's first words, so many, end 0
 abbrev pub scratchSteps : List Step → ℕ → ℕ → List Step
 scratchSteps checks n scratch = checks ++ scratchStep n scratch ∷ []
 
@@ -28,6 +32,6 @@ listSteps checks n S scratch rows columns = checks ++ scratchStep n scratch ∷ 
 -- what a pattern list of n columns replies and leaves, past the checks of its input: the pairs of a set
 pub record PatternLists (checks : List Step) (n : ℕ) (S : ℕ → ℕ → Bool) (reply : PatternPairs) (scratch rows columns scratch′ rows′ columns′ : List ℕ) : Type 0 where
   pub replies : listReply reply ≡ first (listSteps checks n S (length scratch) (length rows) (length columns)) (pairCount n S)
-  pub scratch-is : scratch′ ≡ after (scratchSteps checks n (length scratch)) (cleared (markWords n) scratch) scratch
+  pub scratch-is : scratch′ ≡ after (scratchSteps checks n (length scratch)) (cleared (patternWords n) scratch) scratch
   pub rows-are : rows′ ≡ after (listSteps checks n S (length scratch) (length rows) (length columns)) (overwrite (pairRows n S) rows) rows
   pub columns-are : columns′ ≡ after (listSteps checks n S (length scratch) (length rows) (length columns)) (overwrite (pairColumns n S) columns) columns

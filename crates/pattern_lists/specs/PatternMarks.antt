@@ -1,11 +1,10 @@
 -- The sets of pairs that the loops over a factor's entries and an operator's terms mark, and that they are the pairs of the factor and of the operator.
 -- Assumes nothing.
-use Prim.Native.Nat.{ℕ, zero, suc, _+_, _-_, _≤_, _<_, min, max}
+use Prim.Native.Nat.{ℕ, _+_, _≤_, _<_}
 use native.Mathlib.Omega.{arith}
 use native.Mathlib.Decide.{decLe}
-use mathlib.Core.Path.{_≡_, refl, sym, ap, ap₂, subst, _∙_}
+use mathlib.Core.Path.{_≡_, refl, ap, subst, _∙_}
 use mathlib.Core.Bool.{Bool, true, false, _&&_, and-false}
-use mathlib.Core.Logic.{_⊎_, inl, inr, ⊎-elim}
 use mathlib.Core.List.{List}
 use lib.Dec.{leb, eqb}
 use lib.ListN.{length, getD}
@@ -17,7 +16,7 @@ use Rattle.pairs.specs.Pair.{ordered, ordered-is, is-ordered}
 use Rattle.pairs.specs.Marks.{Added, HasMark, single, pair-marked, added-none, added-also, added-agree}
 use Rattle.columns.specs.Columns.{start, row}
 use Rattle.columns.specs.Kept.{kept, keptRow, keptPair}
-use Rattle.columns.specs.Factor.{Starts, Factor, Column, factor-column}
+use Rattle.columns.specs.Factor.{Factor, factor-column}
 use Rattle.columns.specs.Operator.{operatorRows, OperatorRows}
 use Rattle.columns.specs.OperatorPair.{occurs, operatorPair}
 

@@ -1,12 +1,9 @@
 use Prim.Native.Nat.{ℕ}
 use native.Mathlib.Omega.{arith}
-use mathlib.Core.Path.{_≡_, sym, ap, subst, _∙_}
-use mathlib.Core.List.{List}
-use lib.ListN.{length, getD}
+use mathlib.Core.Path.{sym, subst}
 use denote.Ref.{now}
 use borrow.Author.Needs.{needs}
 use Rattle.pairs.specs.Marks.{Added, HasMark, single}
-use Rattle.columns.specs.Columns.{row}
 use Rattle.columns.specs.Kept.{nonzero}
 use Rattle.pattern_lists.specs.PatternMarks.{dropped-above, dropped-zero, kept-entry, entry-dropped, entry-kept}
 use Rattle.pattern_lists.proofs.marking.mark_entry.Statement.{statement}

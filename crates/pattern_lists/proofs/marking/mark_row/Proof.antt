@@ -1,11 +1,11 @@
-use Prim.Native.Nat.{ℕ, _≤_, _<_, _-_, _+_}
+use Prim.Native.Nat.{ℕ, _≤_, _-_, _+_}
 use native.Mathlib.Omega.{arith}
-use mathlib.Core.Path.{_≡_, refl, sym, ap, subst, _∙_}
-use lib.ListN.{length, getD}
+use mathlib.Core.Path.{_≡_, refl, subst, _∙_}
+use lib.ListN.{length}
 use denote.Ref.{now}
 use borrow.Author.Needs.{needs}
 use Rattle.pairs.specs.Marks.{Added}
-use Rattle.pattern_lists.specs.PatternMarks.{TermsFit, terms-part, termsSet, rowSet, range-none, range-more}
+use Rattle.pattern_lists.specs.PatternMarks.{terms-part, termsSet, rowSet, range-none, range-more}
 use Rattle.pattern_lists.proofs.marking.mark_row.Statement.{statement}
 use Rattle.pattern_lists.proofs.marking.mark_row.Tie as tie
 

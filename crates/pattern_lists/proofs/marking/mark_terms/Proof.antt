@@ -1,13 +1,13 @@
-use Prim.Native.Nat.{ℕ, _≤_, _<_, _-_, _+_}
+use Prim.Native.Nat.{ℕ, _≤_, _-_, _+_}
 use native.Mathlib.Omega.{arith}
-use mathlib.Core.Path.{_≡_, refl, sym, ap, subst, subst₂, _∙_}
-use lib.ListN.{length, getD}
+use mathlib.Core.Path.{_≡_, refl, sym, subst, subst₂, _∙_}
+use lib.ListN.{length}
 use denote.Ref.{now}
 use borrow.Author.Needs.{needs}
 use Rattle.lists.specs.Test.{anyIn}
 use Rattle.pairs.specs.Pair.{ordered}
 use Rattle.pairs.specs.Marks.{Added}
-use Rattle.pattern_lists.specs.PatternMarks.{TermsFit, TermSpot, terms-spot, terms-part, termSet, range-none, range-more}
+use Rattle.pattern_lists.specs.PatternMarks.{TermSpot, terms-spot, terms-part, termSet, range-none, range-more}
 use Rattle.pattern_lists.proofs.marking.mark_terms.Statement.{statement}
 use Rattle.pattern_lists.proofs.marking.mark_terms.Tie as tie
 

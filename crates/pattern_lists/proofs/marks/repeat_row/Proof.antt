@@ -1,12 +1,12 @@
 use Prim.Native.Nat.{ℕ, _≤_, _<_, _-_, _+_}
 use native.Mathlib.Omega.{arith}
-use mathlib.Core.Path.{_≡_, refl, sym, ap, subst, _∙_}
-use mathlib.Core.List.{List, [], _∷_, _++_}
+use mathlib.Core.Path.{_≡_, refl, sym, ap, _∙_}
+use mathlib.Core.List.{List}
 use lib.ListN.{length, set}
 use denote.Ref.{now}
 use borrow.Author.Needs.{needs}
 use Rattle.lists.specs.Tabulate.{tabulate, tabulate-none, tabulate-next, tabulate-length}
-use Rattle.lists.specs.Overwrite.{splice, splice-none, splice-more, splice-length}
+use Rattle.lists.specs.Overwrite.{splice, splice-none, splice-more}
 use Rattle.pattern_lists.proofs.marks.repeat_row.Statement.{statement}
 use Rattle.pattern_lists.proofs.marks.repeat_row.Tie as tie
 
