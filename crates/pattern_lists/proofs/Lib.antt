@@ -1,3 +1,4 @@
+pub mod CountLaws
 pub mod RowLaws
 pub mod ListedPairs
 pub mod PatternLists

@@ -15,6 +15,12 @@ use Rattle.pairs.specs.Pair.{pairTotal, pairTotal-mono, maxPairs, rowStart, row
 use Rattle.pairs.specs.Marks.{marking}
 use Rattle.set_bits.specs.Zeros.{Zeros}
 
+-- the words hold `end` bits, and are few enough that their bits can be counted
+pub record CountInput (end : ℕ) (marks : List ℕ) : Type 0 where
+  pub stored : bitWords end ≤ length marks
+  pub few : length marks ≤ maxPairs
+  pub small : end ≤ maxPairs
+
 -- there is room for the row's marked pairs
 pub record RowRoom (marks : List ℕ) (r count : ℕ) (rows columns : List ℕ) : Type 0 where
   pub small : r < maxDimension

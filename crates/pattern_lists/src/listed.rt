@@ -6,10 +6,10 @@ ghost use Rattle.refusal.specs.Bounds.{maxDimension};
 ghost use Rattle.pairs.specs.Scratch.{markWords};
 ghost use Rattle.pairs.specs.Marks.{marking};
 ghost use Rattle.pattern_lists.specs.ListedMarks.{ListedMarks};
+use super::marks::count_marks;
 use super::marks::list_pairs;
 use refusal::Refusal;
 use scratch::pair_total;
-use set_bits::count::count_bits;
 use words::clear;
 
 // How many pairs are listed, or why none is.
@@ -28,7 +28,7 @@ pub fn list_marked(
     requires { ⌜ (n ≤ maxDimension) × (length (now marks) ≡ markWords n) ⌝ }
     ensures { λ r. ⌜ ListedMarks n (marking (now (marks .entry))) r (now (marks .entry)) (now (rows .entry)) (now (columns .entry)) (now (marks .exit)) (now (rows .exit)) (now (columns .exit)) ⌝ }
 {
-    let count = count_bits(marks, 0, pair_total(n));
+    let count = count_marks(marks, pair_total(n));
     if rows.len() < count {
         clear(marks, marks.len());
         return PatternPairs::Refused(Refusal::TooShort);

@@ -1,18 +1,22 @@
-// Marks of pairs, one bit for each, row by row: a pair is marked, and the marked pairs are listed ascending by row then column.
+// Marks of pairs, one bit for each, row by row: a pair is marked, and the marked pairs are counted, and listed ascending by row then column.
 ghost use mathlib.Core.Path.{_≡_};
-ghost use Prim.Native.Nat.{_-_, _*_, _/_, _≤_, min};
+ghost use Prim.Native.Nat.{_+_, _-_, _*_, _/_, _≤_, min};
 ghost use lib.ListN.{length};
 ghost use Rattle.lists.specs.Tabulate.{tabulate};
+ghost use Rattle.lists.specs.Select.{tally};
 ghost use Rattle.lists.specs.Overwrite.{splice};
+ghost use Rattle.bits.specs.Bits.{bitAt};
 ghost use Rattle.refusal.specs.Bounds.{maxDimension};
 ghost use Rattle.pairs.specs.Pair.{maxPairs, rowPlace};
 ghost use Rattle.pairs.specs.Marks.{Added, MarkPairInput, single};
 ghost use Rattle.set_bits.specs.Zeros.{Zeros};
-ghost use Rattle.pattern_lists.specs.Listing.{RowRoom, RowReached, RowListed, PairsRoom, PairsListed};
+ghost use Rattle.pattern_lists.specs.Listing.{CountInput, RowRoom, RowReached, RowListed, PairsRoom, PairsListed};
 use scratch::pair_total;
+use set_bits::count::count_bits;
 use set_bits::list_bits;
 use set_bits::zero_words::skip_zeros;
 use words::bit_words::set_bit;
+use words::order::smaller;
 
 // The place of (r, c).
 fn row_place(r: usize, c: usize) -> usize
@@ -28,6 +32,33 @@ pub fn mark_pair(r: usize, c: usize, marks: &mut [u32])
     ensures { λ _. ⌜ Added (single r c) (now (marks .entry)) (now (marks .exit)) ⌝ }
 {
     set_bit(marks, row_place(r, c));
+}
+
+// How many bits below `end` of the eight words from w on are set.
+fn count_eight(marks: &[u32], w: usize, end: usize) -> usize
+    requires { ⌜ CountInput end (now marks) × (w ≤ length (now marks)) ⌝ }
+    ensures { λ r. ⌜ r ≡ tally (bitAt (now (marks .entry))) (min end (w * 32)) (min end (w * 32 + 256)) ⌝ }
+{
+    let place = w * 32;
+    if end <= place {
+        return 0;
+    }
+    count_bits(marks, place, smaller(end, place + 256))
+}
+
+// How many bits below `end` are set; runs of words that are 0 are passed over.
+pub fn count_marks(marks: &[u32], end: usize) -> usize
+    requires { ⌜ CountInput end (now marks) ⌝ }
+    ensures { λ r. ⌜ r ≡ tally (bitAt (now (marks .entry))) 0 end ⌝ }
+{
+    let mut count = 0;
+    let mut w = 0;
+    while w < marks.len() {
+        w = skip_zeros(marks, w, marks.len());
+        count += count_eight(marks, w, end);
+        w += 8;
+    }
+    count
 }
 
 // Writes r at the places from s to below e.

@@ -3,29 +3,35 @@ use mathlib.Core.Path.{_≡_, ap, _∙_}
 use denote.Ref.{now}
 use borrow.Author.Needs.{needs}
 use Rattle.lists.specs.Select.{tally}
-use Rattle.bits.specs.Bits.{bitAt, bitWords}
-use Rattle.pairs.specs.Pair.{pairCount}
+use Rattle.bits.specs.Bits.{bitAt, bitWords, bitWords-most}
+use Rattle.pairs.specs.Pair.{pairTotal, pairTotal-small, pairCount}
 use Rattle.pairs.specs.Marks.{marking, marks-count}
 use Rattle.pattern_lists.proofs.ListedPairs.{rows-short, columns-short, listed-all}
 use Rattle.pattern_lists.proofs.listed.list_marked.Statement.{statement}
 use Rattle.pattern_lists.proofs.listed.list_marked.Tie as tie
 
-abbrev start : tie.After-count-bits → tie.Start
+abbrev start : tie.After-count-marks → tie.Start
 start q = q .before .before .before .before .before .before
 
 -- the count is the number of marked pairs
-counted : (c : tie.After-count-bits) → c .count-bits .result ≡ pairCount (start c .args .n) (marking (now (start c .args .marks)))
+counted : (c : tie.After-count-marks) → c .count-marks .result ≡ pairCount (start c .args .n) (marking (now (start c .args .marks)))
 counted c =
     let a = start c .args in
-    c .count-bits .ensures ∙ ap (tally (bitAt (now (a .marks))) 0) (c .before .pair-total .ensures .0) ∙ marks-count (a .n) (now (a .marks))
+    c .count-marks .ensures ∙ ap (tally (bitAt (now (a .marks))) 0) (c .before .pair-total .ensures .0) ∙ marks-count (a .n) (now (a .marks))
 
 pair-total-requires : tie.Need-pair-total-requires
 pair-total-requires c κs = search needs
 
-count-bits-requires : tie.Need-count-bits-requires
-count-bits-requires c κs =
+count-marks-requires : tie.Need-count-marks-requires
+count-marks-requires c κs =
     let t = c .pair-total .ensures in
-    (omega arith, omega (arith, t .1), omega (arith, ap bitWords (t .0), c .before .before .before .before .before .pre .1))
+    let P = c .before .before .before .before .before .pre in
+    let n = c .before .before .before .before .before .args .n in
+    record {
+      stored = omega (arith, ap bitWords (t .0), P .1);
+      few = omega (arith, P .1, bitWords-most (pairTotal n), pairTotal-small n (P .0));
+      small = t .1;
+    }
 
 clear-requires : tie.Need-clear-requires
 clear-requires c κs = search needs
@@ -85,7 +91,7 @@ list-marked-spec =
     tie.close
     (tie.spec
     pair-total-requires
-    count-bits-requires
+    count-marks-requires
     clear-requires
     same-length
     returns
