@@ -86,7 +86,7 @@ fn put_chain_length(count: usize) {
     }
 }
 
-fn put_linked(answer: Chain) {
+fn put_chain_reply(answer: Chain) {
     match answer {
         Chain::Pairs(count) => put_chain_length(count),
         Chain::Refused(why) => put_refused(why),
@@ -95,7 +95,7 @@ fn put_linked(answer: Chain) {
 
 // The reply of a call for a chain, and the lists after it.
 pub fn put_chain(answer: Chain, scratch: &[u32], chain_rows: &[u32], chain_columns: &[u32]) {
-    put_linked(answer);
+    put_chain_reply(answer);
     put_scratch(scratch);
     put_words(b"crows ", chain_rows);
     put_words(b"ccols ", chain_columns);

@@ -10,7 +10,7 @@ use Rattle.refusal.specs.Bounds.{maxDimension}
 use Rattle.takahashi.specs.Recurrence.{Entry}
 use Rattle.scatter.specs.Scatter.{rowAt, RowsMarked, ClosedPattern, Laid}
 use Rattle.scatter.specs.ClosedPattern.{degree-small, cell, cell-is, cell-fits, cell-up, starts-le, next-le}
-use Rattle.factor_route.specs.Walk.{Marked, StandsAt, ColumnWalk, Walk, startOf, endOf}
+use Rattle.factor_route.specs.Walk.{DescendantsMarked, StandsAt, ColumnWalk, Walk, startOf, endOf}
 
 module _ {T : Type 0} (none : T) (n : ℕ) (desc : ℕ → List (Entry T)) (P : ClosedPattern none n desc) (starts rows : List ℕ) (L : Laid none n desc starts rows) where
   -- a place of column c, counted from its start
@@ -107,7 +107,7 @@ module _ {T : Type 0} (none : T) (n : ℕ) (desc : ℕ → List (Entry T)) (P : 
     pub laid-ends : (p : ℕ) → p < m → endOf starts rows b p ≤ getD starts n 0
     laid-ends p h = next-le none n desc starts rows L (getD rows (b + p) 0) (inside p h)
 
-    pub laid-marked : (marker : List ℕ) → RowsMarked none (desc j) marker → Marked rows b m marker
+    pub laid-marked : (marker : List ℕ) → RowsMarked none (desc j) marker → DescendantsMarked rows b m marker
     laid-marked marker M = record {
       marked = λ p h. ap (λ (i : ℕ). getD marker i 0) (row p h) ∙ M .marked p h;
       only = λ i p h pm e.

@@ -23,7 +23,7 @@ use Rattle.scatter.specs.ClosedPattern.{degree, degree-small, width, next-le}
 use Rattle.scatter.specs.Column.{cleared, column-right}
 use Rattle.scatter.specs.Values.{filled-none, filled-next, filled-end}
 use Rattle.factor_route.specs.ColumnMarks.{descBetween, ColumnMarked, Stored}
-use Rattle.factor_route.specs.Walk.{Marked, Walk, Covered, ColumnsAre, Scattered}
+use Rattle.factor_route.specs.Walk.{DescendantsMarked, Walk, ValuesEnough, ColumnsAre, Scattered}
 use Rattle.factor_route.proofs.PatternLaws.{kept-pattern, kept-values, kept-laid, kept-size}
 use Rattle.factor_route.proofs.LaidLaws.{laid-walk, laid-ends, laid-marked, laid-after}
 use Rattle.factor_route.specs.Route.{RouteInput, WorkRows, ColumnWritten}
@@ -76,7 +76,7 @@ module _ {n : ℕ} {starts rows : List ℕ} {values : List Float} {es er : List 
       pub route-first : a + 1 + m ≤ length er
       route-first = omega (arith, counted s t m es′ et em, next, ends, L .room)
 
-      pub route-walk : Walk es er (a + 1) m × Covered es er (a + 1) m total
+      pub route-walk : Walk es er (a + 1) m × ValuesEnough es er (a + 1) m total
       route-walk = rw (ea, counted s t m es′ et em) (
         laid-walk nan n (desc starts rows values) P es er L j jn,
         λ p h. omega (arith, laid-ends nan n (desc starts rows values) P es er L j jn p h, filled-room),
@@ -84,7 +84,7 @@ module _ {n : ℕ} {starts rows : List ℕ} {values : List Float} {es er : List 
 
       -- the marker that marking leaves
       pub route-marked : (marker : List ℕ) (weights sums : List Float) (marker₁ : List ℕ) (weights₁ sums₁ : List Float) → WorkRows marker weights sums
-          → ColumnMarked (descBetween rows values j s t) m marker weights sums marker₁ weights₁ sums₁ → Marked er (a + 1) m marker₁
+          → ColumnMarked (descBetween rows values j s t) m marker weights sums marker₁ weights₁ sums₁ → DescendantsMarked er (a + 1) m marker₁
       route-marked marker weights sums marker₁ weights₁ sums₁ W M =
           rw (ea, M .marker-is, W .marker-is, ap₂ (λ (x y : ℕ). descBetween rows values j x y) es′ et, counted s t m es′ et em)
           (laid-marked nan n (desc starts rows values) P es er L j jn _

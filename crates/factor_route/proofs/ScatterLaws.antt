@@ -11,7 +11,7 @@ use lib.Ieee.{Float, nan}
 use Rattle.exact.specs.Exact.{floats}
 use Rattle.scatter.specs.Scatter.{termsAt, Between}
 use Rattle.scatter.specs.Sums.{Walking, terms-next, walking-enter, walking-met, walking-back, walking-leave, at-below, at-above}
-use Rattle.factor_route.specs.Walk.{Marked, MarkAt, MarkAhead, StandsAt, ColumnWalk, PairWalk, ColumnIs, PairIs, Scattered}
+use Rattle.factor_route.specs.Walk.{DescendantsMarked, MarkAt, MarkAhead, StandsAt, ColumnWalk, PairWalk, ColumnIs, PairIs, Scattered}
 
 -- ---- the next mark
 module _ {rows marker : List ℕ} {q e t : ℕ} (A : MarkAhead rows marker q e t) where
@@ -96,7 +96,7 @@ module _ {rows : List ℕ} {a e b m c : ℕ} (W : ColumnWalk rows a e b m c) whe
         ]
       ]
 
-  module _ {marker : List ℕ} (K : Marked rows b m marker) where
+  module _ {marker : List ℕ} (K : DescendantsMarked rows b m marker) where
     pub ahead-mark : (q t : ℕ) → t < m → Ahead rows a e b m c q t → MarkAhead rows marker q e t
     ahead-mark q t tm A =
         let x = A .stands t (le-refl t) tm in record {
@@ -134,7 +134,7 @@ module _ {rows : List ℕ} {a e b m c : ℕ} (W : ColumnWalk rows a e b m c) whe
           (at-above Z (getD rows (b + u) 0) (getD rows (b + t) 0) z (rising-le u t ut tm) table-is)
 
     -- ---- one column
-    module _ {marker : List ℕ} (K : Marked rows b m marker) (sums₀ : List Float) where
+    module _ {marker : List ℕ} (K : DescendantsMarked rows b m marker) (sums₀ : List Float) where
       pub column-start : InColumn rows values a e b m c weights sums₀ (a + 1) (c + 1)
           (floats .plus (getD sums₀ c nan) (floats .times (getD weights c nan) (getD values a nan))) sums₀
       column-start = record {
@@ -176,7 +176,7 @@ module _ {rows : List ℕ} {a e b m c : ℕ} (W : ColumnWalk rows a e b m c) whe
           }
 
 -- ---- two columns
-module _ {rows : List ℕ} {a e b m c : ℕ} (P : PairWalk rows a e b m c) {marker : List ℕ} (K : Marked rows b m marker) (values weights : List Float)
+module _ {rows : List ℕ} {a e b m c : ℕ} (P : PairWalk rows a e b m c) {marker : List ℕ} (K : DescendantsMarked rows b m marker) (values weights : List Float)
     (shift : ℕ) (sums₀ : List Float) where
   abbrev W : ColumnWalk rows a e b m c
   W = P .column

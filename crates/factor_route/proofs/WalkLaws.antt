@@ -7,7 +7,7 @@ use mathlib.Core.Path.{_≡_, sym, ap, subst, _∙_}
 use mathlib.Core.List.{List}
 use lib.ListN.{length, getD}
 use lib.Ieee.{Float}
-use Rattle.factor_route.specs.Walk.{StandsAt, ColumnWalk, PairWalk, WalkAt, Alike, startOf, endOf}
+use Rattle.factor_route.specs.Walk.{StandsAt, ColumnWalk, PairWalk, WalkAt, SameRows, startOf, endOf}
 use Rattle.factor_route.specs.Walk.{ColumnIs, PairIs, ColumnsAre, Scattered, Advanced}
 
 -- ---- ascending rows
@@ -107,7 +107,7 @@ module _ {starts rows : List ℕ} {a e b m c : ℕ} (W : WalkAt starts rows a e 
         pub at-last : f + (e - a - 2) < length rows
         at-last = omega (arith, inside, at-next .stored)
 
-        pub at-alike : getD rows (f + (e - a - 2)) 0 ≡ getD rows (e - 1) 0 → Alike starts rows a e b m c
+        pub at-alike : getD rows (f + (e - a - 2)) 0 ≡ getD rows (e - 1) 0 → SameRows starts rows a e b m c
         at-alike ends = record {
           next = next;
           second = second;
@@ -124,7 +124,7 @@ module _ {starts rows : List ℕ} {a e b m c : ℕ} (W : WalkAt starts rows a e 
                 let q : startOf starts rows b (c + 1) + (e - 1 - (a + 1)) ≡ f + (e - a - 2) = omega (arith, ef, at-second) in
                 ap (λ (i : ℕ). getD rows i 0) q ∙ ends
 
-  pub at-pair : Alike starts rows a e b m c → PairWalk rows a e b m c
+  pub at-pair : SameRows starts rows a e b m c → PairWalk rows a e b m c
   at-pair K = record { column = at-column; next = K .next; second = K .second }
 
   module _ (values weights sums sums′ : List Float) where
@@ -139,7 +139,7 @@ module _ {starts rows : List ℕ} {a e b m c : ℕ} (W : WalkAt starts rows a e 
       scattered = record { sums-are = λ Z A B. S .sums-are Z (column-is Z A) B };
     }
 
-    pub pair-advanced : (shift : ℕ) → shift ≡ startOf starts rows b (c + 1) - (a + 1) → Alike starts rows a e b m c
+    pub pair-advanced : (shift : ℕ) → shift ≡ startOf starts rows b (c + 1) - (a + 1) → SameRows starts rows a e b m c
         → Scattered (PairIs rows values a e shift b c) rows b m weights c (c + 2) sums sums′
         → Advanced starts rows values b m weights c (c + 2) sums sums′
     pair-advanced shift q K S = record {

@@ -11,7 +11,7 @@ use Rattle.scatter.specs.Scatter.{Between}
 
 -- ---- the marker
 -- it has each descendant's position at its row, and no position elsewhere
-pub record Marked (rows : List ℕ) (b m : ℕ) (marker : List ℕ) : Type 0 where
+pub record DescendantsMarked (rows : List ℕ) (b m : ℕ) (marker : List ℕ) : Type 0 where
   pub marked : (p : ℕ) → p < m → getD marker (getD rows (b + p) 0) 0 ≡ p
   pub only : (i p : ℕ) → i < maxDimension → p < m → getD marker i 0 ≡ p → i ≡ getD rows (b + p) 0
 
@@ -69,8 +69,8 @@ pub record Walk (starts rows : List ℕ) (b m : ℕ) : Type 0 where
       → (y : ℕ) × StandsAt rows (startOf starts rows b (p + 1)) (endOf starts rows b (p + 1)) (getD rows x 0) y
 
 -- and `total` values are enough for them
-abbrev pub Covered : List ℕ → List ℕ → ℕ → ℕ → ℕ → Type 0
-Covered starts rows b m total = (p : ℕ) → p < m → endOf starts rows b p ≤ total
+abbrev pub ValuesEnough : List ℕ → List ℕ → ℕ → ℕ → ℕ → Type 0
+ValuesEnough starts rows b m total = (p : ℕ) → p < m → endOf starts rows b p ≤ total
 
 -- at the column of the descendant at position c, from a to below e
 pub record WalkAt (starts rows : List ℕ) (a e b m c : ℕ) : Type 0 where
@@ -80,7 +80,7 @@ pub record WalkAt (starts rows : List ℕ) (a e b m c : ℕ) : Type 0 where
   pub upto : e ≡ endOf starts rows b c
 
 -- the next descendant's column has the rows of this one but the first
-pub record Alike (starts rows : List ℕ) (a e b m c : ℕ) : Type 0 where
+pub record SameRows (starts rows : List ℕ) (a e b m c : ℕ) : Type 0 where
   pub next : c + 1 < m
   pub second : getD rows (a + 1) 0 ≡ getD rows (b + (c + 1)) 0
   pub fits : e + (startOf starts rows b (c + 1) - (a + 1)) ≤ endOf starts rows b (c + 1)

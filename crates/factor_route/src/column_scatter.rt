@@ -6,7 +6,7 @@ ghost use mathlib.Core.Path.{_≡_};
 ghost use mathlib.Core.Bool.{true};
 ghost use Prim.Native.Nat.{_+_, _≤_, _<_};
 ghost use lib.ListN.{length};
-ghost use Rattle.factor_route.specs.Walk.{Marked, MarkAt, MarkAhead, ColumnWalk, PairWalk, Walk, Covered, WalkAt, Alike, ColumnIs, PairIs, ColumnsAre, Scattered, Advanced};
+ghost use Rattle.factor_route.specs.Walk.{DescendantsMarked, MarkAt, MarkAhead, ColumnWalk, PairWalk, Walk, ValuesEnough, WalkAt, SameRows, ColumnIs, PairIs, ColumnsAre, Scattered, Advanced};
 use refusal::MAX_DIMENSION;
 use words::at;
 
@@ -35,7 +35,7 @@ fn scatter_column(
     weights: &[f64; MAX_DIMENSION],
     sums: &mut [f64; MAX_DIMENSION],
 )
-    requires { ⌜ ColumnWalk (now rows) a e b m c × Marked (now rows) b m (now marker) × (e ≤ length (now values)) ⌝ }
+    requires { ⌜ ColumnWalk (now rows) a e b m c × DescendantsMarked (now rows) b m (now marker) × (e ≤ length (now values)) ⌝ }
     ensures { λ _. ⌜ Scattered (ColumnIs (now (rows .entry)) (now (values .entry)) a e b c) (now (rows .entry)) b m (now (weights .entry))
         c (c + 1) (now (sums .entry)) (now (sums .exit)) ⌝ }
 {
@@ -68,7 +68,7 @@ fn scatter_pair(
     weights: &[f64; MAX_DIMENSION],
     sums: &mut [f64; MAX_DIMENSION],
 )
-    requires { ⌜ PairWalk (now rows) a e b m c × Marked (now rows) b m (now marker) × (e + shift ≤ length (now values)) ⌝ }
+    requires { ⌜ PairWalk (now rows) a e b m c × DescendantsMarked (now rows) b m (now marker) × (e + shift ≤ length (now values)) ⌝ }
     ensures { λ _. ⌜ Scattered (PairIs (now (rows .entry)) (now (values .entry)) a e shift b c) (now (rows .entry)) b m (now (weights .entry))
         c (c + 2) (now (sums .entry)) (now (sums .exit)) ⌝ }
 {
@@ -98,7 +98,7 @@ fn scatter_pair(
 // column, so it does where the second and the last are at their places.
 fn alike(starts: &[u32], rows: &[u32], a: usize, e: usize, b: usize, m: usize, c: usize) -> bool
     requires { ⌜ WalkAt (now starts) (now rows) a e b m c ⌝ }
-    ensures { λ r. ⌜ (r ≡ true → Alike (now (starts .entry)) (now (rows .entry)) a e b m c) ⌝ }
+    ensures { λ r. ⌜ (r ≡ true → SameRows (now (starts .entry)) (now (rows .entry)) a e b m c) ⌝ }
 {
     if m <= c + 1 {
         return false;
@@ -123,7 +123,7 @@ fn scatter_from(
     weights: &[f64; MAX_DIMENSION],
     sums: &mut [f64; MAX_DIMENSION],
 ) -> usize
-    requires { ⌜ Walk (now starts) (now rows) b m × Covered (now starts) (now rows) b m (length (now values)) × Marked (now rows) b m (now marker) × (c < m) ⌝ }
+    requires { ⌜ Walk (now starts) (now rows) b m × ValuesEnough (now starts) (now rows) b m (length (now values)) × DescendantsMarked (now rows) b m (now marker) × (c < m) ⌝ }
     ensures { λ d. ⌜ Advanced (now (starts .entry)) (now (rows .entry)) (now (values .entry)) b m (now (weights .entry)) c d
         (now (sums .entry)) (now (sums .exit)) ⌝ }
 {
@@ -162,7 +162,7 @@ pub fn scatter_columns(
     weights: &[f64; MAX_DIMENSION],
     sums: &mut [f64; MAX_DIMENSION],
 )
-    requires { ⌜ Walk (now starts) (now rows) b m × Covered (now starts) (now rows) b m (length (now values)) × Marked (now rows) b m (now marker) ⌝ }
+    requires { ⌜ Walk (now starts) (now rows) b m × ValuesEnough (now starts) (now rows) b m (length (now values)) × DescendantsMarked (now rows) b m (now marker) ⌝ }
     ensures { λ _. ⌜ Scattered (ColumnsAre (now (starts .entry)) (now (rows .entry)) (now (values .entry)) b m) (now (rows .entry)) b m
         (now (weights .entry)) 0 m (now (sums .entry)) (now (sums .exit)) ⌝ }
 {

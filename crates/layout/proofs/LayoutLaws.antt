@@ -23,7 +23,7 @@ use Rattle.pairs.specs.ColumnOrder.{colStart, colStart-next, colStart-mono, col
 use Rattle.pairs.specs.ColumnOrder.{columnMarking, byColumn, columnFirst, columnEnd, setSize, setSize-most}
 use Rattle.marked_pairs.specs.MarkedPairs.{ColumnsReached}
 use Rattle.set_bits.specs.Listed.{NumbersListed}
-use Rattle.set_bits.specs.BitsListed.{bitsTest, ListInput}
+use Rattle.set_bits.specs.BitsListed.{bitsTest, ListBitsInput}
 use Rattle.set_bits.specs.Counted.{maxBits}
 use Rattle.layout.specs.ColumnRows.{columnTest, ColumnRoom, ColumnListed}
 use Rattle.entries.specs.Entries.{columnCount, position}
@@ -81,7 +81,7 @@ module _ {n place c first : ℕ} {rows₀ s : List ℕ} (O : ColumnRoom n place 
   column-next e = ap (λ (k : ℕ). first + k) (e ∙ column-tally)
 
   -- and listed
-  pub column-input : ListInput n place c first rows₀ s
+  pub column-input : ListBitsInput n place c first rows₀ s
   column-input = record {
     room = record {
       small = O .small;

@@ -15,7 +15,7 @@ use Rattle.pairs.specs.Pair.{pairTotal, pairTotal-next, pairTotal-mono, pairTot
 use Rattle.pairs.specs.Marks.{marking}
 use Rattle.set_bits.specs.Zeros.{Zeros}
 use Rattle.set_bits.specs.Listed.{NumbersListed}
-use Rattle.set_bits.specs.BitsListed.{bitsTest, ListInput}
+use Rattle.set_bits.specs.BitsListed.{bitsTest, ListBitsInput}
 use Rattle.pattern_lists.specs.Listing.{RowRoom, RowReached, RowListed, PairsRoom}
 
 -- ---- words that are 0, from a later word on
@@ -92,7 +92,7 @@ module _ {marks : List ℕ} {r place w low : ℕ} (R : RowReached marks r place 
         )
 
     -- room for the columns that the bits say
-    pub row-room : {first : ℕ} {rows columns : List ℕ} → RowRoom marks r first rows columns → ListInput (r + 1) (place + low) low first columns marks
+    pub row-room : {first : ℕ} {rows columns : List ℕ} → RowRoom marks r first rows columns → ListBitsInput (r + 1) (place + low) low first columns marks
     row-room P =
         let t : place + low + (r + 1 - low) ≡ pairTotal (r + 1) = omega (arith, pairTotal-next r, R .starts) in
         record {

@@ -58,7 +58,7 @@ fn list_operator(
     list_marked(n, marks, pair_rows, pair_columns)
 }
 
-// A factor that passes 1, 2 and 3: 7 for the scratch, then its pairs, with the marks in the scratch's first ceil(T/32) words.
+// A factor that passes 1, 2, 3 and 18: 7 for the scratch, then its pairs, with the marks in the scratch's first ceil(T/32) words.
 pub fn factor_lists(
     n: usize,
     starts: &[u32],

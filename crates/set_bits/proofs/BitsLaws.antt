@@ -14,7 +14,7 @@ use Rattle.set_bits.specs.Zeros.{Zeros}
 use Rattle.set_bits.specs.Listed.{NumbersListed}
 use Rattle.set_bits.proofs.ListedLaws.{listed-none, listed-cong, listed-gap, listed-join}
 use Rattle.set_bits.specs.WordNumbers.{wordTest, WordRoom}
-use Rattle.set_bits.specs.BitsListed.{bitsTest, BitsRoom, ListInput, WordsRoom}
+use Rattle.set_bits.specs.BitsListed.{bitsTest, BitsRoom, ListBitsInput, WordsRoom}
 
 -- w has the bits of the numbers from r to below e, the first being bit q, as its lowest digits
 pub record WordBits (s : List ℕ) (high q r e w : ℕ) : Type 0 where
@@ -153,7 +153,7 @@ module _ {high word low first : ℕ} {list₀ s : List ℕ} (O : WordsRoom high 
 
 -- ---- the numbers from any bit on
 
-module _ {high place low first : ℕ} {list₀ s : List ℕ} (O : ListInput high place low first list₀ s) where
+module _ {high place low first : ℕ} {list₀ s : List ℕ} (O : ListBitsInput high place low first list₀ s) where
   abbrev marks : ℕ → Bool
   marks = bitsTest s place low
 

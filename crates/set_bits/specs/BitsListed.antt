@@ -19,7 +19,7 @@ pub record BitsRoom (high p low first : ℕ) (list s : List ℕ) : Type 0 where
   pub fits : first + tally (bitsTest s p low) low high ≤ length list
 
 -- there is a number, and the words hold the bit of each
-pub record ListInput (high place low first : ℕ) (list s : List ℕ) : Type 0 where
+pub record ListBitsInput (high place low first : ℕ) (list s : List ℕ) : Type 0 where
   pub room : BitsRoom high place low first list s
   pub inside : low < high
   pub stored : bitWords (place + (high - low)) ≤ length s

@@ -5,7 +5,7 @@ pub mod zero_words;
 
 ghost use Prim.Native.Nat.{_*_};
 ghost use Rattle.set_bits.specs.Listed.{NumbersListed};
-ghost use Rattle.set_bits.specs.BitsListed.{bitsTest, WordsRoom, ListInput};
+ghost use Rattle.set_bits.specs.BitsListed.{bitsTest, WordsRoom, ListBitsInput};
 use word_numbers::list_word;
 use word_numbers::numbers_end;
 use word_numbers::word_from;
@@ -47,7 +47,7 @@ pub fn list_bits(
     list: &mut [u32],
     words: &[u32],
 ) -> usize
-    requires { ⌜ ListInput high place low first (now list) (now words) ⌝ }
+    requires { ⌜ ListBitsInput high place low first (now list) (now words) ⌝ }
     ensures { λ m. ⌜ NumbersListed (bitsTest (now (words .entry)) place low) low high first (now (list .entry)) (now (list .exit)) m ⌝ }
 {
     let end = numbers_end(high, low, 32 - place % 32);

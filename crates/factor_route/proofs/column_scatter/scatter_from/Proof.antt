@@ -1,5 +1,5 @@
 use Rattle.factor_route.proofs.WalkLaws.{at-column, at-second, at-after, at-pair, column-advanced, pair-advanced}
-use Rattle.factor_route.specs.Walk.{WalkAt, Alike, startOf}
+use Rattle.factor_route.specs.Walk.{WalkAt, SameRows, startOf}
 use borrow.Author.Needs.{needs}
 use native.Mathlib.Omega.{arith}
 use Prim.Native.Nat.{ℕ, _<_, _-_, _+_}
@@ -55,7 +55,7 @@ add-at-3 : tie.Need-add-at-3
 add-at-3 c = search needs
 
 same : (c : tie.Then1)
-    → Alike (c .before .before .before .before .before .before .before .before .args .starts .now) (c .before .before .before .before .before .before .before .before .args .rows .now) (c .before .before .before .at2 .result) (c .before .before .at3 .result) (c .before .before .before .before .before .before .before .before .args .b) (c .before .before .before .before .before .before .before .before .args .m)
+    → SameRows (c .before .before .before .before .before .before .before .before .args .starts .now) (c .before .before .before .before .before .before .before .before .args .rows .now) (c .before .before .before .at2 .result) (c .before .before .at3 .result) (c .before .before .before .before .before .before .before .before .args .b) (c .before .before .before .before .before .before .before .before .args .m)
     (c .before .before .before .before .before .before .before .before .args .c)
 same c = c .before .alike .ensures (c .if1 .taken)
 
