@@ -1,6 +1,6 @@
 -- The kept entries as a set of pairs: a factor's count is that set's size, so equal kept positions give equal counts and patterns.
 -- Assumes nothing.
-use Prim.Native.Nat.{ℕ, _+_, _≤_, _<_}
+use Prim.Native.Nat.{ℕ, zero, suc, _+_, _-_, _≤_, _<_}
 use native.Mathlib.Omega.{arith}
 use mathlib.Core.Path.{_≡_, refl, sym, ap, _∙_}
 use mathlib.Core.Bool.{Bool}
@@ -10,13 +10,15 @@ use lib.ListN.{length, getD, length-map}
 use borrow.Author.Tests.{leb-true, eqb-true, eq-eqb}
 use Rattle.lists.specs.Test.{anyIn-found, anyIn-hit, and-left, and-right, and-both}
 use Rattle.lists.specs.Sum.{sumTo-eq}
-use Rattle.lists.specs.Select.{select, Picked, select-at, select-holds, getD-mapped}
+use Rattle.lists.specs.Select.{select, Picked, select-at, select-holds, getD-mapped, tally-most}
 use Rattle.lists.specs.Rising.{rising-same}
 use Rattle.lists.specs.Cells.{cellCount}
 use Rattle.pairs.specs.Pair.{pairTotal}
-use Rattle.pairs.specs.ColumnOrder.{setSize, setSize-cong, setSize-most}
+use Rattle.pairs.specs.ColumnOrder.{colStart, colStart-next, colStart-total, setSize, setSize-cong, setSize-most}
 use Rattle.columns.specs.Columns.{start, row}
-use Rattle.columns.specs.Kept.{kept, keptRow, keptPair, keptCount, factorPairs}
+use Rattle.columns.specs.Kept.{kept, keptRow, keptPair, keptCount, factorPairs, pattern}
+use Rattle.columns.specs.Pattern.{pattern-select}
+use Rattle.columns.specs.Form.{patternPairs, patternPairs-none, patternPairs-next}
 use Rattle.columns.specs.Factor.{Starts, Sorted, starts-end, rows-rise}
 
 -- two factors of n columns keep entries at the same positions
@@ -82,6 +84,25 @@ module _ {n : ℕ} {starts rows : List ℕ} (nz : ℕ → Bool) (S : Starts n st
 
   pub factorPairs-most : factorPairs starts rows nz n ≤ pairTotal n
   factorPairs-most = rw factorPairs-size (setSize-most n (keptPair starts rows nz))
+
+  -- a column and its descendants are pairs of that column
+  pub patternPairs-most : patternPairs n (pattern starts rows nz) ≤ pairTotal n
+  patternPairs-most = omega (arith, upto n (omega arith), colStart-total n)
+    where
+      upto : (m : ℕ) → m ≤ n → patternPairs m (pattern starts rows nz) ≤ colStart n m
+      upto zero l = omega (arith, patternPairs-none (pattern starts rows nz))
+      upto (suc m) l =
+          let q : suc m ≡ m + 1 = omega arith in
+          let k : length (pattern starts rows nz m) ≤ n - (m + 1) =
+          rw (pattern-select nz S R m (omega arith)) (tally-most (λ r. keptPair starts rows nz r m) (m + 1) n) in
+          omega (
+            arith,
+            ap (λ (i : ℕ). patternPairs i (pattern starts rows nz)) q,
+            ap (colStart n) q,
+            patternPairs-next (pattern starts rows nz) m,
+            colStart-next n m,
+            upto m (omega arith),
+          )
 
 -- equal kept positions give equal counts
 pub factorPairs-cong : {n : ℕ} {starts rows starts′ rows′ : List ℕ} (nz nz′ : ℕ → Bool) → Starts n starts rows → Sorted n starts rows

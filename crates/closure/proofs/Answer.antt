@@ -25,7 +25,7 @@ pub closes : {n : ℕ} {desc : ℕ → List ℕ} {limit : ℕ} {s₀ : List ℕ}
 closes h = record { counts = λ req R. h req R .0; leaves = λ req R. h req R .1 }
 
 module _ {n : ℕ} {starts rows : List ℕ} {values : ℕ} {stops s : List ℕ} {first : ℕ} (nz : ℕ → Bool) (limit : ℕ)
-    (G : ClosureInput n starts rows values nz first stops s) where
+    (G : ClosureInput n starts rows values first stops s) where
   abbrev desc : ℕ → List ℕ
   desc = pattern starts rows nz
 

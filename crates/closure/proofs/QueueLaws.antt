@@ -409,7 +409,7 @@ module _ {n : ℕ} {starts rows : List ℕ} {values limit : ℕ} (nz : ℕ → B
           (λ q.
           let Q = column-word K in
           subst (λ (x : ℕ). 0 < getD stops₁ (columnOf x) 0) (sym (ap (queueWord n t) q ∙ K .taken .here))
-          (F .here (I .entered (columnOf w) (omega (arith, Q .ordered, Q .inside)))))
+          (F .here))
           (λ q.
           subst (λ (x : ℕ). 0 < getD stops₁ (columnOf x) 0) (sym (K .serving .grown .words j (omega (arith, U₀ .behind)))) (F .kept _ (L j q)))
           (eq-or-lt-of-le (le-of-suc-le-suc (rw add-one at l)))
@@ -574,7 +574,7 @@ module _ {n : ℕ} {starts rows : List ℕ} {values limit : ℕ} (nz : ℕ → B
                     marked = subst₂ (λ (y z : ℕ). columnMarking n t′ y z ≡ true) e₁ e₂ (inserted-here J d< d<);
                   },
                 );
-            reached = λ b. F .here (I .entered col c<);
+            reached = λ b. F .here;
           }
 
           ready-diagonal : QueueLoop n starts rows nz limit s₀ first stops₂ (set spanStarts₁ col count) (set spanEnds₁ col count′) t′ (head + 1) m

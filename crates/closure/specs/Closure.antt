@@ -1,34 +1,35 @@
 -- The closure of a call's requests: what it asks, its count and diagnosis, and the words that it leaves.
 -- Assumes nothing.
 use Prim.Native.Nat.{ℕ, _+_, _≤_, _<_}
-use mathlib.Core.Path.{_≡_, sym, ap₂}
+use native.Mathlib.Omega.{arith}
+use mathlib.Core.Path.{_≡_, refl, sym, ap₂, _∙_}
 use mathlib.Core.Bool.{Bool, _&&_}
 use mathlib.Core.List.{List}
 use lib.Dec.{leb, ltb}
 use lib.ListN.{length, drop}
 use lib.Ieee.{Float}
+use lib.IntN.{ℤ}
 use borrow.Author.Tests.{leb-true, ltb-true, le-leb, lt-ltb}
 use Rattle.lists.specs.Test.{and-left, and-right}
 use Rattle.refusal.specs.Bounds.{maxDimension}
 use Rattle.pairs.specs.Pair.{pairTotal}
 use Rattle.pairs.specs.Scratch.{queueStart}
 use Rattle.pairs.specs.ColumnOrder.{columnMarking}
-use Rattle.columns.specs.Columns.{start}
 use Rattle.columns.specs.Factor.{Factor}
 use Rattle.columns.specs.Kept.{nonzero, pattern}
-use Rattle.closure.specs.Nested.{Stops}
-use Rattle.closed_set.specs.ClosedSet.{member, Ranged}
-use Rattle.closed_set.specs.Size.{closureSize}
+use Rattle.kept_entries.specs.KeptBy.{keptAt, kept-floats, pattern-same}
+use Rattle.closure.specs.Nested.{Unlisted}
+use Rattle.closed_set.specs.ClosedSet.{member, member-cong, Ranged}
+use Rattle.closed_set.specs.Size.{closureSize, closureSize-cong}
 use Rattle.diagnostics.specs.declared.SelectedInverseDiagnostics.{SelectedInverseDiagnostics}
-use Rattle.selection.specs.Diagnosis.{closurePairs, diagnosisOf}
+use Rattle.selection.specs.Diagnosis.{closurePairs, diagnosisOf, diagnosisOf-same}
 use Rattle.marked_pairs.specs.MarkedPairs.{Marked, ColumnsReached}
 
 -- a factor past its checks, a list for the stops of its columns, and words with `requested` marked pairs
-pub record ClosureInput (n : ℕ) (starts rows : List ℕ) (values : ℕ) (nz : ℕ → Bool) (requested : ℕ) (stops s : List ℕ) : Type 0 where
+pub record ClosureInput (n : ℕ) (starts rows : List ℕ) (values requested : ℕ) (stops s : List ℕ) : Type 0 where
   pub small : n ≤ maxDimension
   pub factor : Factor n starts rows values
-  pub entered : (c : ℕ) → c < n → 0 < start starts (c + 1)
-  pub stopped : Stops n starts rows nz stops
+  pub unlisted : Unlisted n stops
   pub marked : Marked n s requested
 
 -- the marked pairs are those of the set
@@ -62,7 +63,44 @@ pub record Closes (n : ℕ) (desc : ℕ → List ℕ) (limit : ℕ) (s₀ : List
   pub counts : (req : ℕ → ℕ → Bool) → Requested n req s₀ → count ≡ closurePairs n desc req limit
   pub leaves : (req : ℕ → ℕ → Bool) → Requested n req s₀ → Closing n desc req limit s₀ stops s
 
--- the diagnosis of the marked pairs of s₀, whatever set they are, and the words that closing leaves
-pub record Diagnoses (n : ℕ) (starts rows : List ℕ) (values : List Float) (limit : ℕ) (s₀ : List ℕ) (d : SelectedInverseDiagnostics) (stops s : List ℕ) : Type 0 where
-  pub answers : (req : ℕ → ℕ → Bool) → Requested n req s₀ → d ≡ diagnosisOf n starts rows values req limit
-  pub leaves : (req : ℕ → ℕ → Bool) → Requested n req s₀ → Closing n (pattern starts rows (nonzero values)) req limit s₀ stops s
+-- the diagnosis of the marked pairs of s₀, whatever set they are, with a count of kept pairs, and the words that closing leaves
+pub record Diagnoses (n : ℕ) (desc : ℕ → List ℕ) (kept limit : ℕ) (s₀ : List ℕ) (d : SelectedInverseDiagnostics) (stops s : List ℕ) : Type 0 where
+  pub answers : (req : ℕ → ℕ → Bool) → Requested n req s₀ → d ≡ diagnosisOf n desc kept req limit
+  pub leaves : (req : ℕ → ℕ → Bool) → Requested n req s₀ → Closing n desc req limit s₀ stops s
+
+-- ---- patterns that agree on the columns
+module _ {n : ℕ} {desc desc′ : ℕ → List ℕ} (same : (c : ℕ) → c < n → desc c ≡ desc′ c) where
+  size-same : (req : ℕ → ℕ → Bool) → closureSize n desc req ≡ closureSize n desc′ req
+  size-same req = closureSize-cong n desc desc′ req req same (λ r c h l. refl)
+
+  closing-same : {req : ℕ → ℕ → Bool} {limit : ℕ} {s₀ stops s : List ℕ} → Closing n desc req limit s₀ stops s → Closing n desc′ req limit s₀ stops s
+  closing-same {req} L = record {
+    long = L .long;
+    marks = λ low r c h l. L .marks (omega (arith, size-same req)) r c h l ∙ member-cong n desc desc′ req req same (λ a b o m. refl) r c h l;
+    reached = λ low. L .reached (omega (arith, size-same req));
+    later = L .later;
+  }
+
+  pub diagnoses-same : {kept limit : ℕ} {s₀ : List ℕ} {d : SelectedInverseDiagnostics} {stops s : List ℕ} → Diagnoses n desc kept limit s₀ d stops s
+      → Diagnoses n desc′ kept limit s₀ d stops s
+  diagnoses-same {kept} {limit} D = record {
+    answers = λ req R. D .answers req R ∙ diagnosisOf-same n desc desc′ same req limit refl;
+    leaves = λ req R. closing-same (D .leaves req R);
+  }
+
+-- a factor's values are as many as its rows
+pub closure-rows : {n : ℕ} {starts rows : List ℕ} {values requested : ℕ} {stops s : List ℕ} → ClosureInput n starts rows values requested stops s
+    → ClosureInput n starts rows (length rows) requested stops s
+closure-rows G = record {
+  small = G .small;
+  factor = record { starts-rise = G .factor .starts-rise; rows-ascend = G .factor .rows-ascend; valued = refl };
+  unlisted = G .unlisted;
+  marked = G .marked;
+}
+
+-- the diagnosis of a factor of floats, by its values and no whole number
+pub diagnoses-floats : {n : ℕ} {starts rows : List ℕ} (values : List Float) (wholes : List ℤ) → Factor n starts rows (length values) → length wholes ≡ 0
+    → {kept limit : ℕ} {s₀ : List ℕ} {d : SelectedInverseDiagnostics} {stops s : List ℕ}
+    → Diagnoses n (pattern starts rows (keptAt values wholes)) kept limit s₀ d stops s → Diagnoses n (pattern starts rows (nonzero values)) kept limit s₀ d stops s
+diagnoses-floats values wholes F none =
+    diagnoses-same (pattern-same F (keptAt values wholes) (nonzero values) (λ p l. kept-floats values wholes p none))

@@ -1,6 +1,6 @@
 -- Whether the entries after a column's first descendant have their rows kept in that descendant's column: what each step asks and gives.
 -- Assumes nothing.
-use Prim.Native.Nat.{ℕ, _+_, _-_, _≤_, _<_}
+use Prim.Native.Nat.{ℕ, _+_, _-_, _≤_, _<_, max}
 use native.Mathlib.Omega.{arith}
 use native.Mathlib.Decide.{decLe, ℕ-discrete}
 use mathlib.Core.Path.{_≡_, sym, ap, subst, _∙_}
@@ -9,16 +9,15 @@ use mathlib.Core.List.{List}
 use lib.Dec.{ltb}
 use lib.ListN.{length, getD, set, replicate, length-set, length-replicate, getD-replicate}
 use lib.Seq.{getD-set-same, getD-set-other}
-use lib.Ieee.{Float, eq}
 use borrow.Author.Tests.{lt-ltb}
 use Rattle.lists.specs.Test.{anyIn, anyIn-below, and-right, and-both}
 use Rattle.refusal.specs.Bounds.{maxDimension}
-use Rattle.columns.specs.Columns.{start, row, value}
-use Rattle.columns.specs.Kept.{f0, nonzero, nonzero-not, keptBelow, pattern}
+use Rattle.columns.specs.Columns.{start, row}
+use Rattle.columns.specs.Kept.{keptBelow, pattern}
 use Rattle.columns.specs.Factor.{Factor, factor-column}
 use Rattle.closed_set.specs.ClosedSet.{descends}
 use Rattle.closed_set.specs.FactorPattern.{entry-descends, descends-entry}
-use Rattle.closure.specs.Nested.{Nested, Stop, Stops, StopFound}
+use Rattle.closure.specs.Nested.{Nested, Stop, Stops, Unlisted, StopFound}
 
 -- q is the first place from s to below e that is kept below the diagonal of column c, e if none
 pub record FirstKept (c s e : ℕ) (rows : List ℕ) (nz : ℕ → Bool) (q : ℕ) : Type 0 where
@@ -58,12 +57,12 @@ pub record Covered (rows : List ℕ) (nz : ℕ → Bool) (a b s e : ℕ) : Type 
 -- ---- one entry
 
 -- it is 0, and there is nothing to find
-pub place-zero : {rows : List ℕ} (values : List Float) (i j : ℕ) {e : ℕ} → j ≤ e → eq (value values i) f0 ≡ true → Place rows (nonzero values) i j e j
-place-zero values i j h z = record {
+pub place-zero : {rows : List ℕ} {nz : ℕ → Bool} (i j : ℕ) {e : ℕ} → j ≤ e → nz i ≡ false → Place rows nz i j e j
+place-zero i j h z = record {
   from = omega arith;
   upto = h;
-  kept = λ l t. absurd (false≢true (sym (nonzero-not values i z) ∙ t));
-  same = λ l t. absurd (false≢true (sym (nonzero-not values i z) ∙ t));
+  kept = λ l t. absurd (false≢true (sym z ∙ t));
+  same = λ l t. absurd (false≢true (sym z ∙ t));
 }
 
 -- its row is not there
@@ -155,6 +154,12 @@ module _ {n : ℕ} {starts rows : List ℕ} {values : ℕ} (F : Factor n starts 
 
 -- ---- stops
 
+pub unlisted : {n : ℕ} → n ≤ maxDimension → Unlisted n (replicate maxDimension 0)
+unlisted h = record {
+  fits = rw (length-replicate {A = ℕ} maxDimension 0) h;
+  none = λ c l. getD-replicate {A = ℕ} maxDimension c 0 0 (omega arith);
+}
+
 module _ {starts rows : List ℕ} {nz : ℕ → Bool} where
   -- a column's place, and its end
   pub stop-at : {c q : ℕ} → Nested starts rows nz c q → Stop starts rows nz c (q + 1)
@@ -167,26 +172,30 @@ module _ {starts rows : List ℕ} {nz : ℕ → Bool} where
   pub stop-end : {c e : ℕ} → e ≡ start starts (c + 1) → Stop starts rows nz c e
   stop-end q = record { upto = omega arith; after = λ l. absurd (omega arith); nested = λ l. absurd (omega arith) }
 
+  -- a stop as it is listed
+  pub stop-one : {c r : ℕ} → Stop starts rows nz c r → Stop starts rows nz c (max 1 r)
+  stop-one {c} {r} T = elim (decLe 1 r) [
+    | yes q ↦ (let e : r ≡ max 1 r = omega arith in subst (λ (k : ℕ). Stop starts rows nz c k) e T)
+    | no q ↦
+        (let none : start starts (c + 1) < 1 = elim (decLe 1 (start starts (c + 1))) [ yes l ↦ absurd (omega (arith, T .after (omega arith))) | no l ↦ omega arith ] in
+        record { upto = omega (arith, T .upto); after = λ l. omega arith; nested = λ l. absurd (omega arith) })
+  ]
+
   -- none is listed
-  pub stops-none : {n : ℕ} → n ≤ maxDimension → Stops n starts rows nz (replicate maxDimension 0)
-  stops-none h = record {
-    fits = rw (length-replicate {A = ℕ} maxDimension 0) h;
-    stop = λ c l o. absurd (omega (arith, getD-replicate {A = ℕ} maxDimension c 0 0 (omega arith)));
-  }
+  pub stops-none : {n : ℕ} {stops : List ℕ} → Unlisted n stops → Stops n starts rows nz stops
+  stops-none U = record { fits = U .fits; stop = λ c l o. absurd (omega (arith, U .none c l)) }
 
   -- a column's stop is listed
-  pub stop-found : {n c : ℕ} {stops : List ℕ} {r : ℕ} → c < n → Stops n starts rows nz stops → getD stops c 0 ≡ 0 → Stop starts rows nz c r
+  pub stop-found : {n c : ℕ} {stops : List ℕ} {r : ℕ} → c < n → Stops n starts rows nz stops → getD stops c 0 ≡ 0 → 0 < r → Stop starts rows nz c r
       → StopFound n c starts rows nz stops (set stops c r) r
-  stop-found {n} {c} {stops} {r} inside S none T = record {
+  stop-found {n} {c} {stops} {r} inside S none some T = record {
     long = length-set stops c r;
     kept = λ a h.
         elim (ℕ-discrete a c) [
           | yes q ↦ absurd (omega (arith, ap (λ (y : ℕ). getD stops y 0) q))
           | no m ↦ omega (arith, getD-set-other stops c a r 0 m)
         ];
-    here = λ h.
-        let v = getD-set-same stops c r 0 (omega (arith, S .fits)) in
-        elim (decLe (start starts (c + 1)) r) [ yes q ↦ omega arith | no q ↦ omega (arith, T .after (omega arith)) ];
+    here = omega (arith, some, getD-set-same stops c r 0 (omega (arith, S .fits)));
     reached = record {
       fits = rw length-set (S .fits);
       stop = λ x l o.

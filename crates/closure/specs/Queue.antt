@@ -30,11 +30,10 @@ pub record Grown (n : ℕ) (s : List ℕ) (count : ℕ) (s′ : List ℕ) (count
   pub words : (j : ℕ) → j < count → queueWord n s′ j ≡ queueWord n s j
   pub later : drop (queueStart n + pairTotal n) s′ ≡ drop (queueStart n + pairTotal n) s
 
--- a factor with entries up to the end of each column, stops of its columns, two lists with 0 for each column, and marked pairs that are within the limit
+-- a factor, stops of its columns, two lists with 0 for each column, and marked pairs that are within the limit
 pub record QueueInput (n : ℕ) (starts rows : List ℕ) (values : ℕ) (nz : ℕ → Bool) (stops spanStarts spanEnds : List ℕ) (limit : ℕ) (s : List ℕ) (count : ℕ) : Type 0 where
   pub small : n ≤ maxDimension
   pub factor : Factor n starts rows values
-  pub entered : (c : ℕ) → c < n → 0 < start starts (c + 1)
   pub stopped : Stops n starts rows nz stops
   pub spanStarts-fit : n ≤ length spanStarts
   pub spanEnds-fit : n ≤ length spanEnds

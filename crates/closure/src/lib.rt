@@ -3,31 +3,34 @@ pub mod queue;
 pub mod stops;
 
 ghost use mathlib.Core.Path.{_≡_};
+ghost use Prim.Native.Nat.{_≤_};
 ghost use lib.Dec.{leb};
 ghost use lib.ListN.{length};
-ghost use Rattle.columns.specs.Kept.{nonzero, pattern};
-ghost use Rattle.diagnostics.specs.Diagnosis.{statusOf};
+ghost use Rattle.columns.specs.Kept.{pattern};
+ghost use Rattle.kept_entries.specs.KeptBy.{ValuesLent, keptAt};
+ghost use Rattle.diagnostics.specs.Diagnosis.{statusOf, maxCount};
 ghost use Rattle.closure.specs.Closure.{ClosureInput, Closes, Diagnoses};
 use diagnostics::SelectedInverseDiagnostics;
 use diagnostics::SelectedInverseStatus;
 use diagnostics::selected_inverse_diagnostics;
-use kept_entries::factor_pairs;
 use queue::close_queue;
 use refusal::MAX_DIMENSION;
 
-// Closes the marked pairs under their dependencies; returns how many pairs the closed set has, or limit + 1 where it has more. Leaves the closed set's marks, and its columns' stops, where it is within the limit.
+// Closes the marked pairs under their dependencies; which values are not 0 the floats or the whole numbers say, of which one list is empty. Returns how many pairs the closed set has, or limit + 1 where it has more. Leaves the closed set's marks, and its columns' stops, where it is within the limit.
 pub fn takahashi_dependency_closure(
     n: usize,
     starts: &[u32],
     rows: &[u32],
-    values: &[f64],
+    floats: &[f64],
+    wholes: &[i64],
     requested_pairs: usize,
     limit: usize,
     stops: &mut [u32],
     scratch: &mut [u32],
 ) -> usize
-    requires { ⌜ ClosureInput n (now starts) (now rows) (length (now values)) (nonzero (now values)) «requested_pairs» (now stops) (now scratch) ⌝ }
-    ensures { λ r. ⌜ Closes n (pattern (now (starts .entry)) (now (rows .entry)) (nonzero (now (values .entry)))) limit (now (scratch .entry)) r
+    requires { ⌜ ClosureInput n (now starts) (now rows) (length (now rows)) «requested_pairs» (now stops) (now scratch) ⌝ }
+    requires { ⌜ ValuesLent (length (now rows)) (now floats) (now wholes) ⌝ }
+    ensures { λ r. ⌜ Closes n (pattern (now (starts .entry)) (now (rows .entry)) (keptAt (now (floats .entry)) (now (wholes .entry)))) limit (now (scratch .entry)) r
         (now (stops .exit)) (now (scratch .exit)) ⌝ }
 {
     if limit < requested_pairs {
@@ -39,7 +42,8 @@ pub fn takahashi_dependency_closure(
         n,
         starts,
         rows,
-        values,
+        floats,
+        wholes,
         limit,
         requested_pairs,
         stops,
@@ -59,27 +63,31 @@ fn status_within(count: usize, limit: usize) -> SelectedInverseStatus
     SelectedInverseStatus::Complete
 }
 
-// The diagnosis of a factor, the marked pairs and a limit. Leaves in scratch what the closure leaves.
+// The diagnosis of a factor's pattern, by its floats or its whole numbers, of a count of kept pairs, the marked pairs and a limit. Leaves in scratch what the closure leaves.
 pub fn diagnose(
     n: usize,
     starts: &[u32],
     rows: &[u32],
-    values: &[f64],
+    floats: &[f64],
+    wholes: &[i64],
+    kept_pairs: usize,
     requested_pairs: usize,
     limit: usize,
     stops: &mut [u32],
     scratch: &mut [u32],
 ) -> SelectedInverseDiagnostics
-    requires { ⌜ ClosureInput n (now starts) (now rows) (length (now values)) (nonzero (now values)) «requested_pairs» (now stops) (now scratch) ⌝ }
-    ensures { λ r. ⌜ Diagnoses n (now (starts .entry)) (now (rows .entry)) (now (values .entry)) limit (now (scratch .entry)) r
+    requires { ⌜ «kept_pairs» ≤ maxCount ⌝ }
+    requires { ⌜ ClosureInput n (now starts) (now rows) (length (now rows)) «requested_pairs» (now stops) (now scratch) ⌝ }
+    requires { ⌜ ValuesLent (length (now rows)) (now floats) (now wholes) ⌝ }
+    ensures { λ r. ⌜ Diagnoses n (pattern (now (starts .entry)) (now (rows .entry)) (keptAt (now (floats .entry)) (now (wholes .entry)))) «kept_pairs» limit (now (scratch .entry)) r
         (now (stops .exit)) (now (scratch .exit)) ⌝ }
 {
-    let kept = factor_pairs(n, starts, rows, values);
     let count = takahashi_dependency_closure(
         n,
         starts,
         rows,
-        values,
+        floats,
+        wholes,
         requested_pairs,
         limit,
         stops,
@@ -88,7 +96,7 @@ pub fn diagnose(
     selected_inverse_diagnostics(
         requested_pairs,
         count,
-        kept,
+        kept_pairs,
         limit,
         status_within(count, limit),
     )

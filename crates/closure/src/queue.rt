@@ -3,9 +3,10 @@
 ghost use mathlib.Core.Path.{_≡_};
 ghost use Prim.Native.Nat.{_<_};
 ghost use lib.ListN.{length};
-ghost use Rattle.columns.specs.Kept.{nonzero};
+ghost use Rattle.kept_entries.specs.KeptBy.{ValuesLent, keptAt};
 ghost use Rattle.closure.specs.Queue.{QueueInput, EndRoom, EndOf, afterSpan, EndColumnInput, ColumnEnded, QueueClosed};
 use super::stops::find_stop;
+use kept_entries::kept_by::is_kept;
 use marked_pairs::PACKING;
 use marked_pairs::insert_closure_pair;
 use scratch::queue_start;
@@ -74,7 +75,8 @@ pub fn close_queue(
     n: usize,
     starts: &[u32],
     rows: &[u32],
-    values: &[f64],
+    floats: &[f64],
+    wholes: &[i64],
     limit: usize,
     first: usize,
     stops: &mut [u32],
@@ -82,9 +84,10 @@ pub fn close_queue(
     span_ends: &mut [u32],
     scratch: &mut [u32],
 ) -> usize
-    requires { ⌜ QueueInput n (now starts) (now rows) (length (now values)) (nonzero (now values)) (now stops) (now «span_starts») (now «span_ends») limit
+    requires { ⌜ QueueInput n (now starts) (now rows) (length (now rows)) (keptAt (now floats) (now wholes)) (now stops) (now «span_starts») (now «span_ends») limit
         (now scratch) first ⌝ }
-    ensures { λ m. ⌜ QueueClosed n (now (starts .entry)) (now (rows .entry)) (nonzero (now (values .entry))) limit
+    requires { ⌜ ValuesLent (length (now rows)) (now floats) (now wholes) ⌝ }
+    ensures { λ m. ⌜ QueueClosed n (now (starts .entry)) (now (rows .entry)) (keptAt (now (floats .entry)) (now (wholes .entry))) limit
         (now (scratch .entry)) first (now (stops .exit)) (now (scratch .exit)) m ⌝ }
 {
     let start = queue_start(n);
@@ -100,17 +103,17 @@ pub fn close_queue(
             continue 'queue;
         }
         let before = count;
-        let stop = find_stop(n, c, starts, rows, values, stops);
+        let stop = find_stop(n, c, starts, rows, floats, wholes, stops);
         let end = column_end(r, c, stop, starts, rows);
         let mut p = at(starts, c);
         'column: while p < end {
             let k = at(rows, p);
-            let l = values[p];
+            let kept = is_kept(floats, wholes, p);
             p += 1;
             if k <= c {
                 continue 'column;
             }
-            if l == 0.0 {
+            if !kept {
                 continue 'column;
             }
             count = insert_closure_pair(n, r, k, count, scratch);

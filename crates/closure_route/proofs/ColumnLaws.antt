@@ -18,18 +18,19 @@ use Rattle.lists.specs.Select.{select-holds}
 use Rattle.pairs.specs.ColumnOrder.{columnMarking, setSize}
 use Rattle.closed_set.specs.ClosedSet.{descends, descends-at}
 use Rattle.columns.specs.Columns.{start, row}
-use Rattle.columns.specs.Kept.{nonzero, keptBelow, desc, diag, pattern}
+use Rattle.columns.specs.Kept.{nonzero, keptBelow, desc, pattern}
+use Rattle.columns.specs.Form.{Form, divisor}
 use Rattle.columns.specs.Factor.{Column, factor-column}
 use Rattle.columns.specs.Pattern.{pattern-at}
 use Rattle.takahashi.specs.Recurrence.{Lower, Solves, at}
-use Rattle.exact.specs.Exact.{floats, float-off, float-on}
-use Rattle.entries.specs.Entries.{columnCount, position, floatTable}
-use Rattle.entries.specs.Descendants.{float-solves}
+use Rattle.exact.specs.Exact.{floats}
+use Rattle.entries.specs.Entries.{columnCount, position, belowStep, diagonalStep, formTable}
+use Rattle.entries.specs.Descendants.{form-solves}
 use Rattle.entries.specs.Position.{columnCount-mono, position-first, position-in, position-below, position-rises, position-found}
 use Rattle.column_sums.specs.Part.{putIf, putIf-length, putIf-other}
 use Rattle.column_sums.specs.Sums.{positionOf, inverseAt, sumBetween, sumBetween-cong, entrySum, Summing}
 use Rattle.column_sums.specs.Stored.{Storing, SumsStored}
-use Rattle.closure_route.specs.Finish.{PartDivided, DiagonalRoom}
+use Rattle.closure_route.specs.Finish.{PartFinished, DiagonalRoom}
 use Rattle.closure_route.specs.Route.{ClosureRoute, SolvedFrom, Solved}
 
 -- where column j of the result and of the factor starts and ends
@@ -44,9 +45,6 @@ module _ {n : ℕ} {starts rows : List ℕ} {values : List Float} {firsts listed
   abbrev S : ℕ → ℕ → Bool
   S = columnMarking n scratch
 
-  abbrev Z : ℕ → ℕ → Float
-  Z = floatTable n starts rows values
-
   -- the entry at p is kept below the diagonal of column j
   abbrev Kept : ℕ → ℕ → Type 0
   Kept j p = (start starts j ≤ p) × (p < start starts (j + 1)) × (keptBelow rows (nonzero values) j p ≡ true)
@@ -59,10 +57,6 @@ module _ {n : ℕ} {starts rows : List ℕ} {values : List Float} {firsts listed
 
   row-inside : (j p : ℕ) → j < n → start starts j ≤ p → p < start starts (j + 1) → row rows p < n
   row-inside j p jn lo hi = G .factor .rows-ascend .inside p (omega (arith, column j jn .stored))
-
-  -- the table solves the recurrence
-  solves : Solves floats float-off float-on (diag starts rows values) (desc starts rows values) (Lower n) Z
-  solves = float-solves values (G .factor)
 
   -- the pair of a member's row and a descendant of its column is a member
   dependency : (r j p : ℕ) → j ≤ r → r < n → S r j ≡ true → Kept j p → S (max r (row rows p)) (min r (row rows p)) ≡ true
@@ -225,13 +219,20 @@ module _ {n : ℕ} {starts rows : List ℕ} {values : List Float} {firsts listed
         sums = λ e. column-summing j j (omega arith) jn (sym (diagonal-row j jn some) ∙ eq-eqb (row listed (columnCount n S j)) j e);
       }
 
-  -- ---- the entries
+  -- ---- the entries, of a factor in either form
 
-  module _ {j : ℕ} {z₀ z₁ z₂ z₃ : List Float} (jn : j < n) (size-is : length z₀ ≡ size) (D : SolvedFrom n S Z (j + 1) z₀)
+  module _ (form : Form) {j : ℕ} {z₀ z₁ z₂ z₃ : List Float} (jn : j < n) (size-is : length z₀ ≡ size) (D : SolvedFrom n S (formTable form n starts rows values) (j + 1) z₀)
       (A : SumsStored n j (columnCount n S j) (columnCount n S (j + 1)) (start starts j) (start starts (j + 1)) rows values listed scratch z₀ z₁)
-      (B : PartDivided j (diag starts rows values j) listed (columnCount n S j) (columnCount n S (j + 1)) z₁ z₂)
+      (B : PartFinished j (belowStep form (divisor n starts rows values form j)) listed (columnCount n S j) (columnCount n S (j + 1)) z₁ z₂)
       (C : z₃ ≡ putIf (S j j) z₂ (columnCount n S j)
-      (float-on (diag starts rows values j) (entrySum n j (start starts j) (start starts (j + 1)) rows values scratch z₂ j))) where
+      (diagonalStep form (divisor n starts rows values form j) (entrySum n j (start starts j) (start starts (j + 1)) rows values scratch z₂ j))) where
+    abbrev Z : ℕ → ℕ → Float
+    Z = formTable form n starts rows values
+
+    -- the table solves the recurrence
+    solves : Solves floats (belowStep form) (diagonalStep form) (divisor n starts rows values form) (desc starts rows values) (Lower n) Z
+    solves = form-solves form values (G .factor)
+
     abbrev sum-of : (ℕ → Float) → Float
     sum-of r = sumBetween rows values j r (start starts j) (start starts (j + 1))
 
@@ -254,7 +255,7 @@ module _ {n : ℕ} {starts rows : List ℕ} {values : List Float} {firsts listed
         let b : j < row listed q = omega arith in
         let hi = position-in n S r j (omega arith) l t in
         B .below q (omega arith) hi b
-        ∙ ap (float-off (diag starts rows values j)) (A .sums q (omega arith) hi b ∙ ap (λ (i : ℕ). sum-of (inverseAt n scratch z₀ i)) e ∙ sum-below r h l t)
+        ∙ ap (belowStep form (divisor n starts rows values form j)) (A .sums q (omega arith) hi b ∙ ap (λ (i : ℕ). sum-of (inverseAt n scratch z₀ i)) e ∙ sum-below r h l t)
         ∙ sym (solves .below-is r j (omega arith, l) h)
 
     -- on it
@@ -274,20 +275,20 @@ module _ {n : ℕ} {starts rows : List ℕ} {values : List Float} {firsts listed
     on-diagonal : S j j ≡ true → getD z₃ (position n S j j) nan ≡ Z j j
     unfolding sumBetween
     on-diagonal t =
-        let d = diag starts rows values j in
+        let d = divisor n starts rows values form j in
         let q = columnCount n S j in
-        let x = float-on d (sum-of (inverseAt n scratch z₂ j)) in
+        let x = diagonalStep form d (sum-of (inverseAt n scratch z₂ j)) in
         let inside = position-below n S j j n (omega arith) jn jn t in
         ap₂ (λ (z : List Float) (p : ℕ). getD z p nan) (C ∙ ap (λ (b : Bool). putIf b z₂ q x) t) (position-first n S j)
         ∙ getD-set-same z₂ q x nan (omega (arith, position-first n S j, A .long, B .long, G .values-fit))
-        ∙ ap (float-on d) (sum-on t) ∙ sym (solves .diagonal-is j (omega arith, jn))
+        ∙ ap (diagonalStep form d) (sum-on t) ∙ sym (solves .diagonal-is j (omega arith, jn))
 
     -- other places are not written last
     untouched : (q : ℕ) → (S j j ≡ true → columnCount n S j < q) → getD z₃ q nan ≡ getD z₂ q nan
     untouched q h = ap (λ (z : List Float). getD z q nan) C ∙ go (S j j) refl
       where
         x : Float
-        x = float-on (diag starts rows values j) (sum-of (inverseAt n scratch z₂ j))
+        x = diagonalStep form (divisor n starts rows values form j) (sum-of (inverseAt n scratch z₂ j))
 
         go : (b : Bool) → S j j ≡ b → getD (putIf b z₂ (columnCount n S j) x) q nan ≡ getD z₂ q nan
         go true t = let l = h t in putIf-other true z₂ (columnCount n S j) q x (omega arith)
@@ -345,8 +346,8 @@ module _ {n : ℕ} {starts rows : List ℕ} {values : List Float} {firsts listed
     diagonal-at d k q = rw (q, E .first-is, E .start-is, E .end-is) (column-diagonal j jn (some-at d))
 
     -- a column without entries
-    pub solved-empty : (z : List Float) → first ≡ last → SolvedFrom n S Z (j + 1) z → Solved n S Z j z z
-    solved-empty z q D = record {
+    pub solved-empty : (Z : ℕ → ℕ → Float) (z : List Float) → first ≡ last → SolvedFrom n S Z (j + 1) z → Solved n S Z j z z
+    solved-empty Z z q D = record {
       long = refl;
       rest = λ p l. refl;
       entries = λ r c h p l t.
@@ -358,13 +359,14 @@ module _ {n : ℕ} {starts rows : List ℕ} {values : List Float} {firsts listed
           (eq-or-lt-of-le h);
     }
 
-    pub solved-at : {d : Float} {z₀ z₁ z₂ z₃ : List Float} → (first ≡ last → ⊥) → d ≡ diag starts rows values j → length z₀ ≡ size → SolvedFrom n S Z (j + 1) z₀
+    pub solved-at : (form : Form) {d : Float} {z₀ z₁ z₂ z₃ : List Float} → (first ≡ last → ⊥) → d ≡ divisor n starts rows values form j → length z₀ ≡ size
+        → SolvedFrom n S (formTable form n starts rows values) (j + 1) z₀
         → SumsStored n j first last s e rows values listed scratch z₀ z₁
-        → PartDivided j d listed first last z₁ z₂
-        → z₃ ≡ putIf (eqb (row listed first) j) z₂ first (float-on d (entrySum n j s e rows values scratch z₂ j))
-        → Solved n S Z j z₀ z₃
-    solved-at {d} {z₀} {z₁} {z₂} {z₃} some q k D A B C =
-        column-solved jn k D
+        → PartFinished j (belowStep form d) listed first last z₁ z₂
+        → z₃ ≡ putIf (eqb (row listed first) j) z₂ first (diagonalStep form d (entrySum n j s e rows values scratch z₂ j))
+        → Solved n S (formTable form n starts rows values) j z₀ z₃
+    solved-at form {d} {z₀} {z₁} {z₂} {z₃} some q k D A B C =
+        column-solved form jn k D
         (rw (E .first-is, E .last-is, E .start-is, E .end-is) at A)
         (rw (q, E .first-is, E .last-is) at B)
         (rw (q, E .first-is, E .start-is, E .end-is, diagonal-row j jn (some-at some)) at C)

@@ -1,4 +1,4 @@
--- The division of a column's sums, and its part put back.
+-- The last step of a column's sums, and its part put back.
 -- Assumes nothing.
 use Prim.Native.Nat.{ℕ, _+_, _-_, _≤_, _<_}
 use native.Mathlib.Omega.{arith}
@@ -14,30 +14,29 @@ use lib.Seq.{getD-set-same, getD-append-add, getD-take, getD-drop, length-take-l
 use lib.Ieee.{Float, nan}
 use borrow.Author.Tests.{lt-ltb}
 use Rattle.columns.specs.Columns.{row}
-use Rattle.exact.specs.Exact.{float-off}
 use Rattle.column_sums.specs.Part.{putIf, putIf-length, putIf-other}
-use Rattle.closure_route.specs.Finish.{Divided, PartDivided}
+use Rattle.closure_route.specs.Finish.{Finished, PartFinished}
 
--- ---- the division
+-- ---- the last step
 
-pub divided-none : (j : ℕ) (d : Float) (rows : List ℕ) (part : List Float) → Divided j d rows 0 part part
-divided-none j d rows part = record { long = refl; below = λ q l. absurd (not-suc-le-zero l); after = λ q l. refl }
+pub finished-none : (j : ℕ) (step : Float → Float) (rows : List ℕ) (part : List Float) → Finished j step rows 0 part part
+finished-none j step rows part = record { long = refl; below = λ q l. absurd (not-suc-le-zero l); after = λ q l. refl }
 
-module _ {j : ℕ} {d : Float} {rows : List ℕ} {k : ℕ} {part₀ part : List Float} (D : Divided j d rows k part₀ part) (l : k < length part₀) where
+module _ {j : ℕ} {step : Float → Float} {rows : List ℕ} {k : ℕ} {part₀ part : List Float} (D : Finished j step rows k part₀ part) (l : k < length part₀) where
   abbrev part′ : List Float
-  part′ = putIf (ltb j (row rows k)) part k (float-off d (getD part k nan))
+  part′ = putIf (ltb j (row rows k)) part k (step (getD part k nan))
 
-  here : j < row rows k → getD part′ k nan ≡ float-off d (getD part₀ k nan)
+  here : j < row rows k → getD part′ k nan ≡ step (getD part₀ k nan)
   here h =
-      ap (λ (b : Bool). getD (putIf b part k (float-off d (getD part k nan))) k nan) (lt-ltb j (row rows k) h)
-      ∙ getD-set-same part k (float-off d (getD part k nan)) nan (omega (arith, D .long)) ∙ ap (float-off d) (D .after k (omega arith))
+      ap (λ (b : Bool). getD (putIf b part k (step (getD part k nan))) k nan) (lt-ltb j (row rows k) h)
+      ∙ getD-set-same part k (step (getD part k nan)) nan (omega (arith, D .long)) ∙ ap step (D .after k (omega arith))
 
-  pub divided-more : Divided j d rows (k + 1) part₀ part′
-  divided-more = record {
+  pub finished-more : Finished j step rows (k + 1) part₀ part′
+  finished-more = record {
     long = putIf-length (ltb j (row rows k)) part k _ ∙ D .long;
     below = λ q b h.
         ⊎-elim
-        (λ w. subst (λ (x : ℕ). j < row rows x → getD part′ x nan ≡ float-off d (getD part₀ x nan)) (sym w) here h)
+        (λ w. subst (λ (x : ℕ). j < row rows x → getD part′ x nan ≡ step (getD part₀ x nan)) (sym w) here h)
         (λ w. putIf-other (ltb j (row rows k)) part k q _ (omega arith) ∙ D .below q w h)
         (eq-or-lt-of-le (le-of-suc-le-suc (rw add-one at b)));
     after = λ q b. putIf-other (ltb j (row rows k)) part k q _ (omega arith) ∙ D .after q (omega arith);
@@ -68,11 +67,11 @@ module _ (z new : List Float) (a m : ℕ) (fits : a + m ≤ length z) (size : le
       ∙ ap (λ (k : ℕ). getD (new ++ drop m (drop a z)) (k + x) nan) (sym size)
       ∙ getD-append-add new (drop m (drop a z)) x nan ∙ getD-drop m (drop a z) x nan ∙ getD-drop a z (m + x) nan
 
--- a divided part, put back
-pub part-divided : (j : ℕ) (d : Float) (rows : List ℕ) (first last : ℕ) (z part : List Float) → first ≤ last → last ≤ length z
-    → Divided j d (take (last - first) (drop first rows)) (last - first) (take (last - first) (drop first z)) part
-    → PartDivided j d rows first last z (putBack z first (last - first) part)
-part-divided j d rows first last z part h fits D = record {
+-- a finished part, put back
+pub part-finished : (j : ℕ) (step : Float → Float) (rows : List ℕ) (first last : ℕ) (z part : List Float) → first ≤ last → last ≤ length z
+    → Finished j step (take (last - first) (drop first rows)) (last - first) (take (last - first) (drop first z)) part
+    → PartFinished j step rows first last z (putBack z first (last - first) part)
+part-finished j step rows first last z part h fits D = record {
   long = putBack-length z part first m room size;
   below = λ q lo hi b. here (q - first) q (omega arith) (omega arith) b;
   after = λ q lo.
@@ -95,7 +94,7 @@ part-divided j d rows first last z part h fits D = record {
     at : {A : Type 0} (l : List A) (x : ℕ) (o : A) → x < m → getD (take m (drop first l)) x o ≡ getD l (first + x) o
     at l x o b = getD-take m (drop first l) x o b ∙ getD-drop first l x o
 
-    here : (x q : ℕ) → first + x ≡ q → x < m → j < row rows q → getD (putBack z first m part) q nan ≡ float-off d (getD z q nan)
+    here : (x q : ℕ) → first + x ≡ q → x < m → j < row rows q → getD (putBack z first m part) q nan ≡ step (getD z q nan)
     here x q e b h =
-        subst (λ (y : ℕ). j < row rows y → getD (putBack z first m part) y nan ≡ float-off d (getD z y nan)) e
-        (λ g. putBack-in z part first m room size x b ∙ D .below x b (omega (arith, at rows x 0 b)) ∙ ap (float-off d) (at z x nan b)) h
+        subst (λ (y : ℕ). j < row rows y → getD (putBack z first m part) y nan ≡ step (getD z y nan)) e
+        (λ g. putBack-in z part first m room size x b ∙ D .below x b (omega (arith, at rows x 0 b)) ∙ ap step (at z x nan b)) h

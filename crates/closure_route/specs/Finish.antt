@@ -1,4 +1,4 @@
--- A column's own part of the inverse, its sums divided, and put back; and what the diagonal's entry asks.
+-- A column's own part of the inverse, its sums finished by a last step, and put back; and what the diagonal's entry asks.
 -- Assumes nothing.
 use Prim.Native.Nat.{ℕ, _-_, _≤_, _<_}
 use mathlib.Core.Path.{_≡_}
@@ -6,19 +6,18 @@ use mathlib.Core.List.{List}
 use lib.ListN.{length, getD}
 use lib.Ieee.{Float, nan}
 use Rattle.columns.specs.Columns.{row}
-use Rattle.exact.specs.Exact.{float-off}
 use Rattle.column_sums.specs.Sums.{Summing}
 
--- the first k places of a column's own part are divided where their row is below j, and the later ones as they were
-pub record Divided (j : ℕ) (d : Float) (rows : List ℕ) (k : ℕ) (part₀ part : List Float) : Type 0 where
+-- the first k places of a column's own part have had the last step where their row is below j, and the later ones are as they were
+pub record Finished (j : ℕ) (step : Float → Float) (rows : List ℕ) (k : ℕ) (part₀ part : List Float) : Type 0 where
   pub long : length part ≡ length part₀
-  pub below : (q : ℕ) → q < k → j < row rows q → getD part q nan ≡ float-off d (getD part₀ q nan)
+  pub below : (q : ℕ) → q < k → j < row rows q → getD part q nan ≡ step (getD part₀ q nan)
   pub after : (q : ℕ) → k ≤ q → getD part q nan ≡ getD part₀ q nan
 
 -- the same of the part from first to below last of the inverse, and the later entries as they were
-pub record PartDivided (j : ℕ) (d : Float) (rows : List ℕ) (first last : ℕ) (z₀ z : List Float) : Type 0 where
+pub record PartFinished (j : ℕ) (step : Float → Float) (rows : List ℕ) (first last : ℕ) (z₀ z : List Float) : Type 0 where
   pub long : length z ≡ length z₀
-  pub below : (q : ℕ) → first ≤ q → q < last → j < row rows q → getD z q nan ≡ float-off d (getD z₀ q nan)
+  pub below : (q : ℕ) → first ≤ q → q < last → j < row rows q → getD z q nan ≡ step (getD z₀ q nan)
   pub after : (q : ℕ) → last ≤ q → getD z q nan ≡ getD z₀ q nan
 
 -- the diagonal's entry can be made, where q's row is j

@@ -17,8 +17,7 @@ use Rattle.pairs.specs.ColumnOrder.{columnPlace, columnPlace-below, columnMarki
 use Rattle.closed_set.specs.ClosedSet.{Closed, Pattern}
 use Rattle.columns.specs.Kept.{nonzero, pattern}
 use Rattle.columns.specs.Factor.{Factor}
-use Rattle.columns.specs.Diagonal.{Diagonals}
-use Rattle.entries.specs.Entries.{columnCount, position, entryStarts, entryRows, floatTable, entryStarts-length, entryRows-length}
+use Rattle.entries.specs.Entries.{columnCount, position, entryStarts, entryRows, entryStarts-length, entryRows-length}
 use Rattle.entries.specs.Position.{entryRows-at, position-below, columnCount-cong, position-cong}
 use Rattle.layout.specs.Layout.{LayOut, LaidOut}
 
@@ -26,7 +25,6 @@ use Rattle.layout.specs.Layout.{LayOut, LaidOut}
 pub record ClosureRoute (n : ℕ) (starts rows : List ℕ) (values : List Float) (firsts listed scratch : List ℕ) (size : ℕ) : Type 0 where
   pub small : n ≤ maxDimension
   pub factor : Factor n starts rows (length values)
-  pub diagonals : Diagonals n starts rows values
   pub closed : Closed n (pattern starts rows (nonzero values)) (columnMarking n scratch)
   pub room : queueStart n + pairTotal n ≤ length scratch
   pub positions : (r c : ℕ) → c ≤ r → r < n → columnMarking n scratch r c ≡ true
@@ -47,11 +45,11 @@ pub record Solved (n : ℕ) (S : ℕ → ℕ → Bool) (Z : ℕ → ℕ → Floa
   pub rest : (q : ℕ) → setSize n S ≤ q → getD z q nan ≡ getD z₀ q nan
   pub entries : SolvedFrom n S Z m z
 
--- column j, once the later columns are done
-pub record ColumnStep (n j : ℕ) (starts rows : List ℕ) (values : List Float) (firsts listed scratch : List ℕ) (z : List Float) : Type 0 where
+-- column j, once the later columns are those of the table
+pub record ColumnStep (n j : ℕ) (starts rows : List ℕ) (values : List Float) (firsts listed scratch : List ℕ) (Z : ℕ → ℕ → Float) (z : List Float) : Type 0 where
   pub route : ClosureRoute n starts rows values firsts listed scratch (length z)
   pub inside : j < n
-  pub later : SolvedFrom n (columnMarking n scratch) (floatTable n starts rows values) (j + 1) z
+  pub later : SolvedFrom n (columnMarking n scratch) Z (j + 1) z
 
 -- ---- what the layout leaves is what the route asks
 
@@ -64,7 +62,7 @@ module _ {n : ℕ} {firsts₀ listed₀ scratch₀ firsts listed scratch : List 
       bit-same scratch scratch₀ p
       (L .marks (p / 32) (queueStart-mark n p (columnPlace-below n r c h l)))
 
-  module _ {starts rows : List ℕ} {values : List Float} (F : Factor n starts rows (length values)) (D : Diagonals n starts rows values)
+  module _ {starts rows : List ℕ} (values : List Float) (F : Factor n starts rows (length values))
       (P : Pattern n (pattern starts rows (nonzero values))) (K : Closed n (pattern starts rows (nonzero values)) (columnMarking n scratch₀))
       {size : ℕ} (fits : setSize n (columnMarking n scratch₀) ≤ size) where
     abbrev S₀ : ℕ → ℕ → Bool
@@ -80,7 +78,6 @@ module _ {n : ℕ} {firsts₀ listed₀ scratch₀ firsts listed scratch : List 
     laid-route = record {
       small = M .small;
       factor = F;
-      diagonals = D;
       closed = λ r c d h l i t.
           let b = P .inside c d (omega arith) i in
           laid-same _ _ (omega arith) (omega arith) ∙ K r c d h l i (sym (laid-same r c h l) ∙ t);

@@ -8,7 +8,7 @@ ghost use Rattle.columns.specs.Columns.{row};
 ghost use Rattle.exact.specs.Exact.{float-off, float-on};
 ghost use Rattle.column_sums.specs.Part.{putIf};
 ghost use Rattle.column_sums.specs.Sums.{entrySum};
-ghost use Rattle.closure_route.specs.Finish.{Divided, PartDivided, DiagonalRoom};
+ghost use Rattle.closure_route.specs.Finish.{Finished, PartFinished, DiagonalRoom};
 use column_sums::sums::entry_sum;
 use entry_steps::entry_below;
 use entry_steps::entry_on_diagonal;
@@ -28,7 +28,7 @@ fn divide_entry(part: &mut [f64], q: usize, i: usize, j: usize, d: f64)
 // Divides the sums of column j, whose own part of the inverse and of the result's rows are lent.
 fn divide_column(part: &mut [f64], rows: &[u32], j: usize, d: f64)
     requires { ⌜ length (now rows) ≡ length (now part) ⌝ }
-    ensures { λ _. ⌜ Divided j d (now (rows .entry)) (length (now (part .entry))) (now (part .entry)) (now (part .exit)) ⌝ }
+    ensures { λ _. ⌜ Finished j (float-off d) (now (rows .entry)) (length (now (part .entry))) (now (part .entry)) (now (part .exit)) ⌝ }
 {
     let mut q = 0;
     while q < part.len() {
@@ -41,7 +41,7 @@ fn divide_column(part: &mut [f64], rows: &[u32], j: usize, d: f64)
 // Lends column j's own part of the inverse, from first to last, to the division.
 pub fn divide_part(inverse: &mut [f64], rows: &[u32], first: usize, last: usize, j: usize, d: f64)
     requires { ⌜ (first ≤ last) × (last ≤ length (now inverse)) × (last ≤ length (now rows)) ⌝ }
-    ensures { λ _. ⌜ PartDivided j d (now (rows .entry)) first last (now (inverse .entry)) (now (inverse .exit)) ⌝ }
+    ensures { λ _. ⌜ PartFinished j (float-off d) (now (rows .entry)) first last (now (inverse .entry)) (now (inverse .exit)) ⌝ }
 {
     divide_column(&mut inverse[first..last], &rows[first..last], j, d);
 }

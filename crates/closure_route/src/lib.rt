@@ -7,6 +7,7 @@ ghost use Prim.Native.Nat.{_+_, _<_};
 ghost use lib.ListN.{length};
 ghost use Rattle.lists.specs.Overwrite.{overwrite};
 ghost use Rattle.pairs.specs.ColumnOrder.{columnMarking};
+ghost use Rattle.columns.specs.Diagonal.{Diagonals};
 ghost use Rattle.entries.specs.Entries.{entryValues, floatTable};
 ghost use Rattle.closure_route.specs.Route.{ClosureRoute, ColumnStep, Solved};
 use column_sums::store_sums;
@@ -28,7 +29,9 @@ fn takahashi_column(
     entry_values: &mut [f64],
     scratch: &[u32],
 )
-    requires { ⌜ ColumnStep n j (now starts) (now rows) (now values) (now «entry_starts») (now «entry_rows») (now scratch) (now «entry_values») ⌝ }
+    requires { ⌜ ColumnStep n j (now starts) (now rows) (now values) (now «entry_starts») (now «entry_rows») (now scratch)
+        (floatTable n (now starts) (now rows) (now values)) (now «entry_values») ⌝ }
+    requires { ⌜ Diagonals n (now starts) (now rows) (now values) ⌝ }
     ensures { λ _. ⌜ Solved n (columnMarking n (now (scratch .entry))) (floatTable n (now (starts .entry)) (now (rows .entry)) (now (values .entry))) j
         (now («entry_values» .entry)) (now («entry_values» .exit)) ⌝ }
 {
@@ -81,6 +84,7 @@ pub fn takahashi_selected_inverse_on_closure(
     scratch: &[u32],
 )
     requires { ⌜ ClosureRoute n (now starts) (now rows) (now values) (now «entry_starts») (now «entry_rows») (now scratch) (length (now «entry_values»)) ⌝ }
+    requires { ⌜ Diagonals n (now starts) (now rows) (now values) ⌝ }
     ensures { λ _. ⌜ now («entry_values» .exit) ≡ overwrite (entryValues n (columnMarking n (now (scratch .entry)))
         (floatTable n (now (starts .entry)) (now (rows .entry)) (now (values .entry)))) (now («entry_values» .entry)) ⌝ }
 {

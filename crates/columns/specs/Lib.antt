@@ -5,6 +5,7 @@ pub mod Kept
 pub mod Stored
 pub mod Diagonal
 pub mod Pattern
+pub mod Form
 pub mod Numbers
 pub mod Operator
 pub mod Examples

@@ -16,7 +16,7 @@ use Rattle.columns.specs.Columns.{outsideAt, outside, boundSteps}
 use Rattle.columns.specs.Factor.{boundSteps-sound}
 use Rattle.columns.specs.Stored.{storedSteps}
 use Rattle.columns.specs.Operator.{operatorRows, operatorBoundSteps, operatorSteps, operatorSteps-sound}
-use Rattle.selection.specs.Selection.{Selection, Lent, Room, roomOf, defaultLimit, fillSteps, selectedTable, Accepted}
+use Rattle.selection.specs.Selection.{Selection, selection, Lent, Room, roomOf, defaultLimit, fillSteps, selectedTable, Accepted}
 use Rattle.selection.specs.Call.{fill-accepted}
 use Rattle.diagnostics.specs.declared.Selected.{Selected}
 use Rattle.request_marks.specs.CrossRequests.{crossRequested, crossRequested-ranged, OperatorPairs}
@@ -51,14 +51,9 @@ covarianceCall n starts rows values a b aRows bRows = record { n = n; starts = s
 module _ (x : CovarianceCall) where
   -- the requests are every column of the one row with every column of the other, for each row pair; the limit is the default one
   abbrev pub covarianceSelection : Selection
-  covarianceSelection = record {
-    n = x .n;
-    starts = x .starts;
-    rows = x .rows;
-    values = x .values;
-    requests = crossRequested (x .a .rowStarts) (x .a .columns) (x .b .rowStarts) (x .b .columns) (x .aRows) (x .bRows);
-    limit = defaultLimit (x .rows);
-  }
+  covarianceSelection =
+      selection (x .n) (x .starts) (x .rows) (x .values) (crossRequested (x .a .rowStarts) (x .a .columns) (x .b .rowStarts) (x .b .columns) (x .aRows) (x .bRows))
+      (defaultLimit (x .rows))
 
   -- 1: too many row pairs, counted by a's list
   abbrev pub pairBoundSteps : List Step
@@ -148,7 +143,7 @@ module _ (x : CovarianceCall) (lengths : Room) (output : ℕ) (p : Passed (covar
             (subst (λ (m : ℕ). q < m) (eqb-true _ _ (not-false _ (C .1 .1 .0))) l));
       } in
       record {
-        accepted = fill-accepted (covarianceSelection x) lengths (B .small) (passed .1 .0) (crossRequested-ranged O) (passed .1 .1 .1 .1 .0);
+        accepted = fill-accepted (covarianceSelection x) lengths B (passed .1 .0) (crossRequested-ranged O) (passed .1 .1 .1 .1 .0);
         few = B .few;
         operators = O;
         room = ltb-false _ _ (passed-clear (outputSteps x output) (passed .1 .1 .1 .1 .1 .0) .0);

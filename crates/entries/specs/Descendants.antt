@@ -7,14 +7,16 @@ use mathlib.Core.Path.{_≡_}
 use mathlib.Core.List.{List, [], _∷_, map}
 use lib.ListN.{length, getD, length-map}
 use lib.Ieee.{Float}
-use Rattle.columns.specs.Columns.{row}
+use Rattle.columns.specs.Columns.{row, value}
 use Rattle.columns.specs.Kept.{nonzero, entry, descPlaces, desc, diag, pattern}
 use Rattle.columns.specs.Factor.{Factor}
+use Rattle.columns.specs.Form.{Form, cholesky, pivoted, divisor}
 use Rattle.columns.specs.Pattern.{pattern-at, pattern-above, pattern-inside, pattern-rises}
 use Rattle.takahashi.specs.Entries.{Entry, Ascend, ascend-rows}
 use Rattle.takahashi.specs.Recurrence.{Rows, Lower, Solves, table-solves}
 use Rattle.exact.specs.Exact.{floats, float-off, float-on}
-use Rattle.entries.specs.Entries.{floatTable}
+use Rattle.exact.specs.PivotCase.{pivot-off, pivot-on}
+use Rattle.entries.specs.Entries.{floatTable, pivotTable, belowStep, diagonalStep, formTable}
 
 -- a list of entries made from places
 ascend-places : {W : Type 0} (f : ℕ → Entry W) (n a : ℕ) (l : List ℕ) → ((i : ℕ) → i < length l → (a ≤ f (getD l i 0) .row) × (f (getD l i 0) .row < n))
@@ -55,3 +57,16 @@ pub float-solves : {n : ℕ} {starts rows : List ℕ} (values : List Float) → 
 unfolding floatTable
 float-solves {n} {starts} {rows} values F =
     table-solves floats float-off float-on n (diag starts rows values) (desc starts rows values) (λ j jn. desc-rows values F j jn)
+
+-- and so does that of a factor with pivots
+pub pivot-solves : {n : ℕ} {starts rows : List ℕ} (values pivots : List Float) → Factor n starts rows (length values) →
+    Solves floats pivot-off pivot-on (value pivots) (desc starts rows values) (Lower n) (pivotTable n starts rows values pivots)
+unfolding pivotTable
+pivot-solves {n} {starts} {rows} values pivots F =
+    table-solves floats pivot-off pivot-on n (value pivots) (desc starts rows values) (λ j jn. desc-rows values F j jn)
+
+-- in either form
+pub form-solves : (form : Form) {n : ℕ} {starts rows : List ℕ} (values : List Float) → Factor n starts rows (length values) →
+    Solves floats (belowStep form) (diagonalStep form) (divisor n starts rows values form) (desc starts rows values) (Lower n) (formTable form n starts rows values)
+form-solves cholesky values F = float-solves values F
+form-solves (pivoted pivots) values F = pivot-solves values pivots F

@@ -67,10 +67,25 @@ pub record Bounded (s : ℕ) (diag : ℕ → ℤ) (desc : ℕ → List (Entry �
   pub reciprocal : (j : ℕ) → P j j → (r : ℤ) × (r *ℤ (diag j *ℤ diag j) ≡ pos (2 ^ s) *ℤ pos (2 ^ s) *ℤ pos (2 ^ s)) × Small r
   pub quotient : (j : ℕ) → P j j → (t : ℤ) × (t *ℤ diag j ≡ dot integers (λ k. z k j) (desc j)) × Small t
 
+-- what `Bounded` says of the sums, which every recurrence has whatever its last steps
+pub record BoundedSums (s : ℕ) (desc : ℕ → List (Entry ℤ)) (P : ℕ → ℕ → Type 0) (z : ℕ → ℕ → ℤ) : Type 0 where
+  pub product-below : (i j : ℕ) → P i j → j < i → Products (Kept s) (λ k. at z i k) (desc j)
+  pub sum-below : (i j : ℕ) → P i j → j < i → RunningSums (Kept s) (λ k. at z i k) (pos 0) (desc j)
+  pub product-diagonal : (j : ℕ) → P j j → Products (Kept s) (λ k. z k j) (desc j)
+  pub sum-diagonal : (j : ℕ) → P j j → RunningSums (Kept s) (λ k. z k j) (pos 0) (desc j)
+
+pub bounded-sums : {s : ℕ} {diag : ℕ → ℤ} {desc : ℕ → List (Entry ℤ)} {P : ℕ → ℕ → Type 0} {z : ℕ → ℕ → ℤ} → Bounded s diag desc P z → BoundedSums s desc P z
+bounded-sums b = record {
+  product-below = b .product-below;
+  sum-below = b .sum-below;
+  product-diagonal = b .product-diagonal;
+  sum-diagonal = b .sum-diagonal;
+}
+
 -- ---- f64's running sums are the exact ones
 module _ (s : ℕ) (sl : s ≤ low binary64) where
   -- x is p / 2 ^ (2 * s), and a multiple of 2 ^ -s
-  abbrev Stands : Float → ℤ → Type 0
+  abbrev pub Stands : Float → ℤ → Type 0
   Stands x p = (m : ℤ) × (m *ℤ pos (2 ^ s) ≡ p) × Multiple s x m
 
   plus-exact : (x y : Float) (p q : ℤ) → Stands x p → Stands y q → Kept s (p +ℤ q) → Stands (add binary64 x y) (p +ℤ q)
@@ -125,25 +140,41 @@ module _ (s : ℕ) (sl : s ≤ low binary64) where
       (multiple-sub s sl (div binary64 one-float (mul binary64 d d)) (div binary64 S d) (r .0) (t .0) first second (subst Small is h))
 
   -- ---- f64's entries are the exact ones
+  -- whatever the last steps `off` and `on` are, where these are exact
+  pub last-steps-exact : (n : ℕ) (desc : ℕ → List (Entry ℤ)) (P : ℕ → ℕ → Type 0) (z : ℕ → ℕ → ℤ) → RecurrenceClosed n desc P → BoundedSums s desc P z
+      → (off on : Float → Float → Float) (fdiag : ℕ → Float) (fdesc : ℕ → List (Entry Float)) → ((j : ℕ) → j < n → Alike s (fdesc j) (desc j))
+      → ((i j : ℕ) → P i j → j < i → (S : Float) → Stands S (dot integers (λ k. at z i k) (desc j)) → Multiple s (off (fdiag j) S) (z i j))
+      → ((j : ℕ) → P j j → (S : Float) → Stands S (dot integers (λ k. z k j) (desc j)) → Multiple s (on (fdiag j) S) (z j j))
+      → (Z : ℕ → ℕ → Float) → Solves floats off on fdiag fdesc P Z → (i j : ℕ) → P i j → Multiple s (Z i j) (z i j)
+  last-steps-exact n desc P z closed sums off on fdiag fdesc alike below diagonal Z solves =
+      closed-induction n desc P closed (λ i j. Multiple s (Z i j) (z i j))
+      (λ i j p ji h.
+      subst (λ (x : Float). Multiple s x (z i j)) (sym (solves .below-is i j p ji))
+      (below i j p ji (dot floats (λ k. at Z i k) (fdesc j))
+      (dot-exact (λ k. at Z i k) (λ k. at z i k) (fdesc j) (desc j) (alike j (column i j p)) h (sums .product-below i j p ji) (sums .sum-below i j p ji))))
+      (λ j p h.
+      subst (λ (x : Float). Multiple s x (z j j)) (sym (solves .diagonal-is j p))
+      (diagonal j p (dot floats (λ k. Z k j) (fdesc j))
+      (dot-exact (λ k. Z k j) (λ k. z k j) (fdesc j) (desc j) (alike j (column j j p)) h (sums .product-diagonal j p) (sums .sum-diagonal j p))))
+    where
+      column : (i j : ℕ) → P i j → j < n
+      column i j p = lt-of-le-of-lt (closed .inside i j p .0) (closed .inside i j p .1)
+
+  -- with the last steps of a factor L with L * Lᵀ
   pub floats-exact : (n : ℕ) (diag : ℕ → ℤ) (desc : ℕ → List (Entry ℤ)) (P : ℕ → ℕ → Type 0) (z : ℕ → ℕ → ℤ)
       → ((j : ℕ) → j < n → diag j ≢ pos 0) → RecurrenceClosed n desc P → Recurs (pos (2 ^ s)) diag desc P z → Bounded s diag desc P z
       → (fdiag : ℕ → Float) (fdesc : ℕ → List (Entry Float))
       → ((j : ℕ) → j < n → Multiple s (fdiag j) (diag j)) → ((j : ℕ) → j < n → Alike s (fdesc j) (desc j))
       → (Z : ℕ → ℕ → Float) → Solves floats float-off float-on fdiag fdesc P Z → (i j : ℕ) → P i j → Multiple s (Z i j) (z i j)
   floats-exact n diag desc P z nonzero closed rec bounded fdiag fdesc diagonal alike Z solves =
-      closed-induction n desc P closed (λ i j. Multiple s (Z i j) (z i j))
-      (λ i j p ji h.
-      let jn = column i j p in
-      subst (λ (x : Float). Multiple s x (z i j)) (sym (solves .below-is i j p ji))
-      (off-exact (fdiag j) (dot floats (λ k. at Z i k) (fdesc j)) (diag j) (dot integers (λ k. at z i k) (desc j)) (z i j) (diagonal j jn) (nonzero j jn)
-      (dot-exact (λ k. at Z i k) (λ k. at z i k) (fdesc j) (desc j) (alike j jn) h (bounded .product-below i j p ji) (bounded .sum-below i j p ji))
-      (rec .below-is i j p ji) (bounded .entry i j p)))
-      (λ j p h.
-      let jn = column j j p in
-      subst (λ (x : Float). Multiple s x (z j j)) (sym (solves .diagonal-is j p))
-      (on-exact (fdiag j) (dot floats (λ k. Z k j) (fdesc j)) (diag j) (dot integers (λ k. z k j) (desc j)) (z j j) (diagonal j jn) (nonzero j jn)
-      (dot-exact (λ k. Z k j) (λ k. z k j) (fdesc j) (desc j) (alike j jn) h (bounded .product-diagonal j p) (bounded .sum-diagonal j p))
-      (bounded .square j p) (bounded .reciprocal j p) (bounded .quotient j p) (rec .diagonal-is j p) (bounded .entry j j p)))
+      last-steps-exact n desc P z closed (bounded-sums bounded) float-off float-on fdiag fdesc alike
+      (λ i j p ji S h.
+      off-exact (fdiag j) S (diag j) (dot integers (λ k. at z i k) (desc j)) (z i j) (diagonal j (column i j p)) (nonzero j (column i j p)) h
+      (rec .below-is i j p ji) (bounded .entry i j p))
+      (λ j p S h.
+      on-exact (fdiag j) S (diag j) (dot integers (λ k. z k j) (desc j)) (z j j) (diagonal j (column j j p)) (nonzero j (column j j p)) h
+      (bounded .square j p) (bounded .reciprocal j p) (bounded .quotient j p) (rec .diagonal-is j p) (bounded .entry j j p))
+      Z solves
     where
       column : (i j : ℕ) → P i j → j < n
       column i j p = lt-of-le-of-lt (closed .inside i j p .0) (closed .inside i j p .1)

@@ -65,6 +65,10 @@ module _ (s n : ℕ) (diag : ℕ → ℤ) (desc : ℕ → List (Entry ℤ)) (non
   )
 
 -- ---- whole numbers with ones on the diagonal: s = 0
+-- an inverse in whole numbers is one over the denominator 1
+pub whole-inverse : (n : ℕ) (l X : Matrix) → WholeInverse n l X → Inverse n (pos 1) l X 1
+whole-inverse n l X is = record { positive = zero-lt-suc 0; product-is = λ a b ha hb. is a b ha hb ∙ sym (*ℤ-idl (identity a b)) }
+
 products-map : (OK OK' : ℤ → Type 0) → ((x : ℤ) → OK x → OK' x) → (r : ℕ → ℤ) (es : List (Entry ℤ)) → Products OK r es → Products OK' r es
 products-map OK OK' f r [] h = tt
 products-map OK OK' f r (e ∷ es) h = (f (e .value *ℤ r (e .row)) (h .0), products-map OK OK' f r es (h .1))
@@ -77,7 +81,7 @@ sums-last : (OK : ℤ → Type 0) (r : ℕ → ℤ) (S : ℤ) (es : List (Entry 
 sums-last OK r S [] s h = s
 sums-last OK r S (e ∷ es) s h = sums-last OK r (S +ℤ e .value *ℤ r (e .row)) es (h .0) (h .1)
 
-unit-bounded : (n : ℕ) (desc : ℕ → List (Entry ℤ)) (In : ℕ → ℕ → Type 0) → WithinBound n desc In → Bounded 0 ones desc In (unit-table n desc)
+pub unit-bounded : (n : ℕ) (desc : ℕ → List (Entry ℤ)) (In : ℕ → ℕ → Type 0) → WithinBound n desc In → Bounded 0 ones desc In (unit-table n desc)
 unit-bounded n desc In w = record {
   entry = w .entry;
   product-below = λ i j p ji. products-map Small (Kept 0) kept (λ k. at z i k) (desc j) (w .product-below i j p ji);
@@ -101,7 +105,7 @@ module _ (n : ℕ) (desc : ℕ → List (Entry ℤ)) (ascend : (j : ℕ) → j <
   nonzero : (j : ℕ) → j < n → ones j ≢ pos 0
   nonzero j jn = pos-nonzero 1 (zero-lt-suc 0)
 
-  unit-recurs : (In : ℕ → ℕ → Type 0) → RecurrenceClosed n desc In → Recurs (pos 1) ones desc In (unit-table n desc)
+  pub unit-recurs : (In : ℕ → ℕ → Type 0) → RecurrenceClosed n desc In → Recurs (pos 1) ones desc In (unit-table n desc)
   unit-recurs In closed = record {
     below-is = λ i j p ji. *ℤ-idr (z i j) ∙ solves .below-is i j p ji;
     diagonal-is = λ j p. *ℤ-idr (z j j) ∙ solves .diagonal-is j p ∙ ap (λ (x : ℤ). pos 1 -ℤ x) (sym (*ℤ-idr (dot integers (λ k. z k j) (desc j))));
@@ -133,8 +137,7 @@ module _ (n : ℕ) (desc : ℕ → List (Entry ℤ)) (ascend : (j : ℕ) → j <
       both : Whole (Z i j) (unit-table n desc i j) × (unit-table n desc i j *ℤ pos 1 ≡ pos 1 *ℤ X i j)
       both =
           dyadic 0 n ones desc nonzero ascend (lit≤ tt) In closed (unit-table n desc) (unit-recurs In closed) (unit-bounded n desc In within)
-          fdiag fdesc diagonal alike Z solves X 1
-          (record { positive = zero-lt-suc 0; product-is = λ a b ha hb. is a b ha hb ∙ sym (*ℤ-idl (identity a b)) }) i j p
+          fdiag fdesc diagonal alike Z solves X 1 (whole-inverse n (factor ones desc) X is) i j p
 
       same : unit-table n desc i j ≡ X i j
       same = sym (*ℤ-idr (unit-table n desc i j)) ∙ both .1 ∙ *ℤ-idl (X i j)

@@ -4,4 +4,5 @@ pub mod Exact
 pub mod Factor
 pub mod SelectedInverse
 pub mod ExactCase
+pub mod PivotCase
 pub mod Examples

@@ -4,23 +4,26 @@ use Prim.Native.Nat.{ℕ, suc, _+_, _≤_, _<_, max, min}
 use native.Mathlib.Omega.{arith}
 use native.Mathlib.Nat.{zero-lt-suc}
 use native.Mathlib.Decide.{decLe}
-use mathlib.Core.Path.{_≡_, sym, ap₂, subst, _∙_}
+use mathlib.Core.Path.{_≡_, ap₂, subst, _∙_}
 use mathlib.Core.Logic.{_↔_}
 use mathlib.Core.List.{List}
 use lib.IntN.{ℤ, pos}
 use lib.Ieee.{Float}
 use Rattle.refusal.specs.Steps.{Step, refused, answered, Passed}
-use Rattle.columns.specs.Kept.{nonzero, pattern, diag, desc}
+use Rattle.columns.specs.Kept.{nonzero, pattern, desc}
+use Rattle.columns.specs.Form.{Form, cholesky, pivoted, divisor}
 use Rattle.closed_set.specs.ClosedSet.{needed-range}
-use Rattle.integers.specs.Integer.{*ℤ-idl, pos-nonzero}
-use Rattle.integers.specs.Matrix.{Matrix, identity}
+use Rattle.integers.specs.Integer.{pos-nonzero}
+use Rattle.integers.specs.Matrix.{Matrix}
 use Rattle.integers.specs.Inverse.{WholeInverse, inverse-symmetric}
 use Rattle.takahashi.specs.Entries.{Entry, Ascend}
-use Rattle.takahashi.specs.Recurrence.{at, RecurrenceClosed}
+use Rattle.takahashi.specs.Recurrence.{at, RecurrenceClosed, Solves}
 use Rattle.exact.specs.Multiple.{Whole}
-use Rattle.exact.specs.Exact.{Alike}
+use Rattle.exact.specs.Exact.{floats, Alike}
 use Rattle.exact.specs.Factor.{factor, factor-triangular}
-use Rattle.exact.specs.ExactCase.{ones, WithinBound, unit-has-inverse, exact-case}
+use Rattle.exact.specs.ExactCase.{ones, WithinBound, unit-has-inverse, exact-case, whole-inverse}
+use Rattle.exact.specs.PivotCase.{pivot-case}
+use Rattle.entries.specs.Entries.{belowStep, diagonalStep}
 use Rattle.diagnostics.specs.declared.SelectedInverseStatus.the-variants.{Complete}
 use Rattle.selection.specs.Selection.{Selection, Lent, roomOf, Accepted, selectedSize, selectedAnswer, selectedTable, ResultLists}
 use Rattle.selection.specs.Call.{Call, selectionOf, selectedSteps, accepted}
@@ -29,10 +32,10 @@ use Rattle.exact_entries.specs.Columns.{desc-descends, alike-ascend, ali
 use Rattle.exact_entries.specs.Recurrence.{Selected, found, selected-pattern, table-recurs, reads-recurrence}
 
 module _ (x : Selection) where
-  -- all diagonals of L are 1, its other kept entries are the whole numbers `whole`, and no product, sum or entry of the exact recurrence over the closed set
+  -- all diagonals of L, or with pivots all these, are 1, the other kept entries are the whole numbers `whole`, and no product, sum or entry of the exact recurrence over the closed set
   -- is beyond 2 ^ 53
   pub record ExactCall (whole : ℕ → List (Entry ℤ)) : Type 0 where
-    pub diagonals : (j : ℕ) → j < x .n → Whole (diag (x .starts) (x .rows) (x .values) j) (pos 1)
+    pub diagonals : (j : ℕ) → j < x .n → Whole (divisor (x .n) (x .starts) (x .rows) (x .values) (x .form) j) (pos 1)
     pub entries : (j : ℕ) → j < x .n → Alike 0 (desc (x .starts) (x .rows) (x .values) j) (whole j)
     pub within : WithinBound (x .n) whole (Selected x)
 
@@ -43,6 +46,17 @@ module _ (x : Selection) where
         → (v : Float) × (found x starts rows values row col ≡ answered v) × Whole v (X row col)
     pub others : selectedAnswer x .status ≡ Complete → (row col : ℕ) → (Selected x (max row col) (min row col) → ⊥)
         → found x starts rows values row col ≡ refused 8
+
+-- a table that solves the recurrence of either form has the inverse's entries
+exact-table : (form : Form) (n : ℕ) (starts rows : List ℕ) (values : List Float) (whole : ℕ → List (Entry ℤ)) → ((j : ℕ) → j < n → Ascend n (suc j) (whole j))
+    → (In : ℕ → ℕ → Type 0) → RecurrenceClosed n whole In → WithinBound n whole In → (X : Matrix) → WholeInverse n (factor ones whole) X
+    → ((j : ℕ) → j < n → Whole (divisor n starts rows values form j) (pos 1)) → ((j : ℕ) → j < n → Alike 0 (desc starts rows values j) (whole j))
+    → (Z : ℕ → ℕ → Float) → Solves floats (belowStep form) (diagonalStep form) (divisor n starts rows values form) (desc starts rows values) In Z
+    → (i j : ℕ) → In i j → Whole (Z i j) (X i j)
+exact-table cholesky n starts rows values whole ascend In closed within X is one alike Z solves i j p =
+    exact-case n whole ascend In closed within X is (divisor n starts rows values cholesky) (desc starts rows values) one alike Z solves i j p .0
+exact-table (pivoted pivots) n starts rows values whole ascend In closed within X is one alike Z solves i j p =
+    pivot-case n whole ascend In closed within X is (divisor n starts rows values (pivoted pivots)) (desc starts rows values) one alike Z solves i j p
 
 -- ---- an accepted selection in the exact case
 module _ (x : Selection) (lent : Lent) (A : Accepted x (roomOf lent)) (whole : ℕ → List (Entry ℤ)) (E : ExactCall x whole) where
@@ -65,15 +79,15 @@ module _ (x : Selection) (lent : Lent) (A : Accepted x (roomOf lent)) (whole : �
     -- an entry of the set is X's
     pub exact-at : (i j : ℕ) → Selected x i j → Whole (selectedTable x i j) (X i j)
     exact-at i j p =
-        exact-case (x .n) whole ascend (Selected x) closed (E .within) X is (diag (x .starts) (x .rows) (x .values)) (desc (x .starts) (x .rows) (x .values))
-        (E .diagonals) (E .entries) (selectedTable x) (table-recurs x lent A) i j p .0
+        exact-table (x .form) (x .n) (x .starts) (x .rows) (x .values) whole ascend (Selected x) closed (E .within) X is (E .diagonals) (E .entries)
+        (selectedTable x) (table-recurs x lent A) i j p
 
     -- X is symmetric
     pub exact-symmetric : (i j : ℕ) → i < x .n → j < x .n → X i j ≡ X j i
     exact-symmetric =
         inverse-symmetric (x .n) (pos 1) (pos-nonzero 1 (zero-lt-suc 0)) (factor ones whole)
         (factor-triangular (x .n) ones whole ascend (λ j jn. pos-nonzero 1 (zero-lt-suc 0))) X 1
-        (record { positive = zero-lt-suc 0; product-is = λ a b ha hb. is a b ha hb ∙ sym (*ℤ-idl (identity a b)) })
+        (whole-inverse (x .n) (factor ones whole) X is)
 
     exchanged : (row col : ℕ) → max row col < x .n → X (max row col) (min row col) ≡ X row col
     exchanged row col h = elim (decLe col row) [

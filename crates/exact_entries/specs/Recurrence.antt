@@ -15,24 +15,25 @@ use Rattle.lists.specs.Test.{not-so}
 use Rattle.lists.specs.Overwrite.{overwrite}
 use Rattle.refusal.specs.Steps.{Step, Reply, refused, answered, Passed}
 use Rattle.pairs.specs.Pair.{pairTotal}
-use Rattle.columns.specs.Kept.{nonzero, pattern, diag, desc}
+use Rattle.columns.specs.Kept.{nonzero, pattern, desc}
+use Rattle.columns.specs.Form.{divisor}
 use Rattle.columns.specs.Numbers.{Numbers, numbers}
 use Rattle.closed_set.specs.ClosedSet.{Needed, needed-range, member-needed, needed-member, Pattern}
 use Rattle.closed_set.specs.Size.{closureSize-most}
 use Rattle.takahashi.specs.Entries.{ascend-rows}
 use Rattle.takahashi.specs.Recurrence.{at, Lower, Solves, table-solves, solves-part}
-use Rattle.exact.specs.Exact.{floats, float-off, float-on}
+use Rattle.exact.specs.Exact.{floats}
 use Rattle.diagnostics.specs.declared.SelectedInverseStatus.the-variants.{Complete}
 use Rattle.closed_set.specs.FactorPattern.{factor-pattern}
-use Rattle.entries.specs.Entries.{entryStarts, entryRows, entryValues}
+use Rattle.entries.specs.Entries.{entryStarts, entryRows, entryValues, belowStep, diagonalStep}
 use Rattle.result.specs.Lookup.{lookup}
 use Rattle.result.specs.Halving.{lookupWithin, within-lookup}
 use Rattle.exact_entries.specs.ReadBack.{readBack, covered, filled-result, lookup-filled}
-use Rattle.selection.specs.Selection.{Selection, Lent, roomOf, Accepted, selectedSet, selectedSize, selectedComplete, selectedAnswer, selectedTable}
+use Rattle.selection.specs.Selection.{Selection, selection, Lent, Room, roomOf, Accepted, selectedSet, selectedSize, selectedComplete, selectedAnswer, selectedTable}
 use Rattle.selection.specs.Selection.{ResultLists, passed-starts, complete-rows, complete-values}
 use Rattle.selection.specs.Status.{selected-complete}
 use Rattle.selection.specs.SamePositions.{front-starts}
-use Rattle.entries.specs.Descendants.{float-solves}
+use Rattle.entries.specs.Descendants.{form-solves}
 
 module _ (x : Selection) where
   -- the closed set: the requested pairs and the dependencies of its pairs, and no other
@@ -45,7 +46,9 @@ module _ (x : Selection) where
 
   -- the recurrence in f64 as equations between a table's own entries, on the closed set
   abbrev pub SolvesRecurrence : (ℕ → ℕ → Float) → Type 0
-  SolvesRecurrence = Solves floats float-off float-on (diag (x .starts) (x .rows) (x .values)) (desc (x .starts) (x .rows) (x .values)) Selected
+  SolvesRecurrence =
+      Solves floats (belowStep (x .form)) (diagonalStep (x .form)) (divisor (x .n) (x .starts) (x .rows) (x .values) (x .form))
+      (desc (x .starts) (x .rows) (x .values)) Selected
 
   -- a table that solves the recurrence is what reads back: Complete exactly when the set is within the limit; then each pair of the set as its entry, every
   -- other pair as absent
@@ -57,14 +60,15 @@ module _ (x : Selection) where
     pub others : selectedAnswer x .status ≡ Complete → (row col : ℕ) → (Selected (max row col) (min row col) → ⊥)
         → found starts rows values row col ≡ refused 8
 
+-- of L with L * Lᵀ the recurrence's diagonals are finite and above 0.0, its other numbers finite
+pub selected-numbers : (n : ℕ) (starts rows : List ℕ) (values : List Float) (requests : ℕ → ℕ → Bool) (limit : ℕ) (lengths : Room)
+    → Accepted (selection n starts rows values requests limit) lengths → Numbers n starts rows values
+selected-numbers n starts rows values requests limit lengths A = numbers values (A .factor) (A .finite) (A .diagonals)
+
 -- ---- an accepted selection, and the lists that a call leaves
 module _ (x : Selection) (lent : Lent) (A : Accepted x (roomOf lent)) where
   abbrev pat : ℕ → List ℕ
   pat = pattern (x .starts) (x .rows) (nonzero (x .values))
-
-  -- the recurrence's diagonals are finite and above 0.0, its other numbers finite
-  pub selected-numbers : Numbers (x .n) (x .starts) (x .rows) (x .values)
-  selected-numbers = numbers (x .values) (A .factor) (A .finite) (A .diagonals)
 
   pub selected-pattern : Pattern (x .n) pat
   selected-pattern = factor-pattern (nonzero (x .values)) (A .factor)
@@ -87,10 +91,10 @@ module _ (x : Selection) (lent : Lent) (A : Accepted x (roomOf lent)) where
   -- f64's table solves the recurrence over the set
   pub table-recurs : SolvesRecurrence x (selectedTable x)
   table-recurs =
-      solves-part floats float-off float-on (diag (x .starts) (x .rows) (x .values)) (desc (x .starts) (x .rows) (x .values)) (Selected x) (Lower (x .n))
-      (selectedTable x)
+      solves-part floats (belowStep (x .form)) (diagonalStep (x .form)) (divisor (x .n) (x .starts) (x .rows) (x .values) (x .form))
+      (desc (x .starts) (x .rows) (x .values)) (Selected x) (Lower (x .n)) (selectedTable x)
       (λ i j p. needed-range pat (x .requests) (x .n) selected-pattern (A .requests) p)
-      (float-solves (x .values) (A .factor))
+      (form-solves (x .form) (x .values) (A .factor))
 
   module _ (steps : List Step) (passed : Passed steps) {rs rr : List ℕ} {rv : List Float} {s : List ℕ} (L : ResultLists steps x lent rs rr rv s) where
     most : selectedSize x ≤ pairTotal (x .n)

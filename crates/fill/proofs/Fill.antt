@@ -9,10 +9,14 @@ use lib.ListN.{length, take}
 use lib.Ieee.{Float}
 use borrow.Author.Tests.{leb-true}
 use Rattle.lists.specs.Overwrite.{overwrite, overwrite-front, cleared}
-use Rattle.pairs.specs.Pair.{pairTotal}
+use Rattle.refusal.specs.Bounds.{maxDimension}
+use Rattle.pairs.specs.Pair.{pairTotal, pairTotal-small}
 use Rattle.pairs.specs.Scratch.{queueStart, scratchWords-queue, scratchWords-room}
 use Rattle.pairs.specs.ColumnOrder.{columnMarking, setSize, setSize-cong}
 use Rattle.columns.specs.Kept.{nonzero, pattern}
+use Rattle.columns.specs.Factor.{Factor}
+use Rattle.columns.specs.Form.{Form, cholesky, pivoted, keptPairs}
+use Rattle.closed_set.specs.KeptSet.{factorPairs-most, patternPairs-most}
 use Rattle.closed_set.specs.ClosedSet.{Pattern}
 use Rattle.closed_set.specs.Size.{closureSize-most}
 use Rattle.entries.specs.Entries.{entryStarts, entryRows, entryValues, entryStarts-length, entryRows-length}
@@ -24,10 +28,12 @@ use Rattle.marked_pairs.specs.MarkedPairs.{ColumnsReached}
 use Rattle.closure.specs.Closure.{Closing}
 use Rattle.closed_set.specs.FactorPattern.{factor-pattern}
 use Rattle.layout.specs.Layout.{LayOut, LaidOut}
-use Rattle.closure_route.specs.Route.{laid-same, laid-route}
+use Rattle.closure_route.specs.Route.{ClosureRoute, laid-same, laid-route}
 use Rattle.closure_route.specs.Members.{marked-size, marked-closed}
 use Rattle.routes.specs.Routes.{RoutesInput}
-use Rattle.selection.specs.Selection.{Selection, Lent, roomOf, Accepted, scratchWords, selectedSet, selectedSize, selectedComplete, selectedAnswer, selectedTable}
+use Rattle.diagnostics.specs.Diagnosis.{maxCount}
+use Rattle.selection.specs.Diagnosis.{diagnosisOf}
+use Rattle.selection.specs.Selection.{Selection, selecting, choleskyOf, Lent, roomOf, Accepted, scratchWords, selectedSet, selectedSize, selectedComplete, selectedAnswer, selectedTable}
 use Rattle.selection.specs.Selection.{ResultLists, lists-passed, cleared-same, nothing-refused}
 use Rattle.selection.specs.Status.{status-tells, factor-pairs-are, closure-pairs-are}
 
@@ -77,25 +83,29 @@ module _ (x : Selection) (lent : Lent) (A : Accepted x (roomOf lent)) where
         marked : setSize (x .n) (columnMarking (x .n) s₁) ≡ setSize (x .n) (columnMarking (x .n) s₂)
         marked = setSize-cong (x .n) (columnMarking (x .n) s₁) (columnMarking (x .n) s₂) laid
 
-        -- what the routes ask
-        pub fill-route : RoutesInput (x .n) (x .starts) (x .rows) (x .values) (d .«factor_pairs») (d .«closure_pairs») rs rr s₂ (length (lent .resultValues))
-        fill-route = record {
-          route =
-              laid-route fill-layout L (A .factor) (A .diagonals) P (marked-closed (x .n) (pat x) (x .requests) s₁ same P (A .requests))
-              (omega (arith, size, most, A .values-room));
-          kept-is = ap (λ (y : SelectedInverseDiagnostics). y .«factor_pairs») D ∙ factor-pairs-are x;
-          closed-is =
-              ap (λ (y : SelectedInverseDiagnostics). y .«closure_pairs») D
-              ∙ omega (arith, closure-pairs-are x, within, size, marked);
-          starts-laid =
-              ap₂ take (sym (entryStarts-length (x .n) (columnMarking (x .n) s₁))) (L .starts-are)
-              ∙ overwrite-front (entryStarts (x .n) (columnMarking (x .n) s₁)) (lent .resultStarts)
-              ∙ entryStarts-cong (x .n) (columnMarking (x .n) s₁) (columnMarking (x .n) s₂) laid;
-          rows-laid =
-              ap₂ take (sym marked ∙ sym (entryRows-length (x .n) (columnMarking (x .n) s₁))) (L .rows-are)
-              ∙ overwrite-front (entryRows (x .n) (columnMarking (x .n) s₁)) (lent .resultRows)
-              ∙ entryRows-cong (x .n) (columnMarking (x .n) s₁) (columnMarking (x .n) s₂) laid;
-        }
+        -- what the closure route asks
+        pub fill-closure : ClosureRoute (x .n) (x .starts) (x .rows) (x .values) rs rr s₂ (length (lent .resultValues))
+        fill-closure =
+            laid-route fill-layout L (x .values) (A .factor) P (marked-closed (x .n) (pat x) (x .requests) s₁ same P (A .requests))
+            (omega (arith, size, most, A .values-room))
+
+        -- the counts and the lists, as the other route asks them
+        pub fill-closed : d .«closure_pairs» ≡ setSize (x .n) (columnMarking (x .n) s₂)
+        fill-closed =
+            ap (λ (y : SelectedInverseDiagnostics). y .«closure_pairs») D
+            ∙ omega (arith, closure-pairs-are x, within, size, marked)
+
+        pub fill-starts : take (x .n + 1) rs ≡ entryStarts (x .n) (columnMarking (x .n) s₂)
+        fill-starts =
+            ap₂ take (sym (entryStarts-length (x .n) (columnMarking (x .n) s₁))) (L .starts-are)
+            ∙ overwrite-front (entryStarts (x .n) (columnMarking (x .n) s₁)) (lent .resultStarts)
+            ∙ entryStarts-cong (x .n) (columnMarking (x .n) s₁) (columnMarking (x .n) s₂) laid
+
+        pub fill-rows : take (setSize (x .n) (columnMarking (x .n) s₂)) rr ≡ entryRows (x .n) (columnMarking (x .n) s₂)
+        fill-rows =
+            ap₂ take (sym marked ∙ sym (entryRows-length (x .n) (columnMarking (x .n) s₁))) (L .rows-are)
+            ∙ overwrite-front (entryRows (x .n) (columnMarking (x .n) s₁)) (lent .resultRows)
+            ∙ entryRows-cong (x .n) (columnMarking (x .n) s₁) (columnMarking (x .n) s₂) laid
 
         -- what is left
         pub fill-long : length s₂ ≡ length (lent .scratch)
@@ -135,3 +145,36 @@ module _ (x : Selection) (lent : Lent) (A : Accepted x (roomOf lent)) where
           (sym (ap (λ (b : Bool). cond b (overwrite (entryRows (x .n) (selectedSet x)) (lent .resultRows)) (lent .resultRows)) large))
           (sym (ap (λ (b : Bool). cond b (overwrite (entryValues (x .n) (selectedSet x) (selectedTable x)) (lent .resultValues)) (lent .resultValues)) large))
           (cleared-same (queueStart (x .n) + pairTotal (x .n)) (scratchWords (x .n)) s₁ (lent .scratch) (scratchWords-queue (x .n)) (K .later))
+
+-- ---- what the choice between the routes asks, of L with L * Lᵀ
+module _ (y : Selection) (lent : Lent) (A : Accepted (choleskyOf y) (roomOf lent)) {stops s₁ : List ℕ}
+    (K : Closing (y .n) (pat y) (y .requests) (y .limit) (lent .scratch) stops s₁) {d : SelectedInverseDiagnostics} (D : d ≡ selectedAnswer (choleskyOf y))
+    (told : d .status ≡ Complete) {rs rr s₂ : List ℕ} {count : ℕ}
+    (L : LaidOut (y .n) (lent .resultStarts) (lent .resultRows) s₁ rs rr s₂ count) where
+  pub fill-route : RoutesInput (y .n) (y .starts) (y .rows) (y .values) (d .«factor_pairs») (d .«closure_pairs») rs rr s₂ (length (lent .resultValues))
+  fill-route = record {
+    route = fill-closure (choleskyOf y) lent A K D told L;
+    diagonals = A .diagonals;
+    kept-is = ap (λ (y : SelectedInverseDiagnostics). y .«factor_pairs») D ∙ factor-pairs-are (choleskyOf y);
+    closed-is = fill-closed (choleskyOf y) lent A K D told L;
+    starts-laid = fill-starts (choleskyOf y) lent A K D told L;
+    rows-laid = fill-rows (choleskyOf y) lent A K D told L;
+  }
+
+-- ---- the count of kept pairs, in either form
+module _ (form : Form) (n : ℕ) (starts rows : List ℕ) (values : List Float) (F : Factor n starts rows (length values)) where
+  kept-total : keptPairs n starts rows values form ≤ pairTotal n
+  kept-total = by form
+    where
+      by : (form : Form) → keptPairs n starts rows values form ≤ pairTotal n
+      by cholesky = factorPairs-most (nonzero values) (F .starts-rise) (F .rows-ascend)
+      by (pivoted pivots) = patternPairs-most (nonzero values) (F .starts-rise) (F .rows-ascend)
+
+  -- it is a float
+  pub kept-small : n ≤ maxDimension → {kept : ℕ} → kept ≡ keptPairs n starts rows values form → kept ≤ maxCount
+  kept-small small e = let t = pairTotal-small n small in omega (arith, kept-total, e)
+
+  -- and the diagnosis is that of the selection
+  pub kept-answer : (req : ℕ → ℕ → Bool) (limit : ℕ) {kept : ℕ} → kept ≡ keptPairs n starts rows values form → {d : SelectedInverseDiagnostics}
+      → d ≡ diagnosisOf n (pattern starts rows (nonzero values)) kept req limit → d ≡ selectedAnswer (selecting form n starts rows values req limit)
+  kept-answer req limit e q = q ∙ ap (λ (k : ℕ). diagnosisOf n (pattern starts rows (nonzero values)) k req limit) e

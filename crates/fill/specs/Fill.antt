@@ -15,41 +15,43 @@ use Rattle.pairs.specs.Scratch.{queueStart, scratchWords-queue}
 use Rattle.marked_pairs.specs.MarkedPairs.{Marked, MarkedPairs}
 use Rattle.layout.specs.Position.{Positioned}
 use Rattle.closure.specs.Closure.{Requested, markedSet, marked-requested}
-use Rattle.selection.specs.Selection.{selection, lists, Lent, roomOf, scratchWords, Accepted, selectedSet, selectedComplete, selectedAnswer, ResultLists}
+use Rattle.columns.specs.Form.{Form}
+use Rattle.selection.specs.Selection.{selecting, lists, Lent, roomOf, scratchWords, Accepted, selectedSet, selectedComplete, selectedAnswer, ResultLists}
 use Rattle.selection.specs.Selection.{lists-passed, passed-starts, passed-rows, passed-values, passed-scratch, nothing-refused, cleared-same}
 
 -- a call past its checks, with the requested pairs marked in the scratch
-pub record FillInput (n : ℕ) (starts rows : List ℕ) (values : List Float) (requested limit : ℕ) (lent : Lent) : Type 0 where
+pub record FillInput (form : Form) (n : ℕ) (starts rows : List ℕ) (values : List Float) (requested limit : ℕ) (lent : Lent) : Type 0 where
   pub marked : Marked n (lent .scratch) requested
-  pub accepted : Accepted (selection n starts rows values (markedSet n (lent .scratch)) limit) (roomOf lent)
+  pub accepted : Accepted (selecting form n starts rows values (markedSet n (lent .scratch)) limit) (roomOf lent)
 
 -- the diagnosis and the lists, whatever set the marked pairs are
-pub record Fills (n : ℕ) (starts rows : List ℕ) (values : List Float) (limit : ℕ) (lent : Lent) (d : SelectedInverseDiagnostics) (rs rr : List ℕ)
+pub record Fills (form : Form) (n : ℕ) (starts rows : List ℕ) (values : List Float) (limit : ℕ) (lent : Lent) (d : SelectedInverseDiagnostics) (rs rr : List ℕ)
     (rv : List Float) (s : List ℕ) : Type 0 where
-  pub answers : (req : ℕ → ℕ → Bool) → Requested n req (lent .scratch) → d ≡ selectedAnswer (selection n starts rows values req limit)
-  pub leaves : (req : ℕ → ℕ → Bool) → Requested n req (lent .scratch) → ResultLists [] (selection n starts rows values req limit) lent rs rr rv s
+  pub answers : (req : ℕ → ℕ → Bool) → Requested n req (lent .scratch) → d ≡ selectedAnswer (selecting form n starts rows values req limit)
+  pub leaves : (req : ℕ → ℕ → Bool) → Requested n req (lent .scratch) → ResultLists [] (selecting form n starts rows values req limit) lent rs rr rv s
 
 -- the same before the scratch is cleared: where the set is within the limit, its members' positions stand in it
-pub record FillsLists (n : ℕ) (starts rows : List ℕ) (values : List Float) (limit : ℕ) (lent : Lent) (d : SelectedInverseDiagnostics) (rs rr : List ℕ)
+pub record FillsLists (form : Form) (n : ℕ) (starts rows : List ℕ) (values : List Float) (limit : ℕ) (lent : Lent) (d : SelectedInverseDiagnostics) (rs rr : List ℕ)
     (rv : List Float) (s : List ℕ) : Type 0 where
-  pub fills : Fills n starts rows values limit lent d rs rr rv (cleared (scratchWords n) s)
+  pub fills : Fills form n starts rows values limit lent d rs rr rv (cleared (scratchWords n) s)
   pub long : length s ≡ length (lent .scratch)
-  pub positions : (req : ℕ → ℕ → Bool) → Requested n req (lent .scratch) → selectedComplete (selection n starts rows values req limit) ≡ true
-      → Positioned n (selectedSet (selection n starts rows values req limit)) s
+  pub positions : (req : ℕ → ℕ → Bool) → Requested n req (lent .scratch) → selectedComplete (selecting form n starts rows values req limit) ≡ true
+      → Positioned n (selectedSet (selecting form n starts rows values req limit)) s
 
 -- ---- once a set of requested pairs is marked
 
-module _ {n : ℕ} {starts rows : List ℕ} {values : List Float} {req : ℕ → ℕ → Bool} {limit : ℕ} (rs₀ rr₀ : List ℕ) (rv₀ : List Float) {s₀ s₁ : List ℕ}
-    {count : ℕ} (A : Accepted (selection n starts rows values req limit) (roomOf (lists rs₀ rr₀ rv₀ s₀))) (M : MarkedPairs n req s₀ s₁ count) where
+module _ {form : Form} {n : ℕ} {starts rows : List ℕ} {values : List Float} {req : ℕ → ℕ → Bool} {limit : ℕ} (rs₀ rr₀ : List ℕ) (rv₀ : List Float) {s₀ s₁ : List ℕ}
+    {count : ℕ} (A : Accepted (selecting form n starts rows values req limit) (roomOf (lists rs₀ rr₀ rv₀ s₀))) (M : MarkedPairs n req s₀ s₁ count) where
   pub marked-are : Requested n req s₁
   marked-are = record { ranged = A .requests; marks = M .marks }
 
   -- the lists can be filled
-  pub marked-input : FillInput n starts rows values count limit (lists rs₀ rr₀ rv₀ s₁)
+  pub marked-input : FillInput form n starts rows values count limit (lists rs₀ rr₀ rv₀ s₁)
   marked-input = record {
     marked = M .marked;
     accepted = record {
       small = A .small;
+      few = A .few;
       factor = A .factor;
       finite = A .finite;
       requests = marked-requested n s₁ .ranged;
@@ -63,14 +65,14 @@ module _ {n : ℕ} {starts rows : List ℕ} {values : List Float} {req : ℕ →
 
   -- and are those of the call
   module _ {d : SelectedInverseDiagnostics} {rs rr : List ℕ} {rv : List Float} {s : List ℕ}
-      (F : Fills n starts rows values limit (lists rs₀ rr₀ rv₀ s₁) d rs rr rv s) where
-    pub marked-answer : d ≡ selectedAnswer (selection n starts rows values req limit)
+      (F : Fills form n starts rows values limit (lists rs₀ rr₀ rv₀ s₁) d rs rr rv s) where
+    pub marked-answer : d ≡ selectedAnswer (selecting form n starts rows values req limit)
     marked-answer = F .answers req marked-are
 
-    pub marked-lists : (steps : List Step) → Passed steps → ResultLists steps (selection n starts rows values req limit) (lists rs₀ rr₀ rv₀ s₀) rs rr rv s
+    pub marked-lists : (steps : List Step) → Passed steps → ResultLists steps (selecting form n starts rows values req limit) (lists rs₀ rr₀ rv₀ s₀) rs rr rv s
     marked-lists steps p =
         let L = F .leaves req marked-are in
-        let x = selection n starts rows values req limit in
+        let x = selecting form n starts rows values req limit in
         let lent = lists rs₀ rr₀ rv₀ s₁ in
         lists-passed steps x (lists rs₀ rr₀ rv₀ s₀) p
         (passed-starts [] x lent nothing-refused L)
@@ -81,10 +83,10 @@ module _ {n : ℕ} {starts rows : List ℕ} {values : List Float} {req : ℕ →
 
 -- ---- the limit by another name
 
-module _ {n : ℕ} {starts rows : List ℕ} {values : List Float} {limit other : ℕ} {lent : Lent} {d : SelectedInverseDiagnostics} {rs rr : List ℕ}
+module _ {form : Form} {n : ℕ} {starts rows : List ℕ} {values : List Float} {limit other : ℕ} {lent : Lent} {d : SelectedInverseDiagnostics} {rs rr : List ℕ}
     {rv : List Float} {s : List ℕ} (same : limit ≡ other) where
-  pub fills-limit : Fills n starts rows values limit lent d rs rr rv s → Fills n starts rows values other lent d rs rr rv s
-  fills-limit F = subst (λ (k : ℕ). Fills n starts rows values k lent d rs rr rv s) same F
+  pub fills-limit : Fills form n starts rows values limit lent d rs rr rv s → Fills form n starts rows values other lent d rs rr rv s
+  fills-limit F = subst (λ (k : ℕ). Fills form n starts rows values k lent d rs rr rv s) same F
 
-  pub fillsLists-limit : FillsLists n starts rows values limit lent d rs rr rv s → FillsLists n starts rows values other lent d rs rr rv s
-  fillsLists-limit F = subst (λ (k : ℕ). FillsLists n starts rows values k lent d rs rr rv s) same F
+  pub fillsLists-limit : FillsLists form n starts rows values limit lent d rs rr rv s → FillsLists form n starts rows values other lent d rs rr rv s
+  fillsLists-limit F = subst (λ (k : ℕ). FillsLists form n starts rows values k lent d rs rr rv s) same F

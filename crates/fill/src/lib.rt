@@ -4,11 +4,13 @@ ghost use Prim.Native.Nat.{_≤_};
 ghost use lib.ListN.{length};
 ghost use Rattle.lists.specs.Overwrite.{cleared};
 ghost use Rattle.refusal.specs.Bounds.{maxDimension};
+ghost use Rattle.columns.specs.Form.{cholesky};
 ghost use Rattle.selection.specs.Selection.{lists, scratchWords};
 ghost use Rattle.fill.specs.Fill.{FillInput, Fills, FillsLists};
 use closure::diagnose;
 use diagnostics::SelectedInverseDiagnostics;
 use diagnostics::SelectedInverseStatus;
+use kept_entries::factor_pairs;
 use layout::lay_out;
 use refusal::MAX_DIMENSION;
 use routes::takahashi_selected_inverse;
@@ -29,18 +31,22 @@ pub fn fill_lists(
     result_values: &mut [f64],
     scratch: &mut [u32],
 ) -> SelectedInverseDiagnostics
-    requires { ⌜ FillInput n (now starts) (now rows) (now values) «requested_pairs» limit
+    requires { ⌜ FillInput cholesky n (now starts) (now rows) (now values) «requested_pairs» limit
         (lists (now «result_starts») (now «result_rows») (now «result_values») (now scratch)) ⌝ }
-    ensures { λ d. ⌜ FillsLists n (now (starts .entry)) (now (rows .entry)) (now (values .entry)) limit
+    ensures { λ d. ⌜ FillsLists cholesky n (now (starts .entry)) (now (rows .entry)) (now (values .entry)) limit
         (lists (now («result_starts» .entry)) (now («result_rows» .entry)) (now («result_values» .entry)) (now (scratch .entry))) d
         (now («result_starts» .exit)) (now («result_rows» .exit)) (now («result_values» .exit)) (now (scratch .exit)) ⌝ }
 {
+    let kept_pairs = factor_pairs(n, starts, rows, values);
+    let wholes: [i64; 1] = [0; 1];
     let mut stops = [0; MAX_DIMENSION];
     let diagnosis = diagnose(
         n,
         starts,
         rows,
         values,
+        &wholes[0..0],
+        kept_pairs,
         requested_pairs,
         limit,
         &mut stops,
@@ -89,9 +95,9 @@ pub fn fill_entries(
     result_values: &mut [f64],
     scratch: &mut [u32],
 ) -> SelectedInverseDiagnostics
-    requires { ⌜ FillInput n (now starts) (now rows) (now values) «requested_pairs» limit
+    requires { ⌜ FillInput cholesky n (now starts) (now rows) (now values) «requested_pairs» limit
         (lists (now «result_starts») (now «result_rows») (now «result_values») (now scratch)) ⌝ }
-    ensures { λ d. ⌜ Fills n (now (starts .entry)) (now (rows .entry)) (now (values .entry)) limit
+    ensures { λ d. ⌜ Fills cholesky n (now (starts .entry)) (now (rows .entry)) (now (values .entry)) limit
         (lists (now («result_starts» .entry)) (now («result_rows» .entry)) (now («result_values» .entry)) (now (scratch .entry))) d
         (now («result_starts» .exit)) (now («result_rows» .exit)) (now («result_values» .exit)) (now (scratch .exit)) ⌝ }
 {

@@ -1,2 +1,3 @@
 -- The kept entries of a factor.
 pub mod Above
+pub mod KeptBy

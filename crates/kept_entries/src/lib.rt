@@ -1,6 +1,7 @@
 // The kept entries of a factor that passes 1, 2 and 3, and how many they are.
 pub mod diagonal;
 pub mod diagonal_check;
+pub mod kept_by;
 
 ghost use mathlib.Core.Path.{_≡_};
 ghost use Prim.Native.Nat.{_≤_, _<_};

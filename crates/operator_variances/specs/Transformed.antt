@@ -14,7 +14,7 @@ use Rattle.columns.specs.Columns.{boundSteps}
 use Rattle.columns.specs.Factor.{boundSteps-sound}
 use Rattle.columns.specs.Stored.{storedSteps}
 use Rattle.columns.specs.Operator.{operatorRows, operatorBoundSteps, operatorSteps, OperatorRows, operatorSteps-sound}
-use Rattle.selection.specs.Selection.{Selection, Lent, Room, roomOf, defaultLimit, fillSteps, selectedTable, Accepted}
+use Rattle.selection.specs.Selection.{Selection, selection, Lent, Room, roomOf, defaultLimit, fillSteps, selectedTable, Accepted}
 use Rattle.selection.specs.Call.{fill-accepted}
 use Rattle.diagnostics.specs.declared.Selected.{Selected}
 use Rattle.request_marks.specs.OperatorRequests.{operatorRequested, operatorRequested-ranged}
@@ -48,14 +48,9 @@ transformedCall n starts rows values ncols rowStarts columns weights = record {
 module _ (x : TransformedCall) where
   -- the requests are all column pairs of each row, the limit is the default one
   abbrev pub transformedSelection : Selection
-  transformedSelection = record {
-    n = x .n;
-    starts = x .starts;
-    rows = x .rows;
-    values = x .values;
-    requests = operatorRequested (x .rowStarts) (x .columns);
-    limit = defaultLimit (x .rows);
-  }
+  transformedSelection =
+      selection (x .n) (x .starts) (x .rows) (x .values) (operatorRequested (x .rowStarts) (x .columns))
+      (defaultLimit (x .rows))
 
   -- 4: the operator's columns are not n
   abbrev pub columnCountSteps : List Step
@@ -107,7 +102,7 @@ module _ (x : TransformedCall) (lengths : Room) (output : ℕ) (p : Passed (tran
       let B = boundSteps-sound (x .n) (length (x .rows)) (passed-front bounds (operatorBoundSteps (x .rowStarts) (x .columns)) (passed .0)) in
       let O = operatorSteps-sound (x .n) (x .rowStarts) (x .columns) (length (x .weights)) (passed .1 .1 .1 .0) in
       record {
-        accepted = fill-accepted (transformedSelection x) lengths (B .small) (passed .1 .0) (operatorRequested-ranged O) (passed .1 .1 .1 .1 .0);
+        accepted = fill-accepted (transformedSelection x) lengths B (passed .1 .0) (operatorRequested-ranged O) (passed .1 .1 .1 .1 .0);
         few = B .few;
         operator = O;
         room = ltb-false _ _ (passed-clear (outputSteps x output) (passed .1 .1 .1 .1 .1 .0) .0);

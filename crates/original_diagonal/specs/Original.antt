@@ -17,7 +17,7 @@ use Rattle.columns.specs.Stored.{factorSteps, factorSteps-bounded, factorSteps-
 use Rattle.factor_order.specs.Permutation.{index, orderSteps, permutationSteps, reordered, Permutation}
 use Rattle.factor_order.specs.Laws.{passed-distinct, distinct-permutation}
 use Rattle.diagnostics.specs.declared.SelectedInverseDiagnostics.{SelectedInverseDiagnostics}
-use Rattle.selection.specs.Selection.{Selection, Lent, Room, roomOf, defaultLimit, fillSteps, selectedComplete, selectedAnswer, selectedTable, Accepted}
+use Rattle.selection.specs.Selection.{Selection, selection, Lent, Room, roomOf, defaultLimit, fillSteps, selectedComplete, selectedAnswer, selectedTable, Accepted}
 use Rattle.selection.specs.Selection.{ResultLists}
 use Rattle.selection.specs.Call.{fill-accepted}
 use Rattle.diagnostics.specs.declared.Selected.{Selected}
@@ -39,14 +39,9 @@ originalCall n starts rows values perm = record { n = n; starts = starts; rows =
 module _ (x : OriginalCall) where
   -- the requests are all diagonals, the limit is the default one
   abbrev pub originalSelection : Selection
-  originalSelection = record {
-    n = x .n;
-    starts = x .starts;
-    rows = x .rows;
-    values = x .values;
-    requests = diagonalPairs (x .n);
-    limit = defaultLimit (x .rows);
-  }
+  originalSelection =
+      selection (x .n) (x .starts) (x .rows) (x .values) (diagonalPairs (x .n))
+      (defaultLimit (x .rows))
 
   -- 7: an output below n
   abbrev pub outputSteps : ℕ → List Step
@@ -122,7 +117,7 @@ module _ (x : OriginalCall) (lengths : Room) (output : ℕ) (p : Passed (origina
       let four : List Step = (4, not (eqb (length (x .perm)) (x .n))) ∷ [] in
       let o = passed .1 .0 in
       record {
-        accepted = fill-accepted (originalSelection x) lengths (B .small) S (diagonals-ranged (x .n)) (passed .1 .1 .0);
+        accepted = fill-accepted (originalSelection x) lengths B S (diagonals-ranged (x .n)) (passed .1 .1 .0);
         few = B .few;
         order = distinct-permutation (x .perm) (passed-distinct (x .perm) (passed-back four (permutationSteps (x .perm)) o));
         long = eqb-true _ _ (not-false _ (passed-clear four (passed-front four (permutationSteps (x .perm)) o) .0));

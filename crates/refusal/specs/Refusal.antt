@@ -3,7 +3,7 @@
 use Prim.Native.Nat.{ℕ}
 use Rattle.refusal.specs.Steps.{Reply, refused, answered}
 use Rattle.refusal.specs.declared.Refusal.{Refusal}
-use Rattle.refusal.specs.declared.Refusal.the-variants.{TooLarge, BrokenStarts, BrokenRows, DimensionMismatch, RequestOutOfRange, NonPositiveDefinite, TooShort, NotCovered, BrokenOperator, IndexTooLarge, DuplicateEntry, NotInverse, NotFinite, BadScale, OtherHeader, MalformedFile, FileIndexOutside, NotFiniteEntry}
+use Rattle.refusal.specs.declared.Refusal.the-variants.{TooLarge, BrokenStarts, BrokenRows, DimensionMismatch, RequestOutOfRange, NonPositiveDefinite, TooShort, NotCovered, BrokenOperator, IndexTooLarge, DuplicateEntry, NotInverse, NotFinite, BadScale, OtherHeader, MalformedFile, FileIndexOutside, NotFiniteEntry, DiagonalNotOne, NumberTooLarge, BadWeights, BadWidth, PivotDiagonalNotOne, NoRequests}
 use Rattle.refusal.specs.declared.Checked.{Checked}
 use Rattle.refusal.specs.declared.Checked.the-variants.{Accepted, Refused}
 
@@ -27,6 +27,12 @@ refusalNumber OtherHeader = 15
 refusalNumber MalformedFile = 16
 refusalNumber FileIndexOutside = 17
 refusalNumber NotFiniteEntry = 18
+refusalNumber DiagonalNotOne = 19
+refusalNumber NumberTooLarge = 20
+refusalNumber BadWeights = 21
+refusalNumber BadWidth = 22
+refusalNumber PivotDiagonalNotOne = 23
+refusalNumber NoRequests = 24
 
 -- the reply of a check: accepted, or a refusal's number
 abbrev pub replyOf : Checked → Reply (Unit {0})

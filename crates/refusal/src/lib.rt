@@ -20,6 +20,12 @@ pub enum Refusal {
     MalformedFile,
     FileIndexOutside,
     NotFiniteEntry,
+    DiagonalNotOne,
+    NumberTooLarge,
+    BadWeights,
+    BadWidth,
+    PivotDiagonalNotOne,
+    NoRequests,
 }
 
 // Accepted, or why not.

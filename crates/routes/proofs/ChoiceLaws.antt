@@ -53,7 +53,7 @@ module _ {n : ℕ} {starts rows : List ℕ} {values : List Float} {kept closed :
     pattern-input = record {
       small = G .route .small;
       factor = G .route .factor;
-      diagonals = G .route .diagonals;
+      diagonals = G .diagonals;
       closed = agree-closed n (pattern starts rows (nonzero values)) S K (factor-pattern (nonzero values) (G .route .factor)) same (G .route .closed);
       laid-starts = G .starts-laid ∙ entryStarts-cong n S K same;
       laid-rows = ap (λ (k : ℕ). take k listed) (sym (setSize-cong n S K same)) ∙ G .rows-laid ∙ entryRows-cong n S K same;

@@ -7,12 +7,14 @@ use lib.ListN.{take}
 use lib.Ieee.{Float}
 use Rattle.pairs.specs.ColumnOrder.{columnMarking, setSize}
 use Rattle.columns.specs.Kept.{nonzero, factorPairs}
+use Rattle.columns.specs.Diagonal.{Diagonals}
 use Rattle.entries.specs.Entries.{entryStarts, entryRows}
 use Rattle.closure_route.specs.Route.{ClosureRoute}
 
 -- the closure route's input with the counts of kept and of marked pairs, and the result laid out over the marked set
 pub record RoutesInput (n : ℕ) (starts rows : List ℕ) (values : List Float) (kept closed : ℕ) (firsts listed scratch : List ℕ) (size : ℕ) : Type 0 where
   pub route : ClosureRoute n starts rows values firsts listed scratch size
+  pub diagonals : Diagonals n starts rows values
   pub kept-is : kept ≡ factorPairs starts rows (nonzero values) n
   pub closed-is : closed ≡ setSize n (columnMarking n scratch)
   pub starts-laid : take (n + 1) firsts ≡ entryStarts n (columnMarking n scratch)

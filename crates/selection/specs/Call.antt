@@ -5,19 +5,18 @@ use mathlib.Core.List.{List, [], _∷_, _++_}
 use lib.ListN.{length}
 use lib.Ieee.{Float}
 use borrow.Author.Tests.{ltb-false}
-use Rattle.refusal.specs.Bounds.{maxDimension}
 use Rattle.refusal.specs.Steps.{Step, Reply, first, Passed, passed-clear, passed-front, passed-back}
 use Rattle.refusal.specs.Groups.{grouped, AllPassed, groups-passed}
 use Rattle.pairs.specs.Pair.{pairTotal}
 use Rattle.columns.specs.Columns.{boundSteps}
-use Rattle.columns.specs.Factor.{boundSteps-sound}
+use Rattle.columns.specs.Factor.{FactorBounded, boundSteps-sound}
 use Rattle.columns.specs.Stored.{storedSteps, storedSteps-sound, storedSteps-finite}
 use Rattle.columns.specs.Diagonal.{diagonalSteps, diagonalSteps-sound}
 use Rattle.closed_set.specs.ClosedSet.{Ranged}
 use Rattle.closed_set.specs.Requests.{requested, Requests, requested-ranged}
 use Rattle.selection.specs.RequestSteps.{requestBoundSteps, requestSteps, requestSteps-sound}
 use Rattle.diagnostics.specs.declared.SelectedInverseDiagnostics.{SelectedInverseDiagnostics}
-use Rattle.selection.specs.Selection.{Selection, Lent, Room, roomOf, scratchWords, roomSteps, fillSteps, selectedAnswer, Accepted}
+use Rattle.selection.specs.Selection.{Selection, selection, choleskyOf, Lent, Room, roomOf, scratchWords, roomSteps, fillSteps, selectedAnswer, Accepted}
 
 -- what a call is handed to read: a factor, two lists of requests with their dimension, and a limit
 pub record Call : Type 0 where
@@ -46,14 +45,7 @@ call n starts rows values dimension requestRows requestColumns limit = record {
 module _ (x : Call) where
   -- the requests as a set of pairs
   abbrev pub selectionOf : Selection
-  selectionOf = record {
-    n = x .n;
-    starts = x .starts;
-    rows = x .rows;
-    values = x .values;
-    requests = requested (x .requestRows) (x .requestColumns);
-    limit = x .limit;
-  }
+  selectionOf = selection (x .n) (x .starts) (x .rows) (x .values) (requested (x .requestRows) (x .requestColumns)) (x .limit)
 
   -- refusals 1 to 7 and 18: 1 of the factor and of the requests; 2, 3 and 18; 4 and 5; 6 and 7
   abbrev pub selectedGroups : Room → List (List Step)
@@ -92,15 +84,17 @@ roomSteps-sound n limit lengths p =
     }
 
 -- a factor and requests past their checks, and lists that can be filled
-pub fill-accepted : (x : Selection) (lengths : Room) → x .n ≤ maxDimension → Passed (storedSteps (x .n) (x .starts) (x .rows) (x .values))
-    → Ranged (x .n) (x .requests) → Passed (fillSteps (x .n) (x .starts) (x .rows) (x .values) (x .limit) lengths) → Accepted x lengths
-fill-accepted x lengths small stored R p =
+pub fill-accepted : (x : Selection) (lengths : Room) → FactorBounded (x .n) (length (x .rows)) → Passed (storedSteps (x .n) (x .starts) (x .rows) (x .values))
+    → Ranged (x .n) (x .requests) → Passed (fillSteps (x .n) (x .starts) (x .rows) (x .values) (x .limit) lengths)
+    → Accepted (choleskyOf x) lengths
+fill-accepted x lengths bounded stored R p =
     let F = storedSteps-sound (x .n) (x .starts) (x .rows) (x .values) stored in
     let a = diagonalSteps (x .n) (x .starts) (x .rows) (x .values) in
     let b = roomSteps (x .n) (x .limit) lengths in
     let room = roomSteps-sound (x .n) (x .limit) lengths (passed-back a b p) in
     record {
-      small = small;
+      small = bounded .small;
+      few = bounded .few;
       factor = F;
       finite = storedSteps-finite (x .n) (x .starts) (x .rows) (x .values) stored;
       requests = R;
@@ -124,5 +118,5 @@ module _ (x : Call) (lengths : Room) (p : Passed (selectedSteps x lengths)) wher
   accepted =
       let bounds = boundSteps (x .n) (length (x .rows)) in
       let B = boundSteps-sound (x .n) (length (x .rows)) (passed-front bounds (requestBoundSteps (length (x .requestRows))) (passed .0)) in
-      fill-accepted (selectionOf x) lengths (B .small) (passed .1 .0)
+      fill-accepted (selectionOf x) lengths B (passed .1 .0)
       (requested-ranged (x .requestRows) (x .requestColumns) (x .n) accepted-requests) (passed .1 .1 .1 .0)

@@ -1,18 +1,16 @@
--- The diagnosis of a factor, a set of requested pairs and a limit; what it takes from the factor are the kept positions.
+-- The diagnosis of a factor, a set of requested pairs and a limit; what it takes from the factor are its pattern and the number of its kept pairs.
 -- Assumes nothing.
 use Prim.Native.Nat.{ℕ, _+_, _≤_, _<_, min}
 use mathlib.Core.Path.{_≡_, refl, ap₂}
 use mathlib.Core.Bool.{Bool}
 use mathlib.Core.List.{List}
 use lib.Dec.{leb}
-use lib.ListN.{length}
-use lib.Ieee.{Float}
-use Rattle.columns.specs.Kept.{nonzero, pattern, factorPairs}
+use Rattle.columns.specs.Kept.{pattern}
 use Rattle.columns.specs.Factor.{Factor}
 use Rattle.columns.specs.Pattern.{pattern-cong}
 use Rattle.closed_set.specs.ClosedSet.{member, member-cong}
 use Rattle.closed_set.specs.Size.{closureSize, requestedPairs, closureSize-cong}
-use Rattle.closed_set.specs.KeptSet.{SameKept, factorPairs-cong}
+use Rattle.closed_set.specs.KeptSet.{SameKept}
 use Rattle.diagnostics.specs.Diagnosis.{statusOf, diagnosis}
 use Rattle.diagnostics.specs.declared.SelectedInverseDiagnostics.{SelectedInverseDiagnostics}
 
@@ -24,33 +22,27 @@ closurePairs n desc req limit = min (closureSize n desc req) (limit + 1)
 abbrev pub diagnosed : ℕ → ℕ → ℕ → ℕ → SelectedInverseDiagnostics
 diagnosed requested size factor limit = diagnosis requested (min size (limit + 1)) factor limit (statusOf (leb size limit))
 
--- the diagnosis of a factor, a set of requested pairs and a limit
-unfoldable pub diagnosisOf : ℕ → List ℕ → List ℕ → List Float → (ℕ → ℕ → Bool) → ℕ → SelectedInverseDiagnostics
-diagnosisOf n starts rows values req limit =
-    diagnosed (requestedPairs n req) (closureSize n (pattern starts rows (nonzero values)) req) (factorPairs starts rows (nonzero values) n) limit
+-- the diagnosis of a pattern of n columns, a count of kept pairs, a set of requested pairs and a limit
+unfoldable pub diagnosisOf : ℕ → (ℕ → List ℕ) → ℕ → (ℕ → ℕ → Bool) → ℕ → SelectedInverseDiagnostics
+diagnosisOf n desc kept req limit = diagnosed (requestedPairs n req) (closureSize n desc req) kept limit
 
--- ---- factors of one dimension with equal kept positions
+-- ---- equal patterns
 
-module _ {n : ℕ} {starts rows starts′ rows′ : List ℕ} {m m′ : ℕ} (nz nz′ : ℕ → Bool) (F : Factor n starts rows m) (F′ : Factor n starts′ rows′ m′)
-    (same : SameKept n starts rows nz starts′ rows′ nz′) where
-  same-pattern : (c : ℕ) → c < n → pattern starts rows nz c ≡ pattern starts′ rows′ nz′ c
-  same-pattern c h = pattern-cong nz nz′ (F .starts-rise) (F .rows-ascend) (F′ .starts-rise) (F′ .rows-ascend) c h (λ r. same r c h)
-
+module _ (n : ℕ) (desc desc′ : ℕ → List ℕ) (same : (c : ℕ) → c < n → desc c ≡ desc′ c) (req : ℕ → ℕ → Bool) where
   -- have the same closed set
-  pub member-same : (req : ℕ → ℕ → Bool) (r c : ℕ) → c ≤ r → r < n → member n (pattern starts rows nz) req r c ≡ member n (pattern starts′ rows′ nz′) req r c
-  member-same req = member-cong n _ _ req req same-pattern (λ r c h l. refl)
+  pub member-same : (r c : ℕ) → c ≤ r → r < n → member n desc req r c ≡ member n desc′ req r c
+  member-same = member-cong n _ _ req req same (λ r c h l. refl)
 
   -- of the same size
-  size-same : (req : ℕ → ℕ → Bool) → closureSize n (pattern starts rows nz) req ≡ closureSize n (pattern starts′ rows′ nz′) req
-  size-same req = closureSize-cong n (pattern starts rows nz) (pattern starts′ rows′ nz′) req req same-pattern (λ r c h l. refl)
+  size-same : closureSize n desc req ≡ closureSize n desc′ req
+  size-same = closureSize-cong n desc desc′ req req same (λ r c h l. refl)
 
--- and the same diagnosis
-pub diagnosisOf-same : {n : ℕ} {starts rows starts′ rows′ : List ℕ} (values values′ : List Float) → Factor n starts rows (length values)
-    → Factor n starts′ rows′ (length values′)
-    → SameKept n starts rows (nonzero values) starts′ rows′ (nonzero values′) → (req : ℕ → ℕ → Bool) (limit : ℕ)
-    → diagnosisOf n starts rows values req limit ≡ diagnosisOf n starts′ rows′ values′ req limit
-unfolding diagnosisOf
-diagnosisOf-same {n} values values′ F F′ same req limit =
-    ap₂ (λ (size factor : ℕ). diagnosed (requestedPairs n req) size factor limit)
-    (size-same (nonzero values) (nonzero values′) F F′ same req)
-    (factorPairs-cong (nonzero values) (nonzero values′) (F .starts-rise) (F .rows-ascend) (F′ .starts-rise) (F′ .rows-ascend) same)
+  -- and, with equal counts, the same diagnosis
+  pub diagnosisOf-same : {kept kept′ : ℕ} (limit : ℕ) → kept ≡ kept′ → diagnosisOf n desc kept req limit ≡ diagnosisOf n desc′ kept′ req limit
+  unfolding diagnosisOf
+  diagnosisOf-same limit count = ap₂ (λ (size factor : ℕ). diagnosed (requestedPairs n req) size factor limit) size-same count
+
+-- factors of one dimension with equal kept positions have equal patterns
+pub kept-pattern : {n : ℕ} {starts rows starts′ rows′ : List ℕ} {m m′ : ℕ} (nz nz′ : ℕ → Bool) → Factor n starts rows m → Factor n starts′ rows′ m′
+    → SameKept n starts rows nz starts′ rows′ nz′ → (c : ℕ) → c < n → pattern starts rows nz c ≡ pattern starts′ rows′ nz′ c
+kept-pattern nz nz′ F F′ same c h = pattern-cong nz nz′ (F .starts-rise) (F .rows-ascend) (F′ .starts-rise) (F′ .rows-ascend) c h (λ r. same r c h)

@@ -4,22 +4,22 @@ use Prim.Native.Nat.{ℕ, _+_, _≤_, _<_}
 use mathlib.Core.Path.{_≡_, refl, sym, ap, subst, _∙_}
 use mathlib.Core.Bool.{Bool, true, cond}
 use mathlib.Core.List.{List}
-use lib.ListN.{length, take}
+use lib.ListN.{take}
 use lib.Ieee.{Float}
 use borrow.Author.Tests.{le-leb}
 use Rattle.lists.specs.Overwrite.{overwrite, overwrite-front}
-use Rattle.refusal.specs.Steps.{Passed, first-passed, answered}
+use Rattle.refusal.specs.Steps.{Step, Passed, first-passed, answered}
 use Rattle.pairs.specs.ColumnOrder.{setSize-cong}
-use Rattle.columns.specs.Kept.{nonzero}
-use Rattle.columns.specs.Factor.{Factor}
+use Rattle.columns.specs.Kept.{nonzero, pattern}
+use Rattle.columns.specs.Form.{Form, cholesky, keptPairs-pattern, patternPairs-cong}
 use Rattle.closed_set.specs.Requests.{requested}
 use Rattle.diagnostics.specs.declared.SelectedInverseDiagnostics.{SelectedInverseDiagnostics}
 use Rattle.diagnostics.specs.declared.SelectedInverseStatus.the-variants.{Complete}
 use Rattle.closed_set.specs.KeptSet.{SameKept}
-use Rattle.selection.specs.Diagnosis.{member-same, diagnosisOf-same}
+use Rattle.selection.specs.Diagnosis.{member-same, diagnosisOf-same, kept-pattern}
 use Rattle.entries.specs.Entries.{entryStarts, entryRows, entryStarts-length, entryRows-length}
 use Rattle.entries.specs.Position.{entryStarts-cong, entryRows-cong}
-use Rattle.selection.specs.Selection.{Selection, selection, Lent, roomOf, Accepted, selectedSet, selectedSize, selectedComplete, selectedAnswer}
+use Rattle.selection.specs.Selection.{Selection, selecting, Lent, Room, roomOf, Accepted, selectedSet, selectedSize, selectedComplete, selectedAnswer}
 use Rattle.selection.specs.Selection.{filledStarts, filledRows, ResultLists, passed-starts, passed-rows}
 use Rattle.selection.specs.Status.{selected-complete}
 use Rattle.selection.specs.Call.{Call, call, selectionOf, selectedSteps, selectedReply, accepted}
@@ -39,39 +39,65 @@ module _ (x : Selection) (lent : Lent) (h : selectedSize x ≤ x .limit) where
       ∙ ap (λ (k : ℕ). take k (overwrite (entryRows (x .n) (selectedSet x)) (lent .resultRows))) (sym (entryRows-length (x .n) (selectedSet x)))
       ∙ overwrite-front (entryRows (x .n) (selectedSet x)) (lent .resultRows)
 
--- ---- two factors
+-- ---- two factors, each in either form, with the same descendants in each column
 
-module _ (n limit : ℕ) (req : ℕ → ℕ → Bool) (starts rows : List ℕ) (values : List Float) (starts′ rows′ : List ℕ) (values′ : List Float)
-    (F : Factor n starts rows (length values)) (F′ : Factor n starts′ rows′ (length values′))
-    (same : SameKept n starts rows (nonzero values) starts′ rows′ (nonzero values′)) where
+module _ (n limit : ℕ) (req : ℕ → ℕ → Bool) (form : Form) (starts rows : List ℕ) (values : List Float) (form′ : Form) (starts′ rows′ : List ℕ)
+    (values′ : List Float) where
   abbrev one : Selection
-  one = selection n starts rows values req limit
+  one = selecting form n starts rows values req limit
 
   abbrev other : Selection
-  other = selection n starts′ rows′ values′ req limit
+  other = selecting form′ n starts′ rows′ values′ req limit
 
-  same-set : (r c : ℕ) → c ≤ r → r < n → selectedSet one r c ≡ selectedSet other r c
-  same-set = member-same (nonzero values) (nonzero values′) F F′ same req
+  module _ {lengths lengths′ : Room} (A : Accepted one lengths) (A′ : Accepted other lengths′)
+      (same : (c : ℕ) → c < n → pattern starts rows (nonzero values) c ≡ pattern starts′ rows′ (nonzero values′) c) where
+    same-set : (r c : ℕ) → c ≤ r → r < n → selectedSet one r c ≡ selectedSet other r c
+    same-set = member-same n (pattern starts rows (nonzero values)) (pattern starts′ rows′ (nonzero values′)) same req
 
-  pub same-size : selectedSize one ≡ selectedSize other
-  same-size = setSize-cong n (selectedSet one) (selectedSet other) same-set
+    pub same-size : selectedSize one ≡ selectedSize other
+    same-size = setSize-cong n (selectedSet one) (selectedSet other) same-set
 
-  -- equal status and counts
-  pub same-answer : selectedAnswer one ≡ selectedAnswer other
-  same-answer = diagnosisOf-same values values′ F F′ same req limit
+    -- equal status and counts
+    pub same-answer : selectedAnswer one ≡ selectedAnswer other
+    same-answer =
+        diagnosisOf-same n (pattern starts rows (nonzero values)) (pattern starts′ rows′ (nonzero values′)) same req limit
+        (keptPairs-pattern n starts rows values form (A .diagonals)
+        ∙ patternPairs-cong n (pattern starts rows (nonzero values)) (pattern starts′ rows′ (nonzero values′)) same
+        ∙ sym (keptPairs-pattern n starts′ rows′ values′ form′ (A′ .diagonals)))
 
-  -- equal starts and filled rows
-  pub same-starts : (lent lent′ : Lent) → selectedSize one ≤ limit → take (n + 1) (filledStarts one lent) ≡ take (n + 1) (filledStarts other lent′)
-  same-starts lent lent′ h =
-      front-starts one lent h ∙ entryStarts-cong n (selectedSet one) (selectedSet other) same-set
-      ∙ sym (front-starts other lent′ (subst (λ (k : ℕ). k ≤ limit) same-size h))
+    -- equal starts and filled rows
+    pub same-starts : (lent lent′ : Lent) → selectedSize one ≤ limit → take (n + 1) (filledStarts one lent) ≡ take (n + 1) (filledStarts other lent′)
+    same-starts lent lent′ h =
+        front-starts one lent h ∙ entryStarts-cong n (selectedSet one) (selectedSet other) same-set
+        ∙ sym (front-starts other lent′ (subst (λ (k : ℕ). k ≤ limit) same-size h))
 
-  pub same-rows : (lent lent′ : Lent) → selectedSize one ≤ limit
-      → take (selectedSize one) (filledRows one lent) ≡ take (selectedSize one) (filledRows other lent′)
-  same-rows lent lent′ h =
-      front-rows one lent h ∙ entryRows-cong n (selectedSet one) (selectedSet other) same-set
-      ∙ sym (front-rows other lent′ (subst (λ (k : ℕ). k ≤ limit) same-size h))
-      ∙ ap (λ (k : ℕ). take k (filledRows other lent′)) (sym same-size)
+    pub same-rows : (lent lent′ : Lent) → selectedSize one ≤ limit
+        → take (selectedSize one) (filledRows one lent) ≡ take (selectedSize one) (filledRows other lent′)
+    same-rows lent lent′ h =
+        front-rows one lent h ∙ entryRows-cong n (selectedSet one) (selectedSet other) same-set
+        ∙ sym (front-rows other lent′ (subst (λ (k : ℕ). k ≤ limit) same-size h))
+        ∙ ap (λ (k : ℕ). take k (filledRows other lent′)) (sym same-size)
+
+  -- what is the same after calls that passed: the answers and, when Complete, starts and filled rows
+  pub record SameLists (result-starts result-rows result-starts′ result-rows′ : List ℕ) : Type 0 where
+    pub answers : selectedAnswer one ≡ selectedAnswer other
+    pub starts-same : selectedAnswer one .status ≡ Complete → take (n + 1) result-starts ≡ take (n + 1) result-starts′
+    pub rows-same : selectedAnswer one .status ≡ Complete → take (selectedSize one) result-rows ≡ take (selectedSize one) result-rows′
+
+  module _ (lent lent′ : Lent) (A : Accepted one (roomOf lent)) (A′ : Accepted other (roomOf lent′))
+      (same : (c : ℕ) → c < n → pattern starts rows (nonzero values) c ≡ pattern starts′ rows′ (nonzero values′) c)
+      (steps steps′ : List Step) (p : Passed steps) (p′ : Passed steps′) where
+    pub same-lists : {rs rr : List ℕ} {rv : List Float} {s rs′ rr′ : List ℕ} {rv′ : List Float} {s′ : List ℕ}
+        → ResultLists steps one lent rs rr rv s → ResultLists steps′ other lent′ rs′ rr′ rv′ s′ → SameLists rs rr rs′ rr′
+    same-lists L L′ = record {
+      answers = same-answer A A′ same;
+      starts-same = λ e.
+          ap (take (n + 1)) (passed-starts steps one lent p L) ∙ same-starts A A′ same lent lent′ (selected-complete one .0 e)
+          ∙ ap (take (n + 1)) (sym (passed-starts steps′ other lent′ p′ L′));
+      rows-same = λ e.
+          ap (take (selectedSize one)) (passed-rows steps one lent p L) ∙ same-rows A A′ same lent lent′ (selected-complete one .0 e)
+          ∙ ap (take (selectedSize one)) (sym (passed-rows steps′ other lent′ p′ L′));
+    }
 
 -- ---- two calls
 
@@ -92,29 +118,21 @@ module _ (n dimension limit : ℕ) (requestRows requestColumns : List ℕ) (star
 
   module _ (p : Passed (selectedSteps call₁ (roomOf lent))) (p′ : Passed (selectedSteps call₂ (roomOf lent′)))
       (same : SameKept n starts rows (nonzero values) starts′ rows′ (nonzero values′)) where
-    F : Factor n starts rows (length values)
-    F = accepted call₁ (roomOf lent) p .factor
+    A : Accepted (selectionOf call₁) (roomOf lent)
+    A = accepted call₁ (roomOf lent) p
 
-    F′ : Factor n starts′ rows′ (length values′)
-    F′ = accepted call₂ (roomOf lent′) p′ .factor
-
-    abbrev req : ℕ → ℕ → Bool
-    req = requested requestRows requestColumns
+    A′ : Accepted (selectionOf call₂) (roomOf lent′)
+    A′ = accepted call₂ (roomOf lent′) p′
 
     pub same-positions : {rs rr : List ℕ} {rv : List Float} {s rs′ rr′ : List ℕ} {rv′ : List Float} {s′ : List ℕ}
         → ResultLists (selectedSteps call₁ (roomOf lent)) (selectionOf call₁) lent rs rr rv s
         → ResultLists (selectedSteps call₂ (roomOf lent′)) (selectionOf call₂) lent′ rs′ rr′ rv′ s′
         → SameResults rs rr rs′ rr′
-    same-positions L L′ = record {
-      replies =
-          first-passed _ _ p ∙ ap (λ (d : SelectedInverseDiagnostics). answered d) (same-answer n limit req starts rows values starts′ rows′ values′ F F′ same)
-          ∙ sym (first-passed _ _ p′);
-      starts-same = λ e.
-          ap (take (n + 1)) (passed-starts _ _ lent p L)
-          ∙ same-starts n limit req starts rows values starts′ rows′ values′ F F′ same lent lent′ (selected-complete (selectionOf call₁) .0 e)
-          ∙ ap (take (n + 1)) (sym (passed-starts _ _ lent′ p′ L′));
-      rows-same = λ e.
-          ap (take (selectedSize (selectionOf call₁))) (passed-rows _ _ lent p L)
-          ∙ same-rows n limit req starts rows values starts′ rows′ values′ F F′ same lent lent′ (selected-complete (selectionOf call₁) .0 e)
-          ∙ ap (take (selectedSize (selectionOf call₁))) (sym (passed-rows _ _ lent′ p′ L′));
-    }
+    same-positions L L′ =
+        let S = same-lists n limit (requested requestRows requestColumns) cholesky starts rows values cholesky starts′ rows′ values′ lent lent′ A A′
+        (kept-pattern (nonzero values) (nonzero values′) (A .factor) (A′ .factor) same) (selectedSteps call₁ (roomOf lent)) (selectedSteps call₂ (roomOf lent′)) p p′ L L′ in
+        record {
+          replies = first-passed _ _ p ∙ ap (λ (d : SelectedInverseDiagnostics). answered d) (S .answers) ∙ sym (first-passed _ _ p′);
+          starts-same = S .starts-same;
+          rows-same = S .rows-same;
+        }

@@ -12,22 +12,24 @@ use lib.Seq.{drop-drop}
 use lib.Ieee.{Float}
 use Rattle.lists.specs.Tabulate.{tabulate, tabulate-length}
 use Rattle.lists.specs.Overwrite.{overwrite, filled, cleared}
-use Rattle.refusal.specs.Bounds.{maxDimension}
+use Rattle.refusal.specs.Bounds.{maxDimension, maxEntries}
 use Rattle.refusal.specs.Steps.{Step, refused, first, verdict, after, after-refused, after-passed, Passed}
 use Rattle.pairs.specs.Pair.{pairTotal}
 pub use Rattle.pairs.specs.Scratch.{scratchWords}
 use Rattle.columns.specs.Kept.{nonzero, pattern}
 use Rattle.columns.specs.Factor.{Factor}
 use Rattle.columns.specs.Stored.{FiniteEntries}
-use Rattle.columns.specs.Diagonal.{diagonalSteps, Diagonals}
+use Rattle.columns.specs.Diagonal.{diagonalSteps}
+use Rattle.columns.specs.Form.{Form, cholesky, keptPairs, Divisors}
 use Rattle.closed_set.specs.ClosedSet.{member, Ranged}
 use Rattle.closed_set.specs.Size.{closureSize}
 use Rattle.diagnostics.specs.declared.SelectedInverseDiagnostics.{SelectedInverseDiagnostics}
 use Rattle.selection.specs.Diagnosis.{diagnosisOf}
-use Rattle.entries.specs.Entries.{entryStarts, entryRows, entryValues, floatTable}
+use Rattle.entries.specs.Entries.{entryStarts, entryRows, entryValues, formTable}
 
--- a factor, the set of requested pairs, and a limit
+-- a factor and how it is given, the set of requested pairs, and a limit
 pub record Selection : Type 0 where
+  pub form : Form
   pub n : ℕ
   pub starts : List ℕ
   pub rows : List ℕ
@@ -35,12 +37,16 @@ pub record Selection : Type 0 where
   pub requests : ℕ → ℕ → Bool
   pub limit : ℕ
 
--- the lists lent for writing
-pub record Lent : Type 0 where
+-- the lists lent for writing, with result values of any kind
+pub record LentOf (W : Type 0) : Type 0 where
   pub resultStarts : List ℕ
   pub resultRows : List ℕ
-  pub resultValues : List Float
+  pub resultValues : List W
   pub scratch : List ℕ
+
+-- with floats
+abbrev pub Lent : Type 0
+Lent = LentOf Float
 
 -- their lengths
 pub record Room : Type 0 where
@@ -53,14 +59,23 @@ pub record Room : Type 0 where
 abbrev pub room : ℕ → ℕ → ℕ → ℕ → Room
 room resultStarts resultRows resultValues scratch = record { resultStarts = resultStarts; resultRows = resultRows; resultValues = resultValues; scratch = scratch }
 
-abbrev pub lists : List ℕ → List ℕ → List Float → List ℕ → Lent
+abbrev pub lists : {W : Type 0} → List ℕ → List ℕ → List W → List ℕ → LentOf W
 lists resultStarts resultRows resultValues scratch = record { resultStarts = resultStarts; resultRows = resultRows; resultValues = resultValues; scratch = scratch }
 
+abbrev pub selecting : Form → ℕ → List ℕ → List ℕ → List Float → (ℕ → ℕ → Bool) → ℕ → Selection
+selecting form n starts rows values requests limit =
+    record { form = form; n = n; starts = starts; rows = rows; values = values; requests = requests; limit = limit }
+
+-- of a factor L with L * Lᵀ
 abbrev pub selection : ℕ → List ℕ → List ℕ → List Float → (ℕ → ℕ → Bool) → ℕ → Selection
-selection n starts rows values requests limit = record { n = n; starts = starts; rows = rows; values = values; requests = requests; limit = limit }
+selection = selecting cholesky
+
+-- the same factor, requests and limit, with L * Lᵀ
+abbrev pub choleskyOf : Selection → Selection
+choleskyOf y = selection (y .n) (y .starts) (y .rows) (y .values) (y .requests) (y .limit)
 
 -- the lengths of lists
-abbrev pub roomOf : Lent → Room
+abbrev pub roomOf : {W : Type 0} → LentOf W → Room
 roomOf lent = record {
   resultStarts = length (lent .resultStarts);
   resultRows = length (lent .resultRows);
@@ -104,40 +119,61 @@ module _ (x : Selection) where
 
   -- the diagnosis
   abbrev pub selectedAnswer : SelectedInverseDiagnostics
-  selectedAnswer = diagnosisOf (x .n) (x .starts) (x .rows) (x .values) (x .requests) (x .limit)
+  selectedAnswer =
+      diagnosisOf (x .n) (pattern (x .starts) (x .rows) (nonzero (x .values))) (keptPairs (x .n) (x .starts) (x .rows) (x .values) (x .form)) (x .requests) (x .limit)
 
   -- the values: Takahashi's recurrence in f64
   abbrev pub selectedTable : ℕ → ℕ → Float
-  selectedTable = floatTable (x .n) (x .starts) (x .rows) (x .values)
+  selectedTable = formTable (x .form) (x .n) (x .starts) (x .rows) (x .values)
 
+-- ---- the lists after a call: of a set of pairs in n columns, whether it is within the limit, and a table of any kind
+module _ {W : Type 0} (n : ℕ) (S : ℕ → ℕ → Bool) (complete : Bool) (Z : ℕ → ℕ → W) (lent : LentOf W) where
   -- the result lists, written where the set is within the limit
+  abbrev pub startsOf : List ℕ
+  startsOf = cond complete (overwrite (entryStarts n S) (lent .resultStarts)) (lent .resultStarts)
+
+  abbrev pub rowsOf : List ℕ
+  rowsOf = cond complete (overwrite (entryRows n S) (lent .resultRows)) (lent .resultRows)
+
+  abbrev pub valuesOf : List W
+  valuesOf = cond complete (overwrite (entryValues n S Z) (lent .resultValues)) (lent .resultValues)
+
+  -- the lists after a call: as they were where one of these refusals holds, else the result lists written; and the scratch as it was where one of those
+  -- that leave it holds, else its first words 0
+  pub record ListsAfter (steps leaving : List Step) (starts rows : List ℕ) (values : List W) (scratch : List ℕ) : Type 0 where
+    pub starts-are : starts ≡ after steps startsOf (lent .resultStarts)
+    pub rows-are : rows ≡ after steps rowsOf (lent .resultRows)
+    pub values-are : values ≡ after steps valuesOf (lent .resultValues)
+    pub scratch-is : scratch ≡ after leaving (cleared (scratchWords n) (lent .scratch)) (lent .scratch)
+
+module _ (x : Selection) where
+  -- of a selection
   abbrev pub filledStarts : Lent → List ℕ
-  filledStarts lent = cond selectedComplete (overwrite (entryStarts (x .n) selectedSet) (lent .resultStarts)) (lent .resultStarts)
+  filledStarts lent = startsOf (x .n) (selectedSet x) (selectedComplete x) (selectedTable x) lent
 
   abbrev pub filledRows : Lent → List ℕ
-  filledRows lent = cond selectedComplete (overwrite (entryRows (x .n) selectedSet) (lent .resultRows)) (lent .resultRows)
+  filledRows lent = rowsOf (x .n) (selectedSet x) (selectedComplete x) (selectedTable x) lent
 
   abbrev pub filledValues : Lent → List Float
-  filledValues lent = cond selectedComplete (overwrite (entryValues (x .n) selectedSet selectedTable) (lent .resultValues)) (lent .resultValues)
+  filledValues lent = valuesOf (x .n) (selectedSet x) (selectedComplete x) (selectedTable x) lent
 
   -- the scratch, whose first words end 0
   abbrev pub clearedScratch : Lent → List ℕ
   clearedScratch lent = cleared (scratchWords (x .n)) (lent .scratch)
 
--- the lists after a call with these refusals: as they were where one holds, else the result lists written and the scratch cleared
-pub record ResultLists (steps : List Step) (x : Selection) (lent : Lent) (starts rows : List ℕ) (values : List Float) (scratch : List ℕ) : Type 0 where
-  pub starts-are : starts ≡ after steps (filledStarts x lent) (lent .resultStarts)
-  pub rows-are : rows ≡ after steps (filledRows x lent) (lent .resultRows)
-  pub values-are : values ≡ after steps (filledValues x lent) (lent .resultValues)
-  pub scratch-is : scratch ≡ after steps (clearedScratch x lent) (lent .scratch)
+-- every refusal leaves the scratch too
+abbrev pub ResultLists : List Step → Selection → Lent → List ℕ → List ℕ → List Float → List ℕ → Type 0
+ResultLists steps x lent starts rows values scratch =
+    ListsAfter (x .n) (selectedSet x) (selectedComplete x) (selectedTable x) lent steps steps starts rows values scratch
 
 -- what a call has that passed its checks
 pub record Accepted (x : Selection) (lengths : Room) : Type 0 where
   pub small : x .n ≤ maxDimension
+  pub few : length (x .rows) ≤ maxEntries
   pub factor : Factor (x .n) (x .starts) (x .rows) (length (x .values))
   pub finite : FiniteEntries (x .n) (x .starts) (x .rows) (x .values)
   pub requests : Ranged (x .n) (x .requests)
-  pub diagonals : Diagonals (x .n) (x .starts) (x .rows) (x .values)
+  pub diagonals : Divisors (x .n) (x .starts) (x .rows) (x .values) (x .form)
   pub starts-room : x .n + 1 ≤ lengths .resultStarts
   pub rows-room : min (x .limit) (pairTotal (x .n)) ≤ lengths .resultRows
   pub values-room : min (x .limit) (pairTotal (x .n)) ≤ lengths .resultValues

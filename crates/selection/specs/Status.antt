@@ -5,7 +5,7 @@ use mathlib.Core.Path.{_≡_, refl, sym, ap, _∙_}
 use mathlib.Core.Bool.{Bool, true, false}
 use mathlib.Core.Logic.{_↔_}
 use borrow.Author.Tests.{le-leb, leb-true}
-use Rattle.columns.specs.Kept.{nonzero, factorPairs}
+use Rattle.columns.specs.Form.{keptPairs}
 use Rattle.diagnostics.specs.Diagnosis.{statusOf, completeOf, diagnosis}
 use Rattle.diagnostics.specs.declared.SelectedInverseStatus.{SelectedInverseStatus}
 use Rattle.diagnostics.specs.declared.SelectedInverseStatus.the-variants.{Complete}
@@ -29,7 +29,7 @@ module _ (x : Selection) where
   selected-complete = ((λ e. leb-true _ _ (status-tells Complete e)), (λ h. status-is ∙ ap statusOf (le-leb _ _ h)))
 
   -- its counts
-  pub factor-pairs-are : selectedAnswer x .«factor_pairs» ≡ factorPairs (x .starts) (x .rows) (nonzero (x .values)) (x .n)
+  pub factor-pairs-are : selectedAnswer x .«factor_pairs» ≡ keptPairs (x .n) (x .starts) (x .rows) (x .values) (x .form)
   unfolding diagnosisOf diagnosis
   factor-pairs-are = refl
 

@@ -52,6 +52,12 @@ pub fn refusal_number(r: Refusal) -> u32
         Refusal::MalformedFile => 16,
         Refusal::FileIndexOutside => 17,
         Refusal::NotFiniteEntry => 18,
+        Refusal::DiagonalNotOne => 19,
+        Refusal::NumberTooLarge => 20,
+        Refusal::BadWeights => 21,
+        Refusal::BadWidth => 22,
+        Refusal::PivotDiagonalNotOne => 23,
+        Refusal::NoRequests => 24,
     }
 }
 

@@ -1,22 +1,17 @@
 use denote.Ref.{now}
 use borrow.Author.Needs.{needs}
+use Rattle.kept_entries.specs.KeptBy.{keptAt}
 use Rattle.closure.specs.Closure.{markedSet, marked-requested}
-use Rattle.closure.proofs.Diagnosis.{counts-small, counts-diagnosis}
+use Rattle.closure.proofs.Diagnosis.{count-small, counts-diagnosis}
 use Rattle.closure.proofs.diagnose.Statement.{statement}
 use Rattle.closure.proofs.diagnose.Tie as tie
 
--- the counting of kept entries, and where the call begins
-abbrev counted : tie.After-takahashi-dependency-closure → tie.After-factor-pairs
-counted k = k .before .before .before
-
+-- where the call begins
 abbrev begin : tie.After-takahashi-dependency-closure → tie.Start
-begin k = counted k .before .before .before .before .before .before
-
-factor-pairs-requires : tie.Need-factor-pairs-requires
-factor-pairs-requires c κs = search needs
+begin k = k .before .before .before .before .before .before .before .before
 
 takahashi-dependency-closure-requires : tie.Need-takahashi-dependency-closure-requires
-takahashi-dependency-closure-requires c κs = search needs
+takahashi-dependency-closure-requires c κs = let s = c .before .before .before .before .before .before .before in s .pre .1
 
 status-within-requires : tie.Need-status-within-requires
 status-within-requires c κs = search needs
@@ -27,7 +22,7 @@ selected-inverse-diagnostics-requires c κs =
     let a = begin k .args in
     let S = markedSet (a .n) (now (a .scratch)) in
     let R = marked-requested (a .n) (now (a .scratch)) in
-    counts-small (now (a .values)) (a .limit) (begin k .pre) S R (k .takahashi-dependency-closure .ensures .counts S R) (counted k .factor-pairs .ensures)
+    (count-small (keptAt (now (a .floats)) (now (a .wholes))) (a .limit) (begin k .pre .1 .0) S R (a .kept-pairs) (k .takahashi-dependency-closure .ensures .counts S R), begin k .pre .0)
 
 same-length : tie.Need-same-length
 same-length c = search needs
@@ -43,7 +38,7 @@ returns c =
     let a = begin k .args in
     record {
       answers = λ req R.
-          counts-diagnosis (now (a .values)) (a .limit) (begin k .pre) req R (e .counts req R) (counted k .factor-pairs .ensures)
+          counts-diagnosis (keptAt (now (a .floats)) (now (a .wholes))) (a .limit) (begin k .pre .1 .0) req R (a .kept-pairs) (e .counts req R)
           (w .status-within .ensures) (c .selected-inverse-diagnostics .ensures);
       leaves = e .leaves;
     }
@@ -52,7 +47,6 @@ pub diagnose-spec : {M : Type 1} → statement M
 diagnose-spec =
     tie.close
     (tie.spec
-    factor-pairs-requires
     takahashi-dependency-closure-requires
     status-within-requires
     selected-inverse-diagnostics-requires

@@ -1,5 +1,6 @@
 use Rattle.closure.proofs.Answer.{closes, requests-past, queue-closed}
-use Rattle.columns.specs.Kept.{nonzero}
+use Rattle.kept_entries.specs.KeptBy.{keptAt}
+use Rattle.closure.specs.Covered.{stops-none}
 use denote.Ref.{now}
 use native.Mathlib.Omega.{arith}
 use Prim.Native.Nat.{ℕ}
@@ -19,7 +20,7 @@ add-result c = search needs
 returns : tie.Need-returns
 returns c =
     let s = c .before .before .before .before .before .before in
-    closes (λ req R. requests-past (nonzero (now (s .args .values))) (s .args .limit) (s .pre) req R (c .if1 .taken))
+    closes (λ req R. requests-past (keptAt (now (s .args .floats)) (now (s .args .wholes))) (s .args .limit) (s .pre .0) req R (c .if1 .taken))
 
 slice-aggregate-close-queue : tie.Need-slice-aggregate-close-queue
 slice-aggregate-close-queue c = search needs
@@ -31,18 +32,19 @@ close-queue-requires : tie.Need-close-queue-requires
 close-queue-requires c κs =
     let p = c .before .before .before .before in
     let s = begin p in
-    let long = length-replicate {A = ℕ} maxDimension 0 in
-    record {
-      small = s .pre .small;
-      factor = s .pre .factor;
-      entered = s .pre .entered;
-      stopped = s .pre .stopped;
-      spanStarts-fit = omega (arith, s .pre .small);
-      spanEnds-fit = omega (arith, s .pre .small);
-      unset = λ a l. getD-replicate {A = ℕ} maxDimension a 0 0 (omega (arith, s .pre .small));
-      marked = s .pre .marked;
-      low = p .if1 .left;
-    }
+    let long = length-replicate {A = ℕ} maxDimension 0 in (
+      record {
+        small = s .pre .0 .small;
+        factor = s .pre .0 .factor;
+        stopped = stops-none (s .pre .0 .unlisted);
+        spanStarts-fit = omega (arith, s .pre .0 .small);
+        spanEnds-fit = omega (arith, s .pre .0 .small);
+        unset = λ a l. getD-replicate {A = ℕ} maxDimension a 0 0 (omega (arith, s .pre .0 .small));
+        marked = s .pre .0 .marked;
+        low = p .if1 .left;
+      },
+      s .pre .1,
+    )
 
 same-length : tie.Need-same-length
 same-length c = search needs
@@ -54,7 +56,7 @@ returns-2 : tie.Need-returns-2
 returns-2 c =
     let q = c .before .before .before .before .before .before in
     let s = begin (q .before .before .before .before .before) in
-    closes (λ req R. queue-closed (nonzero (now (s .args .values))) (s .args .limit) (s .pre) req R (q .close-queue .ensures))
+    closes (λ req R. queue-closed (keptAt (now (s .args .floats)) (now (s .args .wholes))) (s .args .limit) (s .pre .0) req R (q .close-queue .ensures))
 
 pub takahashi-dependency-closure-spec : {M : Type 1} → statement M
 takahashi-dependency-closure-spec =

@@ -3,6 +3,7 @@ use native.Mathlib.Omega.{arith}
 use mathlib.Core.Path.{_≡_, refl, _∙_}
 use Rattle.pairs.specs.ColumnOrder.{columnMarking}
 use Rattle.entries.specs.Entries.{columnCount}
+use Rattle.columns.specs.Form.{cholesky}
 use denote.Ref.{now}
 use borrow.Author.Needs.{needs}
 use Rattle.closure_route.proofs.ColumnLaws.{Ends, storing-at, part-at, diagonal-at, solved-empty, solved-at}
@@ -20,10 +21,10 @@ start d = begin (bounds d)
 
 -- where the column starts and ends
 first-is : (f : tie.After-at2) → let a = begin f .args in f .before .at .result ≡ columnCount (a .n) (columnMarking (a .n) (now (a .scratch))) (a .j)
-first-is f = let s = begin f in f .before .at .ensures ∙ s .pre .route .starts-are (s .args .j) (omega (arith, s .pre .inside))
+first-is f = let s = begin f in f .before .at .ensures ∙ s .pre .0 .route .starts-are (s .args .j) (omega (arith, s .pre .0 .inside))
 
 last-is : (f : tie.After-at2) → let a = begin f .args in f .at2 .result ≡ columnCount (a .n) (columnMarking (a .n) (now (a .scratch))) (a .j + 1)
-last-is f = let s = begin f in f .at2 .ensures ∙ s .pre .route .starts-are (s .args .j + 1) (omega (arith, s .pre .inside))
+last-is f = let s = begin f in f .at2 .ensures ∙ s .pre .0 .route .starts-are (s .args .j + 1) (omega (arith, s .pre .0 .inside))
 
 ends : (d : tie.After-diagonal) →
     let a = start d .args in
@@ -53,8 +54,8 @@ returns : tie.Need-returns
 returns c =
     let f = c .before in
     let s = begin f in
-    solved-empty (s .pre .route) (s .pre .inside) (record { first-is = first-is f; last-is = last-is f; start-is = refl; end-is = refl })
-    (now (s .args .entry-values)) (c .if1 .taken) (s .pre .later)
+    solved-empty (s .pre .0 .route) (s .pre .0 .inside) (record { first-is = first-is f; last-is = last-is f; start-is = refl; end-is = refl })
+    _ (now (s .args .entry-values)) (c .if1 .taken) (s .pre .0 .later)
 
 at-requires-3 : tie.Need-at-requires-3
 at-requires-3 c κs = search needs
@@ -69,13 +70,13 @@ diagonal-requires : tie.Need-diagonal-requires
 diagonal-requires c κs = search needs
 
 store-sums-requires : tie.Need-store-sums-requires
-store-sums-requires c κs = let d = c .before in let p = start d .pre in storing-at (p .route) (p .inside) (ends d)
+store-sums-requires c κs = let d = c .before in let p = start d .pre .0 in storing-at (p .route) (p .inside) (ends d)
 
 divide-part-requires : tie.Need-divide-part-requires
 divide-part-requires c κs =
     let v = c .before .before .before in
     let d = v .before .before in
-    let p = start d .pre in
+    let p = start d .pre .0 in
     part-at (p .route) (p .inside) (ends d) _ (v .store-sums .ensures .long)
 
 store-diagonal-requires : tie.Need-store-diagonal-requires
@@ -83,7 +84,7 @@ store-diagonal-requires c κs =
     let w = c .before .before .before in
     let v = w .before .before .before .before in
     let d = v .before .before in
-    let p = start d .pre in
+    let p = start d .pre .0 in
     diagonal-at (p .route) (p .inside) (ends d) (some d) _ (w .divide-part .ensures .long ∙ v .store-sums .ensures .long)
 
 same-length : tie.Need-same-length
@@ -95,8 +96,8 @@ returns-2 c =
     let w = x .before .before .before .before in
     let v = w .before .before .before .before in
     let d = v .before .before in
-    let p = start d .pre in
-    solved-at (p .route) (p .inside) (ends d) (some d) (d .diagonal .ensures) refl (p .later)
+    let p = start d .pre .0 in
+    solved-at (p .route) (p .inside) (ends d) cholesky (some d) (d .diagonal .ensures) refl (p .later)
     (v .store-sums .ensures) (w .divide-part .ensures) (x .store-diagonal .ensures)
 
 pub takahashi-column-spec : {M : Type 1} → statement M

@@ -43,14 +43,16 @@ takahashi-column-requires c κs =
     let l = q .loop in
     let s = start q in
     let a = s .args in
-    let e : l .j ≡ l .j - 1 + 1 = omega (arith, t .loop-test .taken) in
-    record {
-      route =
-          subst (ClosureRoute (a .n) (now (a .starts)) (now (a .rows)) (now (a .values)) (now (a .entry-starts)) (now (a .entry-rows)) (now (a .scratch)))
-          (sym (l .inv .0)) (s .pre);
-      inside = omega (arith, l .inv .1, t .loop-test .taken);
-      later = subst (λ (m : ℕ). SolvedFrom (a .n) (set-of s) (table-of s) m (l .entry-values)) e (l .inv .2 .entries);
-    }
+    let e : l .j ≡ l .j - 1 + 1 = omega (arith, t .loop-test .taken) in (
+      record {
+        route =
+            subst (ClosureRoute (a .n) (now (a .starts)) (now (a .rows)) (now (a .values)) (now (a .entry-starts)) (now (a .entry-rows)) (now (a .scratch)))
+            (sym (l .inv .0)) (s .pre .0);
+        inside = omega (arith, l .inv .1, t .loop-test .taken);
+        later = subst (λ (m : ℕ). SolvedFrom (a .n) (set-of s) (table-of s) m (l .entry-values)) e (l .inv .2 .entries);
+      },
+      s .pre .1,
+    )
 
 loop-less : tie.Need-loop-less Inv-loop μ-loop
 loop-less c = search needs
@@ -70,7 +72,7 @@ returns c =
     let l = q .loop in
     let s = start q in
     let e : l .j ≡ 0 = omega (arith, c .loop-test .left) in
-    solved-all (s .pre .values-fit)
+    solved-all (s .pre .0 .values-fit)
     (subst (λ (m : ℕ). Solved (s .args .n) (set-of s) (table-of s) m (now (s .args .entry-values)) (l .entry-values)) e (l .inv .2))
 
 pub takahashi-selected-inverse-on-closure-spec : {M : Type 1} → statement M

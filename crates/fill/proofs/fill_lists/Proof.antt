@@ -3,13 +3,15 @@ use native.Mathlib.Omega.{arith}
 use Prim.Native.Nat.{ℕ, _≤_}
 use lib.ListN.{length-replicate}
 use Rattle.refusal.specs.Bounds.{maxDimension}
-use mathlib.Core.Path.{_∙_}
+use mathlib.Core.Path.{_≡_, refl}
 use denote.Ref.{now}
 use mathlib.Core.Bool.{Bool}
-use Rattle.selection.specs.Selection.{Selection, selection, Lent, lists, roomOf, Accepted}
-use Rattle.closure.specs.Closure.{Requested, markedSet, marked-requested}
-use Rattle.closure.specs.Covered.{stops-none}
-use Rattle.fill.proofs.Fill.{fill-layout, fill-listed, fill-route, fill-long, fill-positions, fill-done, large-positions, large-done}
+use mathlib.Core.List.{[]}
+use Rattle.columns.specs.Form.{cholesky}
+use Rattle.selection.specs.Selection.{Selection, selection, Lent, lists, roomOf, Accepted, selectedAnswer}
+use Rattle.closure.specs.Closure.{Requested, markedSet, marked-requested, closure-rows, diagnoses-floats}
+use Rattle.closure.specs.Covered.{unlisted}
+use Rattle.fill.proofs.Fill.{fill-layout, fill-listed, fill-route, fill-long, fill-positions, fill-done, large-positions, large-done, kept-small, kept-answer}
 use Rattle.fill.proofs.fill_lists.Statement.{statement}
 use Rattle.fill.proofs.fill_lists.Tie as tie
 
@@ -27,7 +29,7 @@ lent s = let a = s .args in lists (now (a .result-starts)) (now (a .result-rows)
 
 -- where the call starts
 abbrev begin : tie.After-diagnose → tie.Start
-begin d = d .before .before .before .before .before .before .before .before .before .before
+begin d = d .before .before .before .before .before .before .before .before .before .before .before .before .before
 
 -- the marked pairs are a set
 set : (d : tie.After-diagnose) → let a = begin d .args in Requested (a .n) (markedSet (a .n) (now (a .scratch))) (now (a .scratch))
@@ -39,6 +41,7 @@ other s req R =
     let A = s .pre .accepted in
     record {
       small = A .small;
+      few = A .few;
       factor = A .factor;
       finite = A .finite;
       requests = R .ranged;
@@ -49,20 +52,40 @@ other s req R =
       scratch-room = A .scratch-room;
     }
 
+-- the diagnosis is that of the selection
+told-answer : (d : tie.After-diagnose) (req : ℕ → ℕ → Bool) → Requested (begin d .args .n) req (now (begin d .args .scratch))
+    → d .diagnose .result ≡ selectedAnswer (asked (begin d) req)
+told-answer d req R =
+    let a = begin d .args in
+    kept-answer cholesky (a .n) (now (a .starts)) (now (a .rows)) (now (a .values)) (begin d .pre .accepted .factor) req (a .limit) (d .before .before .before .before .before .factor-pairs .ensures)
+    (diagnoses-floats (now (a .values)) [] (begin d .pre .accepted .factor) refl (d .diagnose .ensures) .answers req R)
+
+factor-pairs-requires : tie.Need-factor-pairs-requires
+factor-pairs-requires c κs = c .before .before .before .before .before .before .before .pre .accepted .factor
+
+sub-diagnose : tie.Need-sub-diagnose
+sub-diagnose c = search needs
+
+part-diagnose-start : tie.Need-part-diagnose-start
+part-diagnose-start c = search needs
+
+part-diagnose-end : tie.Need-part-diagnose-end
+part-diagnose-end c = search needs
+
 slice-aggregate-diagnose : tie.Need-slice-aggregate-diagnose
 slice-aggregate-diagnose c = search needs
 
 diagnose-requires : tie.Need-diagnose-requires
 diagnose-requires c κs =
-    let s = c .before .before .before .before .before .before .before .before .before in
+    let s = c .before .before .before .before .before .before .before .before .before .before .before .before in
     let A = s .pre .accepted in
-    record {
-      small = A .small;
-      factor = A .factor;
-      entered = λ k l. omega (arith, A .diagonals .diagonal k l .below);
-      stopped = stops-none (A .small);
-      marked = s .pre .marked;
-    }
+    let k = c .before .before .before .before .factor-pairs .ensures in (
+      kept-small cholesky (s .args .n) (now (s .args .starts)) (now (s .args .rows)) (now (s .args .values)) (A .factor) (A .small) k,
+      (
+        closure-rows (record { small = A .small; factor = A .factor; unlisted = unlisted (A .small); marked = s .pre .marked }),
+        record { by-floats = λ e. omega (arith, A .factor .valued); by-wholes = λ h. absurd (omega arith) },
+      ),
+    )
 
 enum-told : tie.Need-enum-told
 enum-told c = search needs
@@ -75,14 +98,14 @@ lay-out-requires c κs =
     let t = c .before .before .before .before in
     let d = t .before .before .before .before .before in
     let s = begin d in
-    let K = d .diagnose .ensures .leaves _ (set d) in
-    let D = d .diagnose .ensures .answers _ (set d) in
-    let told = t .enum-told .given .1 in
+    let K = diagnoses-floats (now (s .args .values)) [] (s .pre .accepted .factor) refl (d .diagnose .ensures) .leaves _ (set d) in
+    let D = told-answer d _ (set d) in
+    let within = t .enum-told .given .1 in
     let long : s .args .n ≤ maxDimension = s .pre .accepted .small in
-    let kept = d .diagnose .kept .1 .1 .1 .1 .1 .1 .0 in (
-      fill-layout (handed s) (lent s) (s .pre .accepted) K D told,
+    let kept = d .diagnose .kept .1 .1 .1 .1 .1 .1 .1 .1 .0 in (
+      fill-layout (handed s) (lent s) (s .pre .accepted) K D within,
       omega (arith, kept, length-replicate {A = ℕ} maxDimension 0),
-      fill-listed (handed s) (lent s) (s .pre .accepted) K D told,
+      fill-listed (handed s) (lent s) (s .pre .accepted) K D within,
     )
 
 takahashi-selected-inverse-requires : tie.Need-takahashi-selected-inverse-requires
@@ -91,7 +114,7 @@ takahashi-selected-inverse-requires c κs =
     let t = l .before .before .before .before .before in
     let d = t .before .before .before .before .before in
     let s = begin d in
-    fill-route (handed s) (lent s) (s .pre .accepted) (d .diagnose .ensures .leaves _ (set d)) (d .diagnose .ensures .answers _ (set d)) (t .enum-told .given .1)
+    fill-route (handed s) (lent s) (s .pre .accepted) (diagnoses-floats (now (s .args .values)) [] (s .pre .accepted .factor) refl (d .diagnose .ensures) .leaves _ (set d)) (told-answer d _ (set d)) (t .enum-told .given .1)
     (l .lay-out .ensures)
 
 enum-told-2 : tie.Need-enum-told-2
@@ -116,18 +139,18 @@ returns c =
     let t = l .before .before .before .before .before in
     let d = t .before .before .before .before .before in
     let s = begin d in
-    let E = d .diagnose .ensures in
-    let told = t .enum-told .given .1 in
+    let E = diagnoses-floats (now (s .args .values)) [] (s .pre .accepted .factor) refl (d .diagnose .ensures) in
+    let within = t .enum-told .given .1 in
     record {
       fills = record {
-        answers = E .answers;
+        answers = told-answer d;
         leaves = λ req R.
-            fill-done (asked s req) (lent s) (other s req R) (E .leaves req R) (E .answers req R) told (l .lay-out .ensures)
+            fill-done (asked s req) (lent s) (other s req R) (E .leaves req R) (told-answer d req R) within (l .lay-out .ensures)
             (k .takahashi-selected-inverse .ensures);
       };
-      long = fill-long (handed s) (lent s) (s .pre .accepted) (E .leaves _ (set d)) (E .answers _ (set d)) told (l .lay-out .ensures);
+      long = fill-long (handed s) (lent s) (s .pre .accepted) (E .leaves _ (set d)) (told-answer d _ (set d)) within (l .lay-out .ensures);
       positions = λ req R complete.
-          fill-positions (asked s req) (lent s) (other s req R) (E .leaves req R) (E .answers req R) told (l .lay-out .ensures);
+          fill-positions (asked s req) (lent s) (other s req R) (E .leaves req R) (told-answer d req R) within (l .lay-out .ensures);
     }
 
 same-length-5 : tie.Need-same-length-5
@@ -137,21 +160,25 @@ returns-2 : tie.Need-returns-2
 returns-2 c =
     let d = c .before .before .before .before .before in
     let s = begin d in
-    let E = d .diagnose .ensures in
-    let told = c .enum-told2 .given .1 in
+    let E = diagnoses-floats (now (s .args .values)) [] (s .pre .accepted .factor) refl (d .diagnose .ensures) in
+    let within = c .enum-told2 .given .1 in
     record {
       fills = record {
-        answers = E .answers;
-        leaves = λ req R. large-done (asked s req) (lent s) (other s req R) (E .leaves req R) (E .answers req R) told;
+        answers = told-answer d;
+        leaves = λ req R. large-done (asked s req) (lent s) (other s req R) (E .leaves req R) (told-answer d req R) within;
       };
       long = E .leaves _ (set d) .long;
-      positions = λ req R complete. large-positions (asked s req) (lent s) (other s req R) (E .leaves req R) (E .answers req R) told complete;
+      positions = λ req R complete. large-positions (asked s req) (lent s) (other s req R) (E .leaves req R) (told-answer d req R) within complete;
     }
 
 pub fill-lists-spec : {M : Type 1} → statement M
 fill-lists-spec =
     tie.close
     (tie.spec
+    factor-pairs-requires
+    sub-diagnose
+    part-diagnose-start
+    part-diagnose-end
     slice-aggregate-diagnose
     diagnose-requires
     enum-told

@@ -42,7 +42,7 @@ returns c =
 -- src/lib.rt:50:5
 takahashi-selected-inverse-on-closure-requires :
     tie.Need-takahashi-selected-inverse-on-closure-requires
-takahashi-selected-inverse-on-closure-requires c κs = begin (c .before .before) .pre .route
+takahashi-selected-inverse-on-closure-requires c κs = let p = begin (c .before .before) .pre in (p .route, p .diagonals)
 
 -- src/lib.rt:13:1
 same-length-2 : tie.Need-same-length-2

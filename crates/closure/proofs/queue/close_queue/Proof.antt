@@ -1,40 +1,42 @@
 use mathlib.Core.Bool.{true}
 use Rattle.closure.proofs.QueueLaws.{QueueLoop, QueueColumn, ready-none, ready-skip, ready-next, column-done, column-serving}
 use Rattle.closure.proofs.QueueLaws.{serving-more, head-words, head-pairs, word-starts, word-inside, word-end, word-most}
-use Rattle.closure.proofs.QueueLaws.{column-none, column-skip, column-more, entry-rows, entry-values, entry-insert, finished, finished-past, above-dropped, zero-dropped, entry-kept}
+use Rattle.closure.proofs.QueueLaws.{column-none, column-skip, column-more, entry-rows, entry-insert, finished, finished-past, above-dropped, zero-dropped, entry-kept}
 use Rattle.pairs.specs.Pair.{pairTotal}
 use Rattle.marked_pairs.specs.MarkedPairs.{columnOf, queueWord}
-use Rattle.columns.specs.Kept.{nonzero, nonzero-not, keptBelow}
+use Rattle.columns.specs.Kept.{keptBelow}
+use Rattle.kept_entries.specs.KeptBy.{keptAt, lent-within}
 use Rattle.columns.specs.Columns.{start}
 use Rattle.closure.specs.Nested.{Stops}
 use denote.Ref.{now}
 use borrow.Author.Needs.{needs}
+use borrow.Author.Tests.{not-true, not-false}
 use native.Mathlib.Omega.{arith}
 use Prim.Native.Nat.{ℕ, _≤_, _<_, _-_, _+_}
-use mathlib.Core.Path.{_≡_, refl, ap, _∙_}
+use mathlib.Core.Path.{_≡_, refl, sym, ap, _∙_}
 use lib.ListN.{length, getD}
 use Rattle.closure.proofs.queue.close_queue.Statement.{statement}
 use Rattle.closure.proofs.queue.close_queue.Tie as tie
 
 abbrev Inv-column : tie.InvT-column
-Inv-column n starts rows values limit first stops spanStarts spanEnds scratch₀ firstWord count₀ head w r c next before stop end p₀ scratch count p =
-    (length scratch ≡ length scratch₀) × QueueColumn n starts rows (nonzero values) limit scratch₀ count₀ head w scratch count p
+Inv-column n starts rows floats wholes limit first stops spanStarts spanEnds scratch₀ firstWord count₀ head w r c next before stop end p₀ scratch count p =
+    (length scratch ≡ length scratch₀) × QueueColumn n starts rows (keptAt floats wholes) limit scratch₀ count₀ head w scratch count p
 
 abbrev μ-column : tie.MeasureT-column
-μ-column n starts rows values limit first stops spanStarts spanEnds scratch₀ firstWord count₀ head w r c next before stop end p₀ scratch count p = end - p
+μ-column n starts rows floats wholes limit first stops spanStarts spanEnds scratch₀ firstWord count₀ head w r c next before stop end p₀ scratch count p = end - p
 
 abbrev Inv-queue : tie.InvT-queue
-Inv-queue n starts rows values limit first stops₀ spanStarts₀ spanEnds₀ scratch₀ firstWord count₀ head₀ stops spanStarts spanEnds scratch count head =
+Inv-queue n starts rows floats wholes limit first stops₀ spanStarts₀ spanEnds₀ scratch₀ firstWord count₀ head₀ stops spanStarts spanEnds scratch count head =
     (length scratch ≡ length scratch₀)
     × (count ≤ limit)
-    × QueueLoop n starts rows (nonzero values) limit scratch₀ first stops spanStarts spanEnds scratch head count
+    × QueueLoop n starts rows (keptAt floats wholes) limit scratch₀ first stops spanStarts spanEnds scratch head count
     × (length stops ≡ length stops₀)
-    × Stops n starts rows (nonzero values) stops
+    × Stops n starts rows (keptAt floats wholes) stops
     × (length spanStarts ≡ length spanStarts₀)
     × (length spanEnds ≡ length spanEnds₀)
 
 abbrev μ-queue : tie.MeasureT-queue
-μ-queue n starts rows values limit first stops₀ spanStarts₀ spanEnds₀ scratch₀ firstWord count₀ head₀ stops spanStarts spanEnds scratch count head = pairTotal n - head
+μ-queue n starts rows floats wholes limit first stops₀ spanStarts₀ spanEnds₀ scratch₀ firstWord count₀ head₀ stops spanStarts spanEnds scratch count head = pairTotal n - head
 
 -- ---- places of the code
 
@@ -68,7 +70,7 @@ in-queue c =
     omega (
       arith,
       q .before .queue-start .ensures .0,
-      head-words (nonzero (now (begin q .args .values))) (begin q .pre) (q .queue .inv .2 .serving) (c .queue-test .taken),
+      head-words (keptAt (now (begin q .args .floats)) (now (begin q .args .wholes))) (begin q .pre .0) (q .queue .inv .2 .serving) (c .queue-test .taken),
     )
 
 -- the word at head
@@ -81,7 +83,7 @@ is-word a =
 in-starts : (a : tie.After-at Inv-column μ-column Inv-queue μ-queue) → columnOf (a .at .result) + 1 < length (now (begin (queue a) .args .starts))
 in-starts a =
     let q = queue a in
-    word-starts (nonzero (now (begin q .args .values))) (begin q .pre) (q .queue .inv .2 .serving) (a .before .before .queue-test .taken) (is-word a)
+    word-starts (keptAt (now (begin q .args .floats)) (now (begin q .args .wholes))) (begin q .pre .0) (q .queue .inv .2 .serving) (a .before .before .queue-test .taken) (is-word a)
 
 -- the entry is before the column's end
 in-column : (c : tie.In-column Inv-column μ-column Inv-queue μ-queue)
@@ -96,31 +98,26 @@ in-column c =
 in-rows : (c : tie.In-column Inv-column μ-column Inv-queue μ-queue) → c .before .column .p < length (now (begin (queue (word (c .before))) .args .rows))
 in-rows c =
     let s = begin (queue (word (c .before))) in
-    entry-rows (nonzero (now (s .args .values))) (s .pre) (c .before .column .inv .1) (in-column c)
-
-in-values : (c : tie.In-column Inv-column μ-column Inv-queue μ-queue) → c .before .column .p < length (now (begin (queue (word (c .before))) .args .values))
-in-values c =
-    let s = begin (queue (word (c .before))) in
-    entry-values (nonzero (now (s .args .values))) (s .pre) (c .before .column .inv .1) (in-column c)
+    entry-rows (keptAt (now (s .args .floats)) (now (s .args .wholes))) (s .pre .0) (c .before .column .inv .1) (in-column c)
 
 -- past both tests the entry is kept below the diagonal
 abbrev Kept : tie.At-column Inv-column μ-column Inv-queue μ-queue → Type 0
 Kept k =
     let s = begin (queue (word k)) in
-    keptBelow (now (s .args .rows)) (nonzero (now (s .args .values))) (columnOf (word k .at .result)) (k .column .p) ≡ true
+    keptBelow (now (s .args .rows)) (keptAt (now (s .args .floats)) (now (s .args .wholes))) (columnOf (word k .at .result)) (k .column .p) ≡ true
 
 is-kept : (c : tie.Else3 Inv-column μ-column Inv-queue μ-queue) → Kept (c .before .before .before .before .before)
 is-kept c =
     let a = c .before .before .before in
     let s = begin (queue (word (a .before .before))) in
-    let nz = nonzero-not (now (s .args .values)) _ (c .if3 .left) in
-    entry-kept (now (s .args .rows)) (nonzero (now (s .args .values))) _ _ (a .at3 .ensures) (c .before .if2 .left) nz
+    let nz = sym (c .before .before .is-kept .ensures) ∙ not-false _ (c .if3 .left) in
+    entry-kept (now (s .args .rows)) (keptAt (now (s .args .floats)) (now (s .args .wholes))) _ _ (a .at3 .ensures) (c .before .if2 .left) nz
 
 -- the column of the word is the factor's
 in-factor : (a : tie.After-at Inv-column μ-column Inv-queue μ-queue) → columnOf (a .at .result) < begin (queue a) .args .n
 in-factor a =
     let q = queue a in
-    word-inside (nonzero (now (begin q .args .values))) (begin q .pre) (q .queue .inv .2 .serving) (a .before .before .queue-test .taken) (is-word a)
+    word-inside (keptAt (now (begin q .args .floats)) (now (begin q .args .wholes))) (begin q .pre .0) (q .queue .inv .2 .serving) (a .before .before .queue-test .taken) (is-word a)
 
 -- ---- the needs
 
@@ -130,7 +127,7 @@ queue-start-requires c κs = search needs
 queue-holds : tie.Need-queue-holds Inv-column μ-column Inv-queue μ-queue
 queue-holds c =
     let s = c .before .before .before .before .before .before .before .before in
-    (refl, s .pre .low, ready-none (nonzero (now (s .args .values))) (s .pre), refl, s .pre .stopped, refl, refl)
+    (refl, s .pre .0 .low, ready-none (keptAt (now (s .args .floats)) (now (s .args .wholes))) (s .pre .0), refl, s .pre .0 .stopped, refl, refl)
 
 add-at : tie.Need-add-at Inv-column μ-column Inv-queue μ-queue
 add-at c = let l = in-queue (c .before) in search needs
@@ -148,7 +145,7 @@ queue-less : tie.Need-queue-less Inv-column μ-column Inv-queue μ-queue
 queue-less c =
     let a = c .before .before .before .before in
     let q = queue a in
-    let l = head-pairs (nonzero (now (begin q .args .values))) (begin q .pre) (q .queue .inv .2 .serving) (a .before .before .queue-test .taken) in
+    let l = head-pairs (keptAt (now (begin q .args .floats)) (now (begin q .args .wholes))) (begin q .pre .0) (q .queue .inv .2 .serving) (a .before .before .queue-test .taken) in
     omega (arith, c .if1 .taken)
 
 queue-again : tie.Need-queue-again Inv-column μ-column Inv-queue μ-queue
@@ -158,21 +155,21 @@ queue-again c =
     let q = queue a in
     let s = begin q in
     let I = q .queue .inv in
-    let R = ready-skip (nonzero (now (s .args .values))) (s .pre) (I .2) (in-factor a) (v .after-span .ensures) (c .if1 .taken) in
+    let R = ready-skip (keptAt (now (s .args .floats)) (now (s .args .wholes))) (s .pre .0) (I .2) (in-factor a) (v .after-span .ensures) (c .if1 .taken) in
     (I .0, I .1, R, I .3, I .4, I .5, I .6)
 
 find-stop-requires : tie.Need-find-stop-requires Inv-column μ-column Inv-queue μ-queue
 find-stop-requires c κs =
     let a = c .before .before .before .before .before in
     let q = queue a in
-    record { factor = begin q .pre .factor; inside = in-factor a; reached = q .queue .inv .4 }
+    (record { factor = begin q .pre .0 .factor; inside = in-factor a; reached = q .queue .inv .4 }, begin q .pre .1)
 
 column-end-requires : tie.Need-column-end-requires Inv-column μ-column Inv-queue μ-queue
 column-end-requires c κs =
     let f = c .before .before in
     let a = asked f in
     let q = queue a in
-    word-end (nonzero (now (begin q .args .values))) (begin q .pre) (q .queue .inv .2 .serving) (a .before .before .queue-test .taken) (is-word a) (f .find-stop .ensures .stop)
+    word-end (keptAt (now (begin q .args .floats)) (now (begin q .args .wholes))) (begin q .pre .0) (q .queue .inv .2 .serving) (a .before .before .queue-test .taken) (is-word a) (f .find-stop .ensures .stop)
 
 at-requires-2 : tie.Need-at-requires-2 Inv-column μ-column Inv-queue μ-queue
 at-requires-2 c κs = let l = in-starts (asked (c .before .before .before)) in omega arith
@@ -183,21 +180,16 @@ column-holds c =
     let q = queue a in
     let s = begin q in
     let l = a .before .before .queue-test .taken in
-    (refl, column-none (nonzero (now (s .args .values))) (s .pre) (q .queue .inv .2 .serving) l (q .queue .inv .1) (is-word a) (c .at2 .ensures))
+    (refl, column-none (keptAt (now (s .args .floats)) (now (s .args .wholes))) (s .pre .0) (q .queue .inv .2 .serving) l (q .queue .inv .1) (is-word a) (c .at2 .ensures))
 
 at-requires-3 : tie.Need-at-requires-3 Inv-column μ-column Inv-queue μ-queue
 at-requires-3 c κs = in-rows c
 
-mul-l : tie.Need-mul-l Inv-column μ-column Inv-queue μ-queue
-mul-l c =
-    let a = word (c .before .before) in
-    omega (arith, in-column (c .before), queue a .before .before .before .before .before .before .before .before .shared-slice-known .given (columnOf (a .at .result) + 1))
-
-shared-slice-read-l : tie.Need-shared-slice-read-l Inv-column μ-column Inv-queue μ-queue
-shared-slice-read-l c = in-values (c .before .before)
+is-kept-requires : tie.Need-is-kept-requires Inv-column μ-column Inv-queue μ-queue
+is-kept-requires c κs = let t = c .before in lent-within (begin (queue (word (t .before))) .pre .1) _ (in-rows t)
 
 add-p : tie.Need-add-p Inv-column μ-column Inv-queue μ-queue
-add-p c = let l = in-values (c .before .before) in search needs
+add-p c = let l = in-rows (c .before .before) in search needs
 
 column-less : tie.Need-column-less Inv-column μ-column Inv-queue μ-queue
 column-less c = let l = c .before .before .before .column-test .taken in omega arith
@@ -208,9 +200,9 @@ column-again c =
     let t = a .before in
     let k = t .before in
     let s = begin (queue (word k)) in
-    let nz = nonzero (now (s .args .values)) in
+    let nz = keptAt (now (s .args .floats)) (now (s .args .wholes)) in
     let d = above-dropped (now (s .args .rows)) nz _ _ (a .at3 .ensures) (c .if2 .taken) in
-    (k .column .inv .0, column-skip nz (s .pre) (k .column .inv .1) (in-column t) d)
+    (k .column .inv .0, column-skip nz (s .pre .0) (k .column .inv .1) (in-column t) d)
 
 column-less-2 : tie.Need-column-less-2 Inv-column μ-column Inv-queue μ-queue
 column-less-2 c = let l = c .before .before .before .before .column-test .taken in omega arith
@@ -220,9 +212,9 @@ column-again-2 c =
     let t = c .before .before .before .before in
     let k = t .before in
     let s = begin (queue (word k)) in
-    let nz = nonzero (now (s .args .values)) in
-    let d = zero-dropped (now (s .args .rows)) nz _ _ (nonzero-not (now (s .args .values)) _ (c .if3 .taken)) in
-    (k .column .inv .0, column-skip nz (s .pre) (k .column .inv .1) (in-column t) d)
+    let nz = keptAt (now (s .args .floats)) (now (s .args .wholes)) in
+    let d = zero-dropped (now (s .args .rows)) nz _ _ (sym (c .before .before .is-kept .ensures) ∙ not-true _ (c .if3 .taken)) in
+    (k .column .inv .0, column-skip nz (s .pre .0) (k .column .inv .1) (in-column t) d)
 
 insert-closure-pair-requires :
     tie.Need-insert-closure-pair-requires Inv-column μ-column Inv-queue μ-queue
@@ -230,7 +222,7 @@ insert-closure-pair-requires c κs =
     let a = c .before .before .before .before in
     let t = a .before in
     let s = begin (queue (word (t .before))) in
-    entry-insert (nonzero (now (s .args .values))) (s .pre) (t .before .column .inv .1) (in-column t) (a .at3 .ensures)
+    entry-insert (keptAt (now (s .args .floats)) (now (s .args .wholes))) (s .pre .0) (t .before .column .inv .1) (in-column t) (a .at3 .ensures)
 
 column-less-3 : tie.Need-column-less-3 Inv-column μ-column Inv-queue μ-queue
 column-less-3 c = let l = entry (c .before .before .before) .before .column-test .taken in omega arith
@@ -242,29 +234,29 @@ column-again-3 c =
     let t = a .before in
     let k = t .before in
     let s = begin (queue (word k)) in
-    let nz = nonzero (now (s .args .values)) in
+    let nz = keptAt (now (s .args .floats)) (now (s .args .wholes)) in
     let b = is-kept (i .before .before) in
-    let K = column-more nz (s .pre) (k .column .inv .1) (in-column t) (a .at3 .ensures) b (i .insert-closure-pair .ensures) (c .if4 .left) in
+    let K = column-more nz (s .pre .0) (k .column .inv .1) (in-column t) (a .at3 .ensures) b (i .insert-closure-pair .ensures) (c .if4 .left) in
     (K .serving .grown .long, K)
 
 end-column-requires : tie.Need-end-column-requires Inv-column μ-column Inv-queue μ-queue
 end-column-requires c κs =
     let k = c .before .before .before .before in
     let q = queue (word k) in
-    column-done (nonzero (now (begin q .args .values))) (begin q .pre) (q .queue .inv .2) (k .column .inv .1) (found k .find-stop .ensures .stop)
+    column-done (keptAt (now (begin q .args .floats)) (now (begin q .args .wholes))) (begin q .pre .0) (q .queue .inv .2) (k .column .inv .1) (found k .find-stop .ensures .stop)
 
 add-head : tie.Need-add-head Inv-column μ-column Inv-queue μ-queue
 add-head c =
     let a = word (closed (c .before .before .before .before .before .before .before)) in
     let q = queue a in
-    let l = head-pairs (nonzero (now (begin q .args .values))) (begin q .pre) (q .queue .inv .2 .serving) (a .before .before .queue-test .taken) in
+    let l = head-pairs (keptAt (now (begin q .args .floats)) (now (begin q .args .wholes))) (begin q .pre .0) (q .queue .inv .2 .serving) (a .before .before .queue-test .taken) in
     omega arith
 
 queue-less-2 : tie.Need-queue-less-2 Inv-column μ-column Inv-queue μ-queue
 queue-less-2 c =
     let a = word (closed (c .before .before .before .before .before .before .before)) in
     let q = queue a in
-    let l = head-pairs (nonzero (now (begin q .args .values))) (begin q .pre) (q .queue .inv .2 .serving) (a .before .before .queue-test .taken) in
+    let l = head-pairs (keptAt (now (begin q .args .floats)) (now (begin q .args .wholes))) (begin q .pre .0) (q .queue .inv .2 .serving) (a .before .before .queue-test .taken) in
     omega arith
 
 queue-again-2 : tie.Need-queue-again-2 Inv-column μ-column Inv-queue μ-queue
@@ -277,7 +269,7 @@ queue-again-2 c =
     let h = e .before .before .before .before .column-test .left in
     let f = found k .find-stop .ensures in
     let E = e .end-column .ensures in
-    let R = ready-next (nonzero (now (s .args .values))) (s .pre) (I .2) (k .column .inv .1) f (k .before .before .column-end .ensures) (omega arith) E in
+    let R = ready-next (keptAt (now (s .args .floats)) (now (s .args .wholes))) (s .pre .0) (I .2) (k .column .inv .1) f (k .before .before .column-end .ensures) (omega arith) E in
     (R .serving .grown .long, c .if5 .left, R, f .long ∙ I .3, f .reached, e .end-column .kept .1 .1 .1 .1 .1 .1 .1 .1 .0 ∙ I .5, e .end-column .kept .1 .1 .1 .1 .1 .1 .1 .1 .1 .0 ∙ I .6)
 
 same-length : tie.Need-same-length Inv-column μ-column Inv-queue μ-queue
@@ -297,7 +289,7 @@ returns c =
     let q = c .before in
     let s = begin q in
     let R = q .queue .inv .2 in
-    finished (nonzero (now (s .args .values))) (s .pre) (R .serving) (R .reached) (c .queue-test .left)
+    finished (keptAt (now (s .args .floats)) (now (s .args .wholes))) (s .pre .0) (R .serving) (R .reached) (c .queue-test .left)
 
 same-length-5 : tie.Need-same-length-5 Inv-column μ-column Inv-queue μ-queue
 same-length-5 c =
@@ -324,9 +316,9 @@ returns-2 c =
     let k = t .before in
     let q = queue (word k) in
     let s = begin q in
-    let nz = nonzero (now (s .args .values)) in
-    let U = serving-more nz (s .pre) (k .column .inv .1) (in-column t) (a .at3 .ensures) (is-kept (i .before .before)) (i .insert-closure-pair .ensures) in
-    finished-past nz (s .pre) (c .if4 .taken) (column-serving nz (s .pre) (q .queue .inv .2 .serving) U)
+    let nz = keptAt (now (s .args .floats)) (now (s .args .wholes)) in
+    let U = serving-more nz (s .pre .0) (k .column .inv .1) (in-column t) (a .at3 .ensures) (is-kept (i .before .before)) (i .insert-closure-pair .ensures) in
+    finished-past nz (s .pre .0) (c .if4 .taken) (column-serving nz (s .pre .0) (q .queue .inv .2 .serving) U)
 
 same-length-9 : tie.Need-same-length-9 Inv-column μ-column Inv-queue μ-queue
 same-length-9 c =
@@ -355,11 +347,11 @@ returns-3 c =
     let k = closed e in
     let q = queue (word k) in
     let s = begin q in
-    let nz = nonzero (now (s .args .values)) in
+    let nz = keptAt (now (s .args .floats)) (now (s .args .wholes)) in
     let h = e .before .before .before .before .column-test .left in
     let f = found k .find-stop .ensures in
-    let R = ready-next nz (s .pre) (q .queue .inv .2) (k .column .inv .1) f (k .before .before .column-end .ensures) (omega arith) (e .end-column .ensures) in
-    finished-past nz (s .pre) (c .if5 .taken) (R .serving)
+    let R = ready-next nz (s .pre .0) (q .queue .inv .2) (k .column .inv .1) f (k .before .before .column-end .ensures) (omega arith) (e .end-column .ensures) in
+    finished-past nz (s .pre .0) (c .if5 .taken) (R .serving)
 
 pub close-queue-spec : {M : Type 1} → statement M
 close-queue-spec =
@@ -381,8 +373,7 @@ close-queue-spec =
     at-requires-2
     column-holds
     at-requires-3
-    mul-l
-    shared-slice-read-l
+    is-kept-requires
     add-p
     column-less
     column-again

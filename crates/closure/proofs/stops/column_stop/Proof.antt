@@ -1,5 +1,5 @@
 use denote.Ref.{now}
-use Rattle.columns.specs.Kept.{nonzero}
+use Rattle.kept_entries.specs.KeptBy.{keptAt}
 use Rattle.columns.specs.Factor.{factor-column}
 use Rattle.closure.specs.Covered.{entry-inside, cover-input, cover-nested, stop-at, stop-end}
 use borrow.Author.Needs.{needs}
@@ -19,12 +19,12 @@ at-requires-2 c κs = search needs
 first-descendant-requires : tie.Need-first-descendant-requires
 first-descendant-requires c κs =
     let z = c .before .before .before .before .before in
-    rw (c .at2 .ensures, c .before .at .ensures) (factor-column (z .pre .0) (z .args .c) (z .pre .1))
+    (rw (c .at2 .ensures, c .before .at .ensures) (factor-column (z .pre .0 .0) (z .args .c) (z .pre .0 .1)), z .pre .1)
 
 at-requires-3 : tie.Need-at-requires-3
 at-requires-3 c κs =
     let z = c .before .before .before .before .before .before .before in
-    omega (arith, c .before .before .before .at .ensures, factor-column (z .pre .0) (z .args .c) (z .pre .1) .stored)
+    omega (arith, c .before .before .before .at .ensures, factor-column (z .pre .0 .0) (z .args .c) (z .pre .0 .1) .stored)
 
 add-covered : tie.Need-add-covered
 add-covered c = search needs
@@ -33,27 +33,29 @@ at-requires-4 : tie.Need-at-requires-4
 at-requires-4 c κs =
     let z = c .before .before .before .before .before .before .before .before in
     let q = c .before .before .first-descendant .result in
-    omega (arith, c .at3 .ensures, entry-inside (z .pre .0) (z .args .c) (z .pre .1) q (omega (arith, c .before .before .before .before .at .ensures)))
+    omega (arith, c .at3 .ensures, entry-inside (z .pre .0 .0) (z .args .c) (z .pre .0 .1) q (omega (arith, c .before .before .before .before .at .ensures)))
 
 add-at-2 : tie.Need-add-at-2
 add-at-2 c =
     let z = c .before .before .before .before .before .before .before .before .before in
     let q = c .before .before .before .first-descendant .result in
-    omega (arith, c .before .at3 .ensures, entry-inside (z .pre .0) (z .args .c) (z .pre .1) q (omega (arith, c .before .before .before .before .before .at .ensures)))
+    omega (arith, c .before .at3 .ensures, entry-inside (z .pre .0 .0) (z .args .c) (z .pre .0 .1) q (omega (arith, c .before .before .before .before .before .at .ensures)))
 
 at-requires-5 : tie.Need-at-requires-5
 at-requires-5 c κs =
     let z = c .before .before .before .before .before .before .before .before .before in
     let q = c .before .before .before .first-descendant .result in
-    omega (arith, c .before .at3 .ensures, entry-inside (z .pre .0) (z .args .c) (z .pre .1) q (omega (arith, c .before .before .before .before .before .at .ensures)))
+    omega (arith, c .before .at3 .ensures, entry-inside (z .pre .0 .0) (z .args .c) (z .pre .0 .1) q (omega (arith, c .before .before .before .before .before .at .ensures)))
 
 covered-requires : tie.Need-covered-requires
 covered-requires c κs =
     let z = c .before .before .before .before .before .before .before .before .before .before in
     let q = c .before .before .before .before .first-descendant in
-    let e = c .before .before .before .before .before .before .at .ensures in
-    rw (c .at5 .ensures, c .before .at4 .ensures, c .before .before .at3 .ensures, e)
-    (cover-input (z .pre .0) (z .args .c) (z .pre .1) (q .result) (omega (arith, c .before .before .before .before .before .at2 .ensures, q .ensures .from)) (omega arith))
+    let e = c .before .before .before .before .before .before .at .ensures in (
+      rw (c .at5 .ensures, c .before .at4 .ensures, c .before .before .at3 .ensures, e)
+          (cover-input (z .pre .0 .0) (z .args .c) (z .pre .0 .1) (q .result) (omega (arith, c .before .before .before .before .before .at2 .ensures, q .ensures .from)) (omega arith)),
+      z .pre .1,
+    )
 
 add-result : tie.Need-add-result
 add-result c = search needs
@@ -65,7 +67,7 @@ returns c =
     let e = c .before .before .before .before .before .before .before .before .at .ensures in
     let s = c .before .before .before .before .before .before .before .at2 .ensures in
     stop-at
-    (cover-nested (z .pre .0) (z .args .c) (z .pre .1) (nonzero (now (z .args .values))) (q .result)
+    (cover-nested (z .pre .0 .0) (z .args .c) (z .pre .0 .1) (keptAt (now (z .args .floats)) (now (z .args .wholes))) (q .result)
     (rw (s, e) at (q .ensures))
     (omega arith)
     (rw (c .before .before .at5 .ensures, c .before .before .before .at4 .ensures, c .before .before .before .before .at3 .ensures, e) at (c .before .covered .ensures (c .if2 .taken))))

@@ -1,4 +1,4 @@
-use Rattle.columns.specs.Kept.{nonzero}
+use Rattle.kept_entries.specs.KeptBy.{keptAt}
 use Rattle.closure.specs.Covered.{Covered, covered-none, covered-more}
 use borrow.Author.Needs.{needs}
 use native.Mathlib.Omega.{arith}
@@ -10,16 +10,16 @@ use Rattle.closure.proofs.stops.covered.Statement.{statement}
 use Rattle.closure.proofs.stops.covered.Tie as tie
 
 abbrev Inv-loop : tie.InvT-loop
-Inv-loop a b s e rows values i₀ j₀ i j = (a ≤ i) × (i ≤ b) × (s ≤ j) × (j ≤ e) × Covered rows (nonzero values) a i s e
+Inv-loop a b s e rows floats wholes i₀ j₀ i j = (a ≤ i) × (i ≤ b) × (s ≤ j) × (j ≤ e) × Covered rows (keptAt floats wholes) a i s e
 
 abbrev μ-loop : tie.MeasureT-loop
-μ-loop a b s e rows values i₀ j₀ i j = b - i
+μ-loop a b s e rows floats wholes i₀ j₀ i j = b - i
 
 loop-holds : tie.Need-loop-holds Inv-loop μ-loop
 loop-holds c = (search needs, search needs, search needs, search needs, covered-none)
 
 next-place-requires : tie.Need-next-place-requires Inv-loop μ-loop
-next-place-requires c κs = search needs
+next-place-requires c κs = (search needs, c .before .before .before .before .pre .1)
 
 returns : tie.Need-returns Inv-loop μ-loop
 returns c t = absurd (false≢true t)
@@ -41,7 +41,7 @@ returns-2 c t =
     let l = c .before .loop in
     let z = c .before .before .before .before in
     let q : l .i ≡ z .args .b = omega arith in
-    subst (λ (k : ℕ). Covered (now (z .args .rows)) (nonzero (now (z .args .values))) (z .args .a) k (z .args .s) (z .args .e)) q (l .inv .4)
+    subst (λ (k : ℕ). Covered (now (z .args .rows)) (keptAt (now (z .args .floats)) (now (z .args .wholes))) (z .args .a) k (z .args .s) (z .args .e)) q (l .inv .4)
 
 pub covered-spec : {M : Type 1} → statement M
 covered-spec =

@@ -1,8 +1,8 @@
 use denote.Ref.{now}
 use mathlib.Core.Path.{subst, sym, refl}
-use Rattle.columns.specs.Kept.{nonzero}
+use Rattle.kept_entries.specs.KeptBy.{keptAt}
 use Rattle.closure.specs.Nested.{Stop}
-use Rattle.closure.specs.Covered.{stop-found}
+use Rattle.closure.specs.Covered.{stop-found, stop-one}
 use borrow.Author.Needs.{needs}
 use native.Mathlib.Omega.{arith}
 use Prim.Native.Nat.{ℕ, _+_}
@@ -19,21 +19,31 @@ returns : tie.Need-returns
 returns c =
     let z = c .before .before .before .before .before .before .before in
     let e = c .before .at .ensures in
-    let S = z .pre .reached in
-    let T = S .stop (z .args .c) (z .pre .inside) (omega (arith, e, c .if1 .taken)) in
+    let S = z .pre .0 .reached in
+    let T = S .stop (z .args .c) (z .pre .0 .inside) (omega (arith, e, c .if1 .taken)) in
     record {
       long = refl;
       reached = S;
       kept = λ a h. h;
-      here = λ h. omega (arith, e, c .if1 .taken);
-      stop = subst (λ (k : ℕ). Stop (now (z .args .starts)) (now (z .args .rows)) (nonzero (now (z .args .values))) (z .args .c) k) (sym e) T;
+      here = omega (arith, e, c .if1 .taken);
+      stop = subst (λ (k : ℕ). Stop (now (z .args .starts)) (now (z .args .rows)) (keptAt (now (z .args .floats)) (now (z .args .wholes))) (z .args .c) k) (sym e) T;
     }
 
 column-stop-requires : tie.Need-column-stop-requires
-column-stop-requires c κs = let z = c .before .before .before .before .before .before .before in (z .pre .factor, z .pre .inside)
+column-stop-requires c κs = let z = c .before .before .before .before .before .before .before in ((z .pre .0 .factor, z .pre .0 .inside), z .pre .1)
+
+at-least-one-requires : tie.Need-at-least-one-requires
+at-least-one-requires c κs = search needs
 
 cast-stops : tie.Need-cast-stops
-cast-stops c = let z = c .before .before .before .before .before .before .before .before in omega (arith, c .column-stop .ensures .upto, c .before .before .before .before .before .before .before .shared-slice-known .given (z .args .c + 1))
+cast-stops c =
+    let z = c .before .before .before .before .before .before .before .before .before in
+    omega (
+      arith,
+      c .at-least-one .ensures,
+      c .before .column-stop .ensures .upto,
+      c .before .before .before .before .before .before .before .before .shared-slice-known .given (z .args .c + 1),
+    )
 
 mul-stops : tie.Need-mul-stops
 mul-stops c = search needs
@@ -46,8 +56,11 @@ same-length-2 c = search needs
 
 returns-2 : tie.Need-returns-2
 returns-2 c =
-    let z = c .before .before .before .before .before .before .before .before in
-    stop-found (z .pre .inside) (z .pre .reached) (omega (arith, c .before .before .at .ensures, c .before .if1 .left)) (c .column-stop .ensures)
+    let z = c .before .before .before .before .before .before .before .before .before in
+    let e = c .at-least-one .ensures in
+    stop-found (z .pre .0 .inside) (z .pre .0 .reached) (omega (arith, c .before .before .before .at .ensures, c .before .before .if1 .left)) (omega (arith, e))
+    (subst (λ (k : ℕ). Stop (now (z .args .starts)) (now (z .args .rows)) (keptAt (now (z .args .floats)) (now (z .args .wholes))) (z .args .c) k) (sym e)
+    (stop-one (c .before .column-stop .ensures)))
 
 pub find-stop-spec : {M : Type 1} → statement M
 find-stop-spec =
@@ -57,6 +70,7 @@ find-stop-spec =
     same-length
     returns
     column-stop-requires
+    at-least-one-requires
     cast-stops
     mul-stops
     slice-write-stops

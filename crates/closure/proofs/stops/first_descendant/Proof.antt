@@ -1,6 +1,7 @@
 use mathlib.Core.Bool.{false}
 use Rattle.lists.specs.Test.{anyIn, anyIn-none, anyIn-more}
-use Rattle.columns.specs.Kept.{nonzero, keptBelow}
+use Rattle.columns.specs.Kept.{keptBelow}
+use Rattle.kept_entries.specs.KeptBy.{keptAt, lent-within}
 use borrow.Author.Needs.{needs}
 use native.Mathlib.Omega.{arith}
 use Prim.Native.Nat.{_≤_, _-_}
@@ -9,21 +10,23 @@ use Rattle.closure.proofs.stops.first_descendant.Statement.{statement}
 use Rattle.closure.proofs.stops.first_descendant.Tie as tie
 
 abbrev Inv-loop : tie.InvT-loop
-Inv-loop c s e rows values q₀ q = (s ≤ q) × (q ≤ e) × (anyIn (keptBelow rows (nonzero values) c) s q ≡ false)
+Inv-loop c s e rows floats wholes q₀ q = (s ≤ q) × (q ≤ e) × (anyIn (keptBelow rows (keptAt floats wholes) c) s q ≡ false)
 
 abbrev μ-loop : tie.MeasureT-loop
-μ-loop c s e rows values q₀ q = e - q
+μ-loop c s e rows floats wholes q₀ q = e - q
 
 loop-holds : tie.Need-loop-holds Inv-loop μ-loop
 loop-holds c = (search needs, search needs, anyIn-none _ _)
 
-kept-below-requires : tie.Need-kept-below-requires Inv-loop μ-loop
-kept-below-requires c κs = search needs
+kept-below-by-requires : tie.Need-kept-below-by-requires Inv-loop μ-loop
+kept-below-by-requires c κs =
+    let z = c .before .before .before .before in
+    (omega (arith, z .pre .0 .stored), lent-within (z .pre .1) _ (omega (arith, z .pre .0 .stored)))
 
 returns : tie.Need-returns Inv-loop μ-loop
 returns c =
     let i = c .before .before .before .loop in
-    record { from = i .inv .0; upto = i .inv .1; before = i .inv .2; kept = λ l. sym (c .before .kept-below .ensures) ∙ c .if1 .taken }
+    record { from = i .inv .0; upto = i .inv .1; before = i .inv .2; kept = λ l. sym (c .before .kept-below-by .ensures) ∙ c .if1 .taken }
 
 add-q : tie.Need-add-q Inv-loop μ-loop
 add-q c = search needs
@@ -34,7 +37,7 @@ loop-less c = search needs
 loop-again : tie.Need-loop-again Inv-loop μ-loop
 loop-again c =
     let i = c .before .before .before .loop in
-    (search needs, search needs, anyIn-more _ _ _ (i .inv .0) (i .inv .2) (sym (c .before .kept-below .ensures) ∙ c .if1 .left))
+    (search needs, search needs, anyIn-more _ _ _ (i .inv .0) (i .inv .2) (sym (c .before .kept-below-by .ensures) ∙ c .if1 .left))
 
 returns-2 : tie.Need-returns-2 Inv-loop μ-loop
 returns-2 c =
@@ -48,7 +51,7 @@ first-descendant-spec =
     Inv-loop
     μ-loop
     loop-holds
-    kept-below-requires
+    kept-below-by-requires
     returns
     add-q
     loop-less

@@ -5,7 +5,8 @@ use lib.ListN.{length, take, drop, length-drop}
 use lib.Seq.{length-take-le}
 use denote.Ref.{now}
 use borrow.Author.Needs.{needs}
-use Rattle.closure_route.proofs.FinishLaws.{part-divided}
+use Rattle.exact.specs.Exact.{float-off}
+use Rattle.closure_route.proofs.FinishLaws.{part-finished}
 use Rattle.closure_route.proofs.finish.divide_part.Statement.{statement}
 use Rattle.closure_route.proofs.finish.divide_part.Tie as tie
 
@@ -47,7 +48,7 @@ returns c =
     let z = now (a .inverse) in
     let m = a .last - a .first in
     let size : length (take m (drop (a .first) z)) ≡ m = length-take-le m (drop (a .first) z) (simp length-drop (omega (arith, s .pre .0, s .pre .1))) in
-    part-divided (a .j) (a .d) (now (a .rows)) (a .first) (a .last) z _ (s .pre .0) (s .pre .1) (rw size at (v .divide-column .ensures))
+    part-finished (a .j) (float-off (a .d)) (now (a .rows)) (a .first) (a .last) z _ (s .pre .0) (s .pre .1) (rw size at (v .divide-column .ensures))
 
 pub divide-part-spec : {M : Type 1} → statement M
 divide-part-spec =
