@@ -10,6 +10,17 @@ use Rattle.lists.specs.Test.{any, anyIn}
 use Rattle.refusal.specs.Steps.{Step}
 use Rattle.refusal.specs.Bounds.{maxDimension, maxEntries}
 
+-- a factor in compressed columns, with values of any kind: its dimension, the columns' starts, and the row and the value of each stored entry
+pub record FactorLists (W : Type 0) : Type 0 where
+  pub n : ℕ
+  pub starts : List ℕ
+  pub rows : List ℕ
+  pub values : List W
+
+-- from a function's parameters in their order
+abbrev pub factorLists : {W : Type 0} → ℕ → List ℕ → List ℕ → List W → FactorLists W
+factorLists n starts rows values = record { n = n; starts = starts; rows = rows; values = values }
+
 -- where column c starts; it ends where the next one starts
 abbrev pub start : List ℕ → ℕ → ℕ
 start starts c = getD starts c 0

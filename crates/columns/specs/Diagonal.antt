@@ -14,7 +14,7 @@ use Rattle.lists.specs.Test.{any, anyIn, any-below, any-all, any-hit, anyIn-bel
 use Rattle.lists.specs.Test.{and-left, and-right, and-both, or-cases, or-neither-left, or-neither-right}
 use Rattle.lists.specs.Select.{select-at, select-holds}
 use Rattle.refusal.specs.Steps.{Step, Passed, Clear, verdict, refused, first-hit, first-skip, passed-clear, clear-passed}
-use Rattle.columns.specs.Columns.{start, row, value, outsideAt}
+use Rattle.columns.specs.Columns.{FactorLists, factorLists, start, row, value, outsideAt}
 use Rattle.columns.specs.Kept.{f0, nonzero, kept, keptDiagonal, diag}
 use Rattle.columns.specs.Factor.{Sorted, Factor, Column, FirstFrom, neither-below, rows-once, factor-column}
 
@@ -31,8 +31,8 @@ abbrev pub lowDiagonal : List ℕ → List ℕ → List Float → ℕ → Bool
 lowDiagonal starts rows values c = anyIn (nonPositive rows values c) (start starts c) (start starts (c + 1))
 
 -- 6: a column without a kept diagonal, or with one at most 0.0
-unfoldable pub diagonalSteps : ℕ → List ℕ → List ℕ → List Float → List Step
-diagonalSteps n starts rows values = (6, any (noDiagonal starts rows (nonzero values)) n) ∷ (6, any (lowDiagonal starts rows values) n) ∷ []
+unfoldable pub diagonalSteps : FactorLists Float → List Step
+diagonalSteps f = (6, any (noDiagonal (f .starts) (f .rows) (nonzero (f .values))) (f .n)) ∷ (6, any (lowDiagonal (f .starts) (f .rows) (f .values)) (f .n)) ∷ []
 
 -- either, for the entries from s to below e
 unfoldable pub badBetween : List ℕ → List Float → ℕ → ℕ → ℕ → Bool
@@ -97,12 +97,12 @@ module _ {starts rows : List ℕ} {c : ℕ} where
 
 -- ---- the steps pass exactly if the record holds
 module _ (n : ℕ) (starts rows : List ℕ) (values : List Float) where
-  pub diagonalSteps-sound : Sorted n starts rows → Passed (diagonalSteps n starts rows values) → Diagonals n starts rows values
+  pub diagonalSteps-sound : Sorted n starts rows → Passed (diagonalSteps (factorLists n starts rows values)) → Diagonals n starts rows values
   unfolding diagonalSteps
   diagonalSteps-sound R e = record { diagonal = one; positive = high }
     where
-      clear : Clear (diagonalSteps n starts rows values)
-      clear = passed-clear (diagonalSteps n starts rows values) e
+      clear : Clear (diagonalSteps (factorLists n starts rows values))
+      clear = passed-clear (diagonalSteps (factorLists n starts rows values)) e
 
       one : (c : ℕ) → c < n → Diagonal starts rows (nonzero values) c
       one c h = diagonal-one (nonzero values) R c h (any-below (noDiagonal starts rows (nonzero values)) n c (clear .0) h)
@@ -114,10 +114,10 @@ module _ (n : ℕ) (starts rows : List ℕ) (values : List Float) where
           let low = any-below (lowDiagonal starts rows values) n c (clear .1 .0) h in
           rw (diagonal-value values D) (rw k at (anyIn-below (nonPositive rows values c) _ _ (D .place) low (D .from) (D .below)))
 
-  pub diagonalSteps-passed : Diagonals n starts rows values → Passed (diagonalSteps n starts rows values)
+  pub diagonalSteps-passed : Diagonals n starts rows values → Passed (diagonalSteps (factorLists n starts rows values))
   unfolding diagonalSteps
   diagonalSteps-passed P =
-      clear-passed (diagonalSteps n starts rows values) (
+      clear-passed (diagonalSteps (factorLists n starts rows values)) (
         any-all (noDiagonal starts rows (nonzero values)) n (λ c h. diagonal-there (nonzero values) (P .diagonal c h)),
         (any-all (lowDiagonal starts rows values) n (λ c h. anyIn-all (nonPositive rows values c) _ _ (high c h)), tt),
       )
@@ -130,7 +130,7 @@ module _ (n : ℕ) (starts rows : List ℕ) (values : List Float) where
           go false t = refl
 
   -- a bad column refuses, none passes
-  pub diagonalSteps-refused : (c : ℕ) → c < n → badDiagonal starts rows values c ≡ true → verdict (diagonalSteps n starts rows values) ≡ refused 6
+  pub diagonalSteps-refused : (c : ℕ) → c < n → badDiagonal starts rows values c ≡ true → verdict (diagonalSteps (factorLists n starts rows values)) ≡ refused 6
   unfolding diagonalSteps badBetween
   diagonalSteps-refused c h t =
       ⊎-elim
@@ -139,15 +139,15 @@ module _ (n : ℕ) (starts rows : List ℕ) (values : List Float) where
       (or-cases (noDiagonal starts rows (nonzero values) c) (lowDiagonal starts rows values c) t)
     where
       go : (a : Bool) → any (noDiagonal starts rows (nonzero values)) n ≡ a → any (lowDiagonal starts rows values) n ≡ true
-          → verdict (diagonalSteps n starts rows values) ≡ refused 6
+          → verdict (diagonalSteps (factorLists n starts rows values)) ≡ refused 6
       go true p q = first-hit 6 _ tt p
       go false p q = first-skip 6 _ tt p (first-hit 6 [] tt q)
 
-  pub diagonalSteps-clear : any (badDiagonal starts rows values) n ≡ false → Passed (diagonalSteps n starts rows values)
+  pub diagonalSteps-clear : any (badDiagonal starts rows values) n ≡ false → Passed (diagonalSteps (factorLists n starts rows values))
   unfolding diagonalSteps badBetween
   diagonalSteps-clear e =
       let bad : (c : ℕ) → c < n → badDiagonal starts rows values c ≡ false = λ c h. any-below (badDiagonal starts rows values) n c e h in
-      clear-passed (diagonalSteps n starts rows values) (
+      clear-passed (diagonalSteps (factorLists n starts rows values)) (
         any-all (noDiagonal starts rows (nonzero values)) n (λ c h. or-neither-left _ _ (bad c h)),
         (any-all (lowDiagonal starts rows values) n (λ c h. or-neither-right (noDiagonal starts rows (nonzero values) c) _ (bad c h)), tt),
       )

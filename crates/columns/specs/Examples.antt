@@ -10,7 +10,7 @@ use Rattle.lists.specs.Test.{any, anyIn}
 use Rattle.lists.specs.Select.{select, picked}
 use Rattle.lists.specs.Sum.{sumTo}
 use Rattle.refusal.specs.Steps.{Passed, verdict, refused, first}
-use Rattle.columns.specs.Columns.{boundSteps, brokenSteps, startsSteps, rowsSteps, columnSteps}
+use Rattle.columns.specs.Columns.{factorLists, boundSteps, brokenSteps, startsSteps, rowsSteps, columnSteps}
 use Rattle.columns.specs.Kept.{f0, nonzero, diag, desc, pattern, keptPair, factorPairs}
 use Rattle.columns.specs.Stored.{finiteSteps, storedSteps, factorSteps}
 use Rattle.columns.specs.Diagonal.{diagonalSteps}
@@ -88,86 +88,86 @@ unfolding select picked ofInt ne ofBits factorPairs sumTo
 dropped-above = refl
 
 -- ---- steps 1, 2 and 3
-F2-passes : Passed (factorSteps 2 F2-starts F2-rows F2-values)
+F2-passes : Passed (factorSteps (factorLists 2 F2-starts F2-rows F2-values))
 unfolding first factorSteps boundSteps storedSteps columnSteps startsSteps brokenSteps rowsSteps finiteSteps any anyIn ofInt ofBits ne
 F2-passes = refl
 
-F3-passes : Passed (factorSteps 3 F3-starts F3-rows F3-values)
+F3-passes : Passed (factorSteps (factorLists 3 F3-starts F3-rows F3-values))
 unfolding first factorSteps boundSteps storedSteps columnSteps startsSteps brokenSteps rowsSteps finiteSteps any anyIn ofInt ofBits ne
 F3-passes = refl
 
 -- n = 0
-none-passes : Passed (factorSteps 0 (0 ∷ []) [] [])
+none-passes : Passed (factorSteps (factorLists 0 (0 ∷ []) [] []))
 unfolding first factorSteps boundSteps storedSteps columnSteps startsSteps brokenSteps rowsSteps finiteSteps any anyIn ofInt ofBits ne
 none-passes = refl
 
 -- n = 2,049, before all
-large : verdict (factorSteps 2049 [] [] []) ≡ refused 1
+large : verdict (factorSteps (factorLists 2049 [] [] [])) ≡ refused 1
 unfolding first factorSteps boundSteps
 large = refl
 
-starts-fall : verdict (factorSteps 2 (0 ∷ 4 ∷ 3 ∷ []) F2-rows F2-values) ≡ refused 2
+starts-fall : verdict (factorSteps (factorLists 2 (0 ∷ 4 ∷ 3 ∷ []) F2-rows F2-values)) ≡ refused 2
 unfolding first factorSteps boundSteps storedSteps columnSteps startsSteps brokenSteps rowsSteps any anyIn
 starts-fall = refl
 
-starts-short : verdict (factorSteps 2 (0 ∷ 3 ∷ []) F2-rows F2-values) ≡ refused 2
+starts-short : verdict (factorSteps (factorLists 2 (0 ∷ 3 ∷ []) F2-rows F2-values)) ≡ refused 2
 unfolding first factorSteps boundSteps storedSteps columnSteps startsSteps brokenSteps rowsSteps any anyIn
 starts-short = refl
 
 -- a value too few
-values-short : verdict (factorSteps 2 F2-starts F2-rows (whole 1 ∷ whole 2 ∷ [])) ≡ refused 2
+values-short : verdict (factorSteps (factorLists 2 F2-starts F2-rows (whole 1 ∷ whole 2 ∷ []))) ≡ refused 2
 unfolding first factorSteps boundSteps storedSteps columnSteps startsSteps brokenSteps rowsSteps any anyIn
 values-short = refl
 
-rows-fall : verdict (factorSteps 2 F2-starts (1 ∷ 0 ∷ 1 ∷ []) F2-values) ≡ refused 3
+rows-fall : verdict (factorSteps (factorLists 2 F2-starts (1 ∷ 0 ∷ 1 ∷ []) F2-values)) ≡ refused 3
 unfolding first factorSteps boundSteps storedSteps columnSteps startsSteps brokenSteps rowsSteps any anyIn
 rows-fall = refl
 
-rows-repeat : verdict (factorSteps 2 F2-starts (1 ∷ 1 ∷ 1 ∷ []) F2-values) ≡ refused 3
+rows-repeat : verdict (factorSteps (factorLists 2 F2-starts (1 ∷ 1 ∷ 1 ∷ []) F2-values)) ≡ refused 3
 unfolding first factorSteps boundSteps storedSteps columnSteps startsSteps brokenSteps rowsSteps any anyIn
 rows-repeat = refl
 
-rows-outside : verdict (factorSteps 2 F2-starts (0 ∷ 2 ∷ 1 ∷ []) F2-values) ≡ refused 3
+rows-outside : verdict (factorSteps (factorLists 2 F2-starts (0 ∷ 2 ∷ 1 ∷ []) F2-values)) ≡ refused 3
 unfolding first factorSteps boundSteps storedSteps columnSteps startsSteps brokenSteps rowsSteps any anyIn
 rows-outside = refl
 
 -- ---- step 18
-nan-diagonal : verdict (factorSteps 1 (0 ∷ 1 ∷ []) (0 ∷ []) (nan ∷ [])) ≡ refused 18
+nan-diagonal : verdict (factorSteps (factorLists 1 (0 ∷ 1 ∷ []) (0 ∷ []) (nan ∷ []))) ≡ refused 18
 unfolding first factorSteps boundSteps storedSteps columnSteps startsSteps brokenSteps rowsSteps finiteSteps any anyIn ofInt ofBits ne
 nan-diagonal = refl
 
-infinity-below : verdict (factorSteps 2 F2-starts F2-rows (whole 1 ∷ inf true ∷ whole 1 ∷ [])) ≡ refused 18
+infinity-below : verdict (factorSteps (factorLists 2 F2-starts F2-rows (whole 1 ∷ inf true ∷ whole 1 ∷ []))) ≡ refused 18
 unfolding first factorSteps boundSteps storedSteps columnSteps startsSteps brokenSteps rowsSteps finiteSteps any anyIn ofInt ofBits ne
 infinity-below = refl
 
 -- above the diagonal anything may stand
-nan-above : Passed (factorSteps 2 (0 ∷ 1 ∷ 3 ∷ []) (0 ∷ 0 ∷ 1 ∷ []) (whole 1 ∷ nan ∷ whole 1 ∷ []))
+nan-above : Passed (factorSteps (factorLists 2 (0 ∷ 1 ∷ 3 ∷ []) (0 ∷ 0 ∷ 1 ∷ []) (whole 1 ∷ nan ∷ whole 1 ∷ [])))
 unfolding first factorSteps boundSteps storedSteps columnSteps startsSteps brokenSteps rowsSteps finiteSteps any anyIn ofInt ofBits ne
 nan-above = refl
 
 -- a row outside in a later column comes first
-nan-rows-outside : verdict (factorSteps 2 F2-starts (0 ∷ 1 ∷ 2 ∷ []) (nan ∷ whole 2 ∷ whole 1 ∷ [])) ≡ refused 3
+nan-rows-outside : verdict (factorSteps (factorLists 2 F2-starts (0 ∷ 1 ∷ 2 ∷ []) (nan ∷ whole 2 ∷ whole 1 ∷ []))) ≡ refused 3
 unfolding first factorSteps boundSteps storedSteps columnSteps startsSteps brokenSteps rowsSteps any anyIn
 nan-rows-outside = refl
 
 -- ---- step 6
-F3-positive : Passed (diagonalSteps 3 F3-starts F3-rows F3-values)
+F3-positive : Passed (diagonalSteps (factorLists 3 F3-starts F3-rows F3-values))
 unfolding first diagonalSteps any anyIn ofInt ofBits ne le
 F3-positive = refl
 
-diagonal-zero : verdict (diagonalSteps 1 (0 ∷ 1 ∷ []) (0 ∷ []) (f0 ∷ [])) ≡ refused 6
+diagonal-zero : verdict (diagonalSteps (factorLists 1 (0 ∷ 1 ∷ []) (0 ∷ []) (f0 ∷ []))) ≡ refused 6
 unfolding first diagonalSteps any anyIn ofInt ofBits ne le
 diagonal-zero = refl
 
-diagonal-negative : verdict (diagonalSteps 1 (0 ∷ 1 ∷ []) (0 ∷ []) (ofInt binary64 (negsuc 0) ∷ [])) ≡ refused 6
+diagonal-negative : verdict (diagonalSteps (factorLists 1 (0 ∷ 1 ∷ []) (0 ∷ []) (ofInt binary64 (negsuc 0) ∷ []))) ≡ refused 6
 unfolding first diagonalSteps any anyIn ofInt ofBits ne le
 diagonal-negative = refl
 
-diagonal-absent : verdict (diagonalSteps 2 (0 ∷ 1 ∷ 2 ∷ []) (1 ∷ 1 ∷ []) (whole 1 ∷ whole 1 ∷ [])) ≡ refused 6
+diagonal-absent : verdict (diagonalSteps (factorLists 2 (0 ∷ 1 ∷ 2 ∷ []) (1 ∷ 1 ∷ []) (whole 1 ∷ whole 1 ∷ []))) ≡ refused 6
 unfolding first diagonalSteps any anyIn ofInt ofBits ne le
 diagonal-absent = refl
 
-diagonal-nan : Passed (diagonalSteps 1 (0 ∷ 1 ∷ []) (0 ∷ []) (nan ∷ []))
+diagonal-nan : Passed (diagonalSteps (factorLists 1 (0 ∷ 1 ∷ []) (0 ∷ []) (nan ∷ [])))
 unfolding first diagonalSteps any anyIn ofInt ofBits ne le
 diagonal-nan = refl
 

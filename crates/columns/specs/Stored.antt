@@ -10,7 +10,7 @@ use lib.Ieee.Scale.{finite}
 use borrow.Author.Tests.{not-false}
 use Rattle.lists.specs.Test.{any, anyIn, any-below, any-all, anyIn-below, anyIn-all}
 use Rattle.refusal.specs.Steps.{Step, Passed, passed-clear, clear-passed, passed-append, passed-front, passed-back}
-use Rattle.columns.specs.Columns.{start, value, boundSteps, columnSteps}
+use Rattle.columns.specs.Columns.{FactorLists, start, value, boundSteps, columnSteps}
 use Rattle.columns.specs.Kept.{nonzero, notFinite, kept}
 use Rattle.columns.specs.Factor.{FactorBounded, Factor, boundSteps-sound, boundSteps-passed, columnSteps-sound, columnSteps-passed}
 
@@ -27,12 +27,12 @@ unfoldable pub finiteSteps : ℕ → List ℕ → List ℕ → List Float → Li
 finiteSteps n starts rows values = (18, any (notFiniteColumn starts rows values) n) ∷ []
 
 -- 2, 3 and 18 of a factor
-unfoldable pub storedSteps : ℕ → List ℕ → List ℕ → List Float → List Step
-storedSteps n starts rows values = columnSteps n starts rows (length values) ++ finiteSteps n starts rows values
+unfoldable pub storedSteps : FactorLists Float → List Step
+storedSteps f = columnSteps (f .n) (f .starts) (f .rows) (length (f .values)) ++ finiteSteps (f .n) (f .starts) (f .rows) (f .values)
 
 -- 1, 2, 3 and 18 of a factor
-unfoldable pub factorSteps : ℕ → List ℕ → List ℕ → List Float → List Step
-factorSteps n starts rows values = boundSteps n (length rows) ++ storedSteps n starts rows values
+unfoldable pub factorSteps : FactorLists Float → List Step
+factorSteps f = boundSteps (f .n) (length (f .rows)) ++ storedSteps f
 
 -- past 18: each kept entry is finite
 pub record FiniteEntries (n : ℕ) (starts rows : List ℕ) (values : List Float) : Type 0 where
@@ -64,45 +64,46 @@ module _ (n : ℕ) (starts rows : List ℕ) (values : List Float) where
           by-kept true k = ap not (E .finite-kept c p h lo hi k)
           by-kept false k = refl
 
+module _ (f : FactorLists Float) where
   abbrev columns : List Step
-  columns = columnSteps n starts rows (length values)
+  columns = columnSteps (f .n) (f .starts) (f .rows) (length (f .values))
 
   abbrev finites : List Step
-  finites = finiteSteps n starts rows values
+  finites = finiteSteps (f .n) (f .starts) (f .rows) (f .values)
 
-  pub storedSteps-sound : Passed (storedSteps n starts rows values) → Factor n starts rows (length values)
+  pub storedSteps-sound : Passed (storedSteps f) → Factor (f .n) (f .starts) (f .rows) (length (f .values))
   unfolding storedSteps
-  storedSteps-sound e = columnSteps-sound n starts rows (length values) (passed-front columns finites e)
+  storedSteps-sound e = columnSteps-sound (f .n) (f .starts) (f .rows) (length (f .values)) (passed-front columns finites e)
 
-  pub storedSteps-finite : Passed (storedSteps n starts rows values) → FiniteEntries n starts rows values
+  pub storedSteps-finite : Passed (storedSteps f) → FiniteEntries (f .n) (f .starts) (f .rows) (f .values)
   unfolding storedSteps
-  storedSteps-finite e = finiteSteps-sound (passed-back columns finites e)
+  storedSteps-finite e = finiteSteps-sound (f .n) (f .starts) (f .rows) (f .values) (passed-back columns finites e)
 
-  pub storedSteps-passed : Factor n starts rows (length values) → FiniteEntries n starts rows values → Passed (storedSteps n starts rows values)
+  pub storedSteps-passed : Factor (f .n) (f .starts) (f .rows) (length (f .values)) → FiniteEntries (f .n) (f .starts) (f .rows) (f .values) → Passed (storedSteps f)
   unfolding storedSteps
-  storedSteps-passed F E = passed-append columns finites (columnSteps-passed n starts rows (length values) F) (finiteSteps-passed E)
+  storedSteps-passed F E = passed-append columns finites (columnSteps-passed (f .n) (f .starts) (f .rows) (length (f .values)) F) (finiteSteps-passed (f .n) (f .starts) (f .rows) (f .values) E)
 
   abbrev bounds : List Step
-  bounds = boundSteps n (length rows)
+  bounds = boundSteps (f .n) (length (f .rows))
 
   abbrev stored : List Step
-  stored = storedSteps n starts rows values
+  stored = storedSteps f
 
-  pub factorSteps-bounded : Passed (factorSteps n starts rows values) → FactorBounded n (length rows)
+  pub factorSteps-bounded : Passed (factorSteps f) → FactorBounded (f .n) (length (f .rows))
   unfolding factorSteps
-  factorSteps-bounded e = boundSteps-sound n (length rows) (passed-front bounds stored e)
+  factorSteps-bounded e = boundSteps-sound (f .n) (length (f .rows)) (passed-front bounds stored e)
 
-  pub factorSteps-stored : Passed (factorSteps n starts rows values) → Passed (storedSteps n starts rows values)
+  pub factorSteps-stored : Passed (factorSteps f) → Passed (storedSteps f)
   unfolding factorSteps
   factorSteps-stored e = passed-back bounds stored e
 
-  pub factorSteps-sound : Passed (factorSteps n starts rows values) → Factor n starts rows (length values)
+  pub factorSteps-sound : Passed (factorSteps f) → Factor (f .n) (f .starts) (f .rows) (length (f .values))
   factorSteps-sound e = storedSteps-sound (factorSteps-stored e)
 
-  pub factorSteps-finite : Passed (factorSteps n starts rows values) → FiniteEntries n starts rows values
+  pub factorSteps-finite : Passed (factorSteps f) → FiniteEntries (f .n) (f .starts) (f .rows) (f .values)
   factorSteps-finite e = storedSteps-finite (factorSteps-stored e)
 
-  pub factorSteps-passed : FactorBounded n (length rows) → Factor n starts rows (length values) → FiniteEntries n starts rows values
-      → Passed (factorSteps n starts rows values)
+  pub factorSteps-passed : FactorBounded (f .n) (length (f .rows)) → Factor (f .n) (f .starts) (f .rows) (length (f .values)) → FiniteEntries (f .n) (f .starts) (f .rows) (f .values)
+      → Passed (factorSteps f)
   unfolding factorSteps
-  factorSteps-passed B F E = passed-append bounds stored (boundSteps-passed n (length rows) B) (storedSteps-passed F E)
+  factorSteps-passed B F E = passed-append bounds stored (boundSteps-passed (f .n) (length (f .rows)) B) (storedSteps-passed F E)

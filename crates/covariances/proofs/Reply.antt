@@ -17,7 +17,7 @@ use Rattle.closed_set.specs.Size.{closureSize-most}
 use Rattle.closed_set.specs.FactorPattern.{factor-pattern}
 use Rattle.entries.specs.Entries.{entryValues}
 use Rattle.layout.specs.Position.{Positioned}
-use Rattle.selection.specs.Selection.{Selection, Lent, roomOf, scratchWords, selectedSet, selectedSize, selectedComplete, selectedTable}
+use Rattle.selection.specs.Selection.{Selection, Lent, roomOf, scratchWords, selectedSet, selectedSize, selectedComplete, selectedTable, lists, fillingOf}
 use Rattle.selection.specs.Selection.{ResultLists, complete-values}
 use Rattle.quadratic_form.specs.RowValue.{operatorsValues}
 use Rattle.operator_values.specs.Reading.{placed, OperatorsReading}
@@ -33,36 +33,36 @@ module _ (x : CovarianceCall) (lent : Lent) (output : List Float) where
 
   -- ---- within the limit, with the scratch still to clear
   module _ (passed : Passed steps) {rs rr : List ℕ} {rv : List Float} (mid : List ℕ)
-      (L : ResultLists steps sel lent rs rr rv (cleared (scratchWords (x .n)) mid))
+      (L : ResultLists steps (fillingOf sel) lent (lists rs rr rv (cleared (scratchWords (x .factor .n)) mid)))
       (A : AcceptedCovariances x (roomOf lent) (length output)) (complete : selectedComplete sel ≡ true)
-      (P : Positioned (x .n) (selectedSet sel) mid) where
+      (P : Positioned (x .factor .n) (selectedSet sel) mid) where
     abbrev pat : ℕ → List ℕ
-    pat = pattern (x .starts) (x .rows) (nonzero (x .values))
+    pat = pattern (x .factor .starts) (x .factor .rows) (nonzero (x .factor .values))
 
     within : selectedSize sel ≤ sel .limit
     within = leb-true _ _ complete
 
     values-fit : selectedSize sel ≤ length (lent .resultValues)
-    values-fit = omega (arith, within, closureSize-most (x .n) pat (sel .requests), A .accepted .values-room)
+    values-fit = omega (arith, within, closureSize-most (x .factor .n) pat (sel .requests), A .accepted .values-room)
 
     holds : Holds (sel .requests) (selectedSet sel)
-    holds = member-holds (x .n) pat (sel .requests) (factor-pattern (nonzero (x .values)) (A .accepted .factor)) (A .accepted .requests)
+    holds = member-holds (x .factor .n) pat (sel .requests) (factor-pattern (nonzero (x .factor .values)) (A .accepted .factor)) (A .accepted .requests)
 
-    values-are : rv ≡ overwrite (entryValues (x .n) (selectedSet sel) (selectedTable sel)) (lent .resultValues)
-    values-are = complete-values steps sel lent passed L complete
+    values-are : rv ≡ overwrite (entryValues (x .factor .n) (selectedSet sel) (selectedTable sel)) (lent .resultValues)
+    values-are = complete-values steps (fillingOf sel) lent passed L complete
 
     pub covariance-reading : length mid ≡ length (lent .scratch)
-        → OperatorsReading (x .n) (x .a .rowStarts) (x .a .columns) (length (x .a .weights)) (x .b .rowStarts) (x .b .columns) (length (x .b .weights)) (x .aRows) (x .bRows)
+        → OperatorsReading (x .factor .n) (x .a .rowStarts) (x .a .columns) (length (x .a .weights)) (x .b .rowStarts) (x .b .columns) (length (x .b .weights)) (x .aRows) (x .bRows)
         mid (length rv) (length output)
     covariance-reading long =
         rw values-are
-        (filled-pairs-reading (x .n) (selectedSet sel) (selectedTable sel) mid (lent .resultValues) values-fit P
+        (filled-pairs-reading (x .factor .n) (selectedSet sel) (selectedTable sel) mid (lent .resultValues) values-fit P
         (x .a .rowStarts) (x .a .columns) (x .a .weights) (x .b .rowStarts) (x .b .columns) (x .b .weights) (x .aRows) (x .bRows)
-        (A .operators) holds (length output) (A .accepted .small) (omega (arith, scratchWords-room (x .n) (A .accepted .scratch-room))) (A .room))
+        (A .operators) holds (length output) (A .accepted .small) (omega (arith, scratchWords-room (x .factor .n) (A .accepted .scratch-room))) (A .room))
 
-    pub covariance-written : operatorsValues (x .a .rowStarts) (x .a .columns) (x .a .weights) (x .b .rowStarts) (x .b .columns) (x .b .weights) (x .aRows) (x .bRows) (placed (x .n) mid rv) ≡ covarianceValues x
+    pub covariance-written : operatorsValues (x .a .rowStarts) (x .a .columns) (x .a .weights) (x .b .rowStarts) (x .b .columns) (x .b .weights) (x .aRows) (x .bRows) (placed (x .factor .n) mid rv) ≡ covarianceValues x
     covariance-written =
-        ap (λ (v : List Float). operatorsValues (x .a .rowStarts) (x .a .columns) (x .a .weights) (x .b .rowStarts) (x .b .columns) (x .b .weights) (x .aRows) (x .bRows) (placed (x .n) mid v)) values-are
-        ∙ filled-pairs-values (x .n) (selectedSet sel) (selectedTable sel) mid (lent .resultValues) values-fit P
+        ap (λ (v : List Float). operatorsValues (x .a .rowStarts) (x .a .columns) (x .a .weights) (x .b .rowStarts) (x .b .columns) (x .b .weights) (x .aRows) (x .bRows) (placed (x .factor .n) mid v)) values-are
+        ∙ filled-pairs-values (x .factor .n) (selectedSet sel) (selectedTable sel) mid (lent .resultValues) values-fit P
         (x .a .rowStarts) (x .a .columns) (x .a .weights) (x .b .rowStarts) (x .b .columns) (x .b .weights) (x .aRows) (x .bRows)
         (A .operators) holds

@@ -12,7 +12,7 @@ use Rattle.lists.specs.Test.{any-below}
 use Rattle.refusal.specs.Bounds.{maxEntries}
 use Rattle.refusal.specs.Steps.{Step, Passed, passed-clear, passed-front, passed-back}
 use Rattle.refusal.specs.Groups.{grouped, AllPassed, groups-passed}
-use Rattle.columns.specs.Columns.{outsideAt, outside, boundSteps}
+use Rattle.columns.specs.Columns.{FactorLists, factorLists, outsideAt, outside, boundSteps}
 use Rattle.columns.specs.Factor.{boundSteps-sound}
 use Rattle.columns.specs.Stored.{storedSteps}
 use Rattle.columns.specs.Operator.{operatorRows, operatorBoundSteps, operatorSteps, operatorSteps-sound}
@@ -32,10 +32,7 @@ pub record Operator : Type 0 where
 
 -- what a call is handed to read: a factor, operators a and b in factor order, and the rows of each row pair
 pub record CovarianceCall : Type 0 where
-  pub n : ℕ
-  pub starts : List ℕ
-  pub rows : List ℕ
-  pub values : List Float
+  pub factor : FactorLists Float
   pub a : Operator
   pub b : Operator
   pub aRows : List ℕ
@@ -46,14 +43,14 @@ operator ncols rowStarts columns weights = record { ncols = ncols; rowStarts = r
 
 -- a call, from a function's parameters in their order
 abbrev pub covarianceCall : ℕ → List ℕ → List ℕ → List Float → Operator → Operator → List ℕ → List ℕ → CovarianceCall
-covarianceCall n starts rows values a b aRows bRows = record { n = n; starts = starts; rows = rows; values = values; a = a; b = b; aRows = aRows; bRows = bRows }
+covarianceCall n starts rows values a b aRows bRows = record { factor = factorLists n starts rows values; a = a; b = b; aRows = aRows; bRows = bRows }
 
 module _ (x : CovarianceCall) where
   -- the requests are every column of the one row with every column of the other, for each row pair; the limit is the default one
   abbrev pub covarianceSelection : Selection
   covarianceSelection =
-      selection (x .n) (x .starts) (x .rows) (x .values) (crossRequested (x .a .rowStarts) (x .a .columns) (x .b .rowStarts) (x .b .columns) (x .aRows) (x .bRows))
-      (defaultLimit (x .rows))
+      selection (x .factor) (crossRequested (x .a .rowStarts) (x .a .columns) (x .b .rowStarts) (x .b .columns) (x .aRows) (x .bRows))
+      (defaultLimit (x .factor .rows))
 
   -- 1: too many row pairs, counted by a's list
   abbrev pub pairBoundSteps : List Step
@@ -62,11 +59,11 @@ module _ (x : CovarianceCall) where
   -- 1 of the factor, of either operator and of the row pairs
   abbrev pub covarianceBounds : List Step
   covarianceBounds =
-      boundSteps (x .n) (length (x .rows)) ++ (operatorBoundSteps (x .a .rowStarts) (x .a .columns) ++ (operatorBoundSteps (x .b .rowStarts) (x .b .columns) ++ pairBoundSteps))
+      boundSteps (x .factor .n) (length (x .factor .rows)) ++ (operatorBoundSteps (x .a .rowStarts) (x .a .columns) ++ (operatorBoundSteps (x .b .rowStarts) (x .b .columns) ++ pairBoundSteps))
 
   -- 4: an operator's columns are not n, or the row pairs' lists are of unequal length
   abbrev pub countSteps : List Step
-  countSteps = (4, not (eqb (x .a .ncols) (x .n))) ∷ (4, not (eqb (x .b .ncols) (x .n))) ∷ (4, not (eqb (length (x .aRows)) (length (x .bRows)))) ∷ []
+  countSteps = (4, not (eqb (x .a .ncols) (x .factor .n))) ∷ (4, not (eqb (x .b .ncols) (x .factor .n))) ∷ (4, not (eqb (length (x .aRows)) (length (x .bRows)))) ∷ []
 
   -- 9: a row pair outside either operator
   abbrev pub rowSteps : List Step
@@ -75,7 +72,7 @@ module _ (x : CovarianceCall) where
   -- 9 of either operator and of the row pairs
   abbrev pub operatorsSteps : List Step
   operatorsSteps =
-      operatorSteps (x .n) (x .a .rowStarts) (x .a .columns) (length (x .a .weights)) ++ (operatorSteps (x .n) (x .b .rowStarts) (x .b .columns) (length (x .b .weights)) ++ rowSteps)
+      operatorSteps (x .factor .n) (x .a .rowStarts) (x .a .columns) (length (x .a .weights)) ++ (operatorSteps (x .factor .n) (x .b .rowStarts) (x .b .columns) (length (x .b .weights)) ++ rowSteps)
 
   -- 7: an output below the number of row pairs
   abbrev pub outputSteps : ℕ → List Step
@@ -85,10 +82,10 @@ module _ (x : CovarianceCall) where
   abbrev pub covarianceGroups : Room → ℕ → List (List Step)
   covarianceGroups lengths output =
       covarianceBounds
-      ∷ storedSteps (x .n) (x .starts) (x .rows) (x .values)
+      ∷ storedSteps (x .factor)
       ∷ countSteps
       ∷ operatorsSteps
-      ∷ fillSteps (x .n) (x .starts) (x .rows) (x .values) (defaultLimit (x .rows)) lengths
+      ∷ fillSteps (x .factor) (defaultLimit (x .factor .rows)) lengths
       ∷ outputSteps output
       ∷ []
 
@@ -101,7 +98,7 @@ module _ (x : CovarianceCall) where
       operatorsValues (x .a .rowStarts) (x .a .columns) (x .a .weights) (x .b .rowStarts) (x .b .columns) (x .b .weights) (x .aRows) (x .bRows) (selectedTable covarianceSelection)
 
 -- the reply and the lists of a call; either status carries the diagnosis
-abbrev pub Covariances : CovarianceCall → Lent → List Float → Selected → List ℕ → List ℕ → List Float → List ℕ → List Float → Type 0
+abbrev pub Covariances : CovarianceCall → Lent → List Float → Selected → Lent → List Float → Type 0
 Covariances x lent output = SelectedOutput (covarianceSteps x (roomOf lent) (length output)) (covarianceSelection x) (covarianceValues x) lent output
 
 -- ---- a call that passed
@@ -109,8 +106,7 @@ Covariances x lent output = SelectedOutput (covarianceSteps x (roomOf lent) (len
 -- what it has
 pub record AcceptedCovariances (x : CovarianceCall) (lengths : Room) (output : ℕ) : Type 0 where
   pub accepted : Accepted (covarianceSelection x) lengths
-  pub few : length (x .rows) ≤ maxEntries
-  pub operators : OperatorPairs (x .n) (x .a .rowStarts) (x .a .columns) (length (x .a .weights)) (x .b .rowStarts) (x .b .columns) (length (x .b .weights)) (x .aRows) (x .bRows)
+  pub operators : OperatorPairs (x .factor .n) (x .a .rowStarts) (x .a .columns) (length (x .a .weights)) (x .b .rowStarts) (x .b .columns) (length (x .b .weights)) (x .aRows) (x .bRows)
   pub room : length (x .aRows) ≤ output
 
 module _ (x : CovarianceCall) (lengths : Room) (output : ℕ) (p : Passed (covarianceSteps x lengths output)) where
@@ -119,23 +115,23 @@ module _ (x : CovarianceCall) (lengths : Room) (output : ℕ) (p : Passed (covar
   passed = groups-passed (covarianceGroups x lengths output) p
 
   abbrev aSteps : List Step
-  aSteps = operatorSteps (x .n) (x .a .rowStarts) (x .a .columns) (length (x .a .weights))
+  aSteps = operatorSteps (x .factor .n) (x .a .rowStarts) (x .a .columns) (length (x .a .weights))
 
   abbrev bSteps : List Step
-  bSteps = operatorSteps (x .n) (x .b .rowStarts) (x .b .columns) (length (x .b .weights))
+  bSteps = operatorSteps (x .factor .n) (x .b .rowStarts) (x .b .columns) (length (x .b .weights))
 
   pub covariance-accepted : AcceptedCovariances x lengths output
   covariance-accepted =
-      let bounds = boundSteps (x .n) (length (x .rows)) in
-      let B = boundSteps-sound (x .n) (length (x .rows)) (passed-front bounds _ (passed .0)) in
+      let bounds = boundSteps (x .factor .n) (length (x .factor .rows)) in
+      let B = boundSteps-sound (x .factor .n) (length (x .factor .rows)) (passed-front bounds _ (passed .0)) in
       let C = passed-clear (countSteps x) (passed .1 .1 .0) in
       let nine = passed .1 .1 .1 .0 in
       let later = passed-back aSteps (bSteps ++ rowSteps x) nine in
       let R = passed-clear (rowSteps x) (passed-back bSteps (rowSteps x) later) in
-      let O : OperatorPairs (x .n) (x .a .rowStarts) (x .a .columns) (length (x .a .weights)) (x .b .rowStarts) (x .b .columns) (length (x .b .weights)) (x .aRows) (x .bRows) =
+      let O : OperatorPairs (x .factor .n) (x .a .rowStarts) (x .a .columns) (length (x .a .weights)) (x .b .rowStarts) (x .b .columns) (length (x .b .weights)) (x .aRows) (x .bRows) =
       record {
-        first = operatorSteps-sound (x .n) (x .a .rowStarts) (x .a .columns) (length (x .a .weights)) (passed-front aSteps _ nine);
-        second = operatorSteps-sound (x .n) (x .b .rowStarts) (x .b .columns) (length (x .b .weights)) (passed-front bSteps _ later);
+        first = operatorSteps-sound (x .factor .n) (x .a .rowStarts) (x .a .columns) (length (x .a .weights)) (passed-front aSteps _ nine);
+        second = operatorSteps-sound (x .factor .n) (x .b .rowStarts) (x .b .columns) (length (x .b .weights)) (passed-front bSteps _ later);
         paired = eqb-true _ _ (not-false _ (C .1 .1 .0));
         inside = λ q l. leb-false _ _ (any-below (outsideAt (operatorRows (x .a .rowStarts)) (x .aRows)) (length (x .aRows)) q (R .0) l);
         inside₂ = λ q l.
@@ -144,7 +140,6 @@ module _ (x : CovarianceCall) (lengths : Room) (output : ℕ) (p : Passed (covar
       } in
       record {
         accepted = fill-accepted (covarianceSelection x) lengths B (passed .1 .0) (crossRequested-ranged O) (passed .1 .1 .1 .1 .0);
-        few = B .few;
         operators = O;
         room = ltb-false _ _ (passed-clear (outputSteps x output) (passed .1 .1 .1 .1 .1 .0) .0);
       }

@@ -24,7 +24,7 @@ use Rattle.diagnostics.specs.declared.SelectedInverseDiagnostics.{SelectedInver
 use Rattle.diagnostics.specs.declared.SelectedInverseStatus.the-variants.{Complete}
 use Rattle.diagnostics.specs.declared.Selected.{Selected}
 use Rattle.diagnostics.specs.Selected.{selectedReplyOf}
-use Rattle.selection.specs.Selection.{Selection, Lent, roomOf, selectedAnswer, selectedTable, ResultLists}
+use Rattle.selection.specs.Selection.{Selection, Lent, roomOf, selectedAnswer, selectedTable, ResultLists, fillingOf}
 use Rattle.exact_entries.specs.ExactEntries.{ExactCall, ReadsBack, exact-entries, exact-either, exact-symmetric}
 use Rattle.request_marks.specs.CrossRequests.{cross-requested}
 use Rattle.quadratic_form.specs.RowValue.{columnAt, operatorsValue, operatorsValues}
@@ -42,7 +42,7 @@ placeCount o i = start (o .rowStarts) (i + 1) - start (o .rowStarts) i
 
 -- the same call with the operators exchanged
 abbrev pub exchanged : CovarianceCall → CovarianceCall
-exchanged x = record { n = x .n; starts = x .starts; rows = x .rows; values = x .values; a = x .b; b = x .a; aRows = x .bRows; bRows = x .aRows }
+exchanged x = record { factor = x .factor; a = x .b; b = x .a; aRows = x .bRows; bRows = x .aRows }
 
 module _ (x : CovarianceCall) where
   -- the rows of row pair p
@@ -66,13 +66,13 @@ module _ (x : CovarianceCall) where
         (firstPlace (x .a) (aRow p)) (placeCount (x .a) (aRow p)) (firstPlace (x .b) (bRow p)) (placeCount (x .b) (bRow p))
 
   -- X is what reads back, and wᵀXv what the output holds for each row pair in the exact case
-  pub record CovariancesExact (rs rr : List ℕ) (rv out : List Float) (X : Matrix) : Type 0 where
-    pub reads : ReadsBack (covarianceSelection x) rs rr rv X
+  pub record CovariancesExact (left : Lent) (out : List Float) (X : Matrix) : Type 0 where
+    pub reads : ReadsBack (covarianceSelection x) left X
     pub covariances : selectedAnswer (covarianceSelection x) .status ≡ Complete → (p : ℕ) → p < length (x .aRows) → (v u : ℕ → ℤ) → ExactPair v u X p
         → Whole (getD out p nan) (exactCovariance v u X p)
 
 module _ (x : CovarianceCall) (lent : Lent) (output : List Float) (passed : Passed (covarianceSteps x (roomOf lent) (length output)))
-    (whole : ℕ → List (Entry ℤ)) (E : ExactCall (covarianceSelection x) whole) (X : Matrix) (is : WholeInverse (x .n) (factor ones whole) X) where
+    (whole : ℕ → List (Entry ℤ)) (E : ExactCall (covarianceSelection x) whole) (X : Matrix) (is : WholeInverse (x .factor .n) (factor ones whole) X) where
   abbrev steps : List Step
   steps = covarianceSteps x (roomOf lent) (length output)
 
@@ -104,8 +104,8 @@ module _ (x : CovarianceCall) (lent : Lent) (output : List Float) (passed : Pass
       ∙ overwrite-at (covarianceValues x) output p nan (omega (arith, tabulate-length pairValue (length (x .aRows))))
       ∙ tabulate-at pairValue (length (x .aRows)) p nan l
 
-  pub covariance-exact : {rs rr : List ℕ} {rv : List Float} {s : List ℕ} → ResultLists steps sel lent rs rr rv s
-      → CovariancesExact x rs rr rv (outputAfter steps sel (covarianceValues x) output) X
+  pub covariance-exact : {left : Lent} → ResultLists steps (fillingOf sel) lent left
+      → CovariancesExact x left (outputAfter steps sel (covarianceValues x) output) X
   covariance-exact L = record {
     reads = exact-entries sel lent (A .accepted) whole E X is steps passed L;
     covariances = λ e p l v u P.
@@ -131,9 +131,9 @@ module _ (x : CovarianceCall) (lent : Lent) (output : List Float) (passed : Pass
       (O .first .inside (firstPlace (x .a) (aRow x p) + i) (omega arith)) (O .second .inside (firstPlace (x .b) (bRow x p) + j) (omega arith)))
 
 -- ---- of a reply
-module _ (x : CovarianceCall) (lent : Lent) (output : List Float) {reply : Selected} {rs rr : List ℕ} {rv : List Float} {s : List ℕ} {out : List Float}
-    (C : Covariances x lent output reply rs rr rv s out) {d : SelectedInverseDiagnostics} (answer : selectedReplyOf reply ≡ answered d)
-    (whole : ℕ → List (Entry ℤ)) (E : ExactCall (covarianceSelection x) whole) (X : Matrix) (is : WholeInverse (x .n) (factor ones whole) X) where
+module _ (x : CovarianceCall) (lent : Lent) (output : List Float) {reply : Selected} {left : Lent} {out : List Float}
+    (C : Covariances x lent output reply left out) {d : SelectedInverseDiagnostics} (answer : selectedReplyOf reply ≡ answered d)
+    (whole : ℕ → List (Entry ℤ)) (E : ExactCall (covarianceSelection x) whole) (X : Matrix) (is : WholeInverse (x .factor .n) (factor ones whole) X) where
   abbrev checks : List Step
   checks = covarianceSteps x (roomOf lent) (length output)
 
@@ -141,8 +141,8 @@ module _ (x : CovarianceCall) (lent : Lent) (output : List Float) {reply : Selec
   all = told-passed checks (selectedAnswer (covarianceSelection x)) (sym answer ∙ C .replies)
 
   -- demand 3, of the reply: d is the diagnosis, X is what reads back, and the output holds each row pair's wᵀXv
-  pub covariance-exact-reply : (d ≡ selectedAnswer (covarianceSelection x)) × CovariancesExact x rs rr rv out X
+  pub covariance-exact-reply : (d ≡ selectedAnswer (covarianceSelection x)) × CovariancesExact x left out X
   covariance-exact-reply = (
     told-answer checks (selectedAnswer (covarianceSelection x)) (sym answer ∙ C .replies),
-    subst (λ (o : List Float). CovariancesExact x rs rr rv o X) (sym (C .output-is)) (covariance-exact x lent output all whole E X is (C .left)),
+    subst (λ (o : List Float). CovariancesExact x left o X) (sym (C .output-is)) (covariance-exact x lent output all whole E X is (C .lists-are)),
   )

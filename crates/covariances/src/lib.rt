@@ -41,7 +41,7 @@ pub fn selected_inverse_transformed_covariances(
         (operator «b_ncols» (now («b_row_starts» .entry)) (now («b_columns» .entry)) (now («b_weights» .entry)))
         (now («a_rows» .entry)) (now («b_rows» .entry)))
         (lists (now («result_starts» .entry)) (now («result_rows» .entry)) (now («result_values» .entry)) (now (scratch .entry))) (now (output .entry)) r
-        (now («result_starts» .exit)) (now («result_rows» .exit)) (now («result_values» .exit)) (now (scratch .exit)) (now (output .exit)) ⌝ }
+        (lists (now («result_starts» .exit)) (now («result_rows» .exit)) (now («result_values» .exit)) (now (scratch .exit))) (now (output .exit)) ⌝ }
 {
     match check_covariances(
         n,

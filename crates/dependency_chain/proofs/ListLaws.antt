@@ -76,7 +76,7 @@ module _ (x : ChainCall) (scratch rows columns : List ℕ) where
 
   -- past the checks the chain is listed and the scratch cleared
   pub chain-listed : {reply : Reply ℕ} {scratch′ rows′ columns′ : List ℕ} → Passed (askedSteps x (length scratch)) → Listed (chainTo x) rows columns reply rows′ columns′
-      → scratch′ ≡ cleared (chainWords (x .n)) scratch
+      → scratch′ ≡ cleared (chainWords (x .factor .n)) scratch
       → ChainListed x scratch rows columns reply scratch′ rows′ columns′
   unfolding chainSteps
   chain-listed p L e = record {
@@ -100,11 +100,11 @@ module _ (x : ChainCall) (scratch rows columns : List ℕ) where
 
 -- the pair put in order
 pub listed-at : (x : ChainCall) {r c : ℕ} {rows columns rows′ columns′ : List ℕ} {reply : Reply ℕ} → r ≡ max (x .row) (x .column) → c ≡ min (x .row) (x .column)
-    → Listed (chainOf (x .n) (pattern (x .starts) (x .rows) (nonzero (x .values))) (requested (x .requestRows) (x .requestColumns)) r c) rows columns reply rows′ columns′
+    → Listed (chainOf (x .factor .n) (pattern (x .factor .starts) (x .factor .rows) (nonzero (x .factor .values))) (requested (x .requestRows) (x .requestColumns)) r c) rows columns reply rows′ columns′
     → Listed (chainTo x) rows columns reply rows′ columns′
 listed-at x {r} {c} {rows} {columns} {rows′} {columns′} {reply} e q L =
     subst₂
-    (λ (i j : ℕ). Listed (chainOf (x .n) (pattern (x .starts) (x .rows) (nonzero (x .values))) (requested (x .requestRows) (x .requestColumns)) i j) rows columns reply rows′ columns′)
+    (λ (i j : ℕ). Listed (chainOf (x .factor .n) (pattern (x .factor .starts) (x .factor .rows) (nonzero (x .factor .values))) (requested (x .requestRows) (x .requestColumns)) i j) rows columns reply rows′ columns′)
     e q L
 
 -- ---- a chain looked for through the levels

@@ -10,7 +10,7 @@ use Rattle.lists.specs.Overwrite.{overwrite, cleared}
 use Rattle.refusal.specs.Steps.{Step, Reply, first, after}
 use Rattle.refusal.specs.Groups.{grouped}
 use Rattle.pairs.specs.Pair.{pairTotal}
-use Rattle.columns.specs.Columns.{boundSteps}
+use Rattle.columns.specs.Columns.{FactorLists, factorLists, boundSteps}
 use Rattle.columns.specs.Stored.{storedSteps}
 use Rattle.columns.specs.Diagonal.{diagonalSteps}
 use Rattle.columns.specs.Kept.{nonzero, pattern}
@@ -21,10 +21,7 @@ use Rattle.levels.specs.Written.{rowsOf, columnsOf}
 
 -- what a call is handed to read: a factor, two lists of requests with their dimension, and a pair
 pub record ChainCall : Type 0 where
-  pub n : ℕ
-  pub starts : List ℕ
-  pub rows : List ℕ
-  pub values : List Float
+  pub factor : FactorLists Float
   pub dimension : ℕ
   pub requestRows : List ℕ
   pub requestColumns : List ℕ
@@ -34,10 +31,7 @@ pub record ChainCall : Type 0 where
 -- a call, from a function's parameters in their order
 abbrev pub chainCall : ℕ → List ℕ → List ℕ → List Float → ℕ → List ℕ → List ℕ → ℕ → ℕ → ChainCall
 chainCall n starts rows values dimension requestRows requestColumns row column = record {
-  n = n;
-  starts = starts;
-  rows = rows;
-  values = values;
+  factor = factorLists n starts rows values;
   dimension = dimension;
   requestRows = requestRows;
   requestColumns = requestColumns;
@@ -61,16 +55,16 @@ module _ (x : ChainCall) where
   -- the chain to the pair, row and column exchanged if row < column; no pairs where it is not in the closed set of the requests
   abbrev pub chainTo : List (ℕ × ℕ)
   chainTo =
-      chainOf (x .n) (pattern (x .starts) (x .rows) (nonzero (x .values))) (requested (x .requestRows) (x .requestColumns)) (max (x .row) (x .column)) (min (x .row) (x .column))
+      chainOf (x .factor .n) (pattern (x .factor .starts) (x .factor .rows) (nonzero (x .factor .values))) (requested (x .requestRows) (x .requestColumns)) (max (x .row) (x .column)) (min (x .row) (x .column))
 
   -- 1 of the factor and of the requests; 2, 3 and 18; 4 and 5; 6; 7 of the scratch and 5 of the pair
   abbrev pub askedGroups : ℕ → List (List Step)
   askedGroups scratch =
-      (boundSteps (x .n) (length (x .rows)) ++ requestBoundSteps (length (x .requestRows)))
-      ∷ storedSteps (x .n) (x .starts) (x .rows) (x .values)
-      ∷ requestSteps (x .n) (x .dimension) (x .requestRows) (x .requestColumns)
-      ∷ diagonalSteps (x .n) (x .starts) (x .rows) (x .values)
-      ∷ seekSteps (x .n) scratch (x .row) (x .column)
+      (boundSteps (x .factor .n) (length (x .factor .rows)) ++ requestBoundSteps (length (x .requestRows)))
+      ∷ storedSteps (x .factor)
+      ∷ requestSteps (x .factor .n) (x .dimension) (x .requestRows) (x .requestColumns)
+      ∷ diagonalSteps (x .factor)
+      ∷ seekSteps (x .factor .n) scratch (x .row) (x .column)
       ∷ []
 
   -- what is refused before the chain is looked for
@@ -90,6 +84,6 @@ pub record Listed (chain : List (ℕ × ℕ)) (chainRows chainColumns : List ℕ
 -- the reply and the lists: the scratch is cleared wherever the chain was looked for, the chain is written to the front of its lists
 pub record ChainListed (x : ChainCall) (scratch chainRows chainColumns : List ℕ) (reply : Reply ℕ) (scratch′ chainRows′ chainColumns′ : List ℕ) : Type 0 where
   pub answer : reply ≡ first (chainSteps x (length scratch) (length chainRows) (length chainColumns)) (length (chainTo x))
-  pub scratch-after : scratch′ ≡ after (askedSteps x (length scratch)) (cleared (chainWords (x .n)) scratch) scratch
+  pub scratch-after : scratch′ ≡ after (askedSteps x (length scratch)) (cleared (chainWords (x .factor .n)) scratch) scratch
   pub rows-after : chainRows′ ≡ after (chainSteps x (length scratch) (length chainRows) (length chainColumns)) (overwrite (rowsOf (chainTo x)) chainRows) chainRows
   pub columns-after : chainColumns′ ≡ after (chainSteps x (length scratch) (length chainRows) (length chainColumns)) (overwrite (columnsOf (chainTo x)) chainColumns) chainColumns

@@ -43,17 +43,17 @@ pub record SeekInput (n : ℕ) (starts rows : List ℕ) (values : ℕ) (requestR
 
 -- the steps pass only for a call that has this
 pub asked-accepted : (x : ChainCall) (s : List ℕ) → Passed (askedSteps x (length s))
-    → SeekInput (x .n) (x .starts) (x .rows) (length (x .values)) (x .requestRows) (x .requestColumns) (max (x .row) (x .column)) (min (x .row) (x .column)) s
+    → SeekInput (x .factor .n) (x .factor .starts) (x .factor .rows) (length (x .factor .values)) (x .requestRows) (x .requestColumns) (max (x .row) (x .column)) (min (x .row) (x .column)) s
 unfolding askedSteps seekSteps
 asked-accepted x s p =
     let g = groups-passed (askedGroups x (length s)) p in
-    let k = passed-clear (seekSteps (x .n) (length s) (x .row) (x .column)) (g .1 .1 .1 .1 .0) in
-    let a = leb-false (x .n) (x .row) (k .1 .0) in
-    let b = leb-false (x .n) (x .column) (k .1 .1 .0) in
+    let k = passed-clear (seekSteps (x .factor .n) (length s) (x .row) (x .column)) (g .1 .1 .1 .1 .0) in
+    let a = leb-false (x .factor .n) (x .row) (k .1 .0) in
+    let b = leb-false (x .factor .n) (x .column) (k .1 .1 .0) in
     record {
-      small = boundSteps-sound (x .n) (length (x .rows)) (passed-front (boundSteps (x .n) (length (x .rows))) (requestBoundSteps (length (x .requestRows))) (g .0)) .small;
-      factor = storedSteps-sound (x .n) (x .starts) (x .rows) (x .values) (g .1 .0);
-      requests = requestSteps-sound (x .n) (x .dimension) (x .requestRows) (x .requestColumns) (g .1 .1 .0);
+      small = boundSteps-sound (x .factor .n) (length (x .factor .rows)) (passed-front (boundSteps (x .factor .n) (length (x .factor .rows))) (requestBoundSteps (length (x .requestRows))) (g .0)) .small;
+      factor = storedSteps-sound (x .factor) (g .1 .0);
+      requests = requestSteps-sound (x .factor .n) (x .dimension) (x .requestRows) (x .requestColumns) (g .1 .1 .0);
       ordered = omega arith;
       inside = omega (arith, a, b);
       room = ltb-false _ _ (k .0);
@@ -67,24 +67,24 @@ chainWords-levels n = omega arith
 -- what the answer means, of a call that is not refused before the chain is looked for
 module _ (x : ChainCall) (s : List ℕ) (p : Passed (askedSteps x (length s))) where
   abbrev desc : ℕ → List ℕ
-  desc = pattern (x .starts) (x .rows) (nonzero (x .values))
+  desc = pattern (x .factor .starts) (x .factor .rows) (nonzero (x .factor .values))
 
   abbrev req : ℕ → ℕ → Bool
   req = requested (x .requestRows) (x .requestColumns)
 
-  asked-pattern : Pattern (x .n) desc
-  asked-pattern = factor-pattern (nonzero (x .values)) (asked-accepted x s p .factor)
+  asked-pattern : Pattern (x .factor .n) desc
+  asked-pattern = factor-pattern (nonzero (x .factor .values)) (asked-accepted x s p .factor)
 
-  asked-ranged : Ranged (x .n) req
-  asked-ranged = requested-ranged (x .requestRows) (x .requestColumns) (x .n) (asked-accepted x s p .requests)
+  asked-ranged : Ranged (x .factor .n) req
+  asked-ranged = requested-ranged (x .requestRows) (x .requestColumns) (x .factor .n) (asked-accepted x s p .requests)
 
   -- of a pair of the closed set: a chain, none is shorter, and going back from the end it is lower than any other as short
   pub asked-shown : Needed desc req (max (x .row) (x .column)) (min (x .row) (x .column))
       → Shown desc req (chainTo x) (max (x .row) (x .column)) (min (x .row) (x .column))
-  asked-shown needed = chain-shown (x .n) desc req asked-pattern asked-ranged needed
+  asked-shown needed = chain-shown (x .factor .n) desc req asked-pattern asked-ranged needed
 
   -- no pairs exactly if it is not in the set
   pub asked-none : (chainTo x ≡ []) ↔ (Needed desc req (max (x .row) (x .column)) (min (x .row) (x .column)) → ⊥)
   asked-none =
       let I = asked-accepted x s p in
-      chain-empty (x .n) desc req asked-pattern asked-ranged (max (x .row) (x .column)) (min (x .row) (x .column)) (I .ordered) (I .inside)
+      chain-empty (x .factor .n) desc req asked-pattern asked-ranged (max (x .row) (x .column)) (min (x .row) (x .column)) (I .ordered) (I .inside)

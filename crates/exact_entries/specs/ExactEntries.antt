@@ -10,7 +10,7 @@ use mathlib.Core.List.{List}
 use lib.IntN.{ℤ, pos}
 use lib.Ieee.{Float}
 use Rattle.refusal.specs.Steps.{Step, refused, answered, Passed}
-use Rattle.columns.specs.Kept.{nonzero, pattern, desc}
+use Rattle.columns.specs.Kept.{desc}
 use Rattle.columns.specs.Form.{Form, cholesky, pivoted, divisor}
 use Rattle.closed_set.specs.ClosedSet.{needed-range}
 use Rattle.integers.specs.Integer.{pos-nonzero}
@@ -25,27 +25,27 @@ use Rattle.exact.specs.ExactCase.{ones, WithinBound, unit-has-inverse, exact-ca
 use Rattle.exact.specs.PivotCase.{pivot-case}
 use Rattle.entries.specs.Entries.{belowStep, diagonalStep}
 use Rattle.diagnostics.specs.declared.SelectedInverseStatus.the-variants.{Complete}
-use Rattle.selection.specs.Selection.{Selection, Lent, roomOf, Accepted, selectedSize, selectedAnswer, selectedTable, ResultLists}
+use Rattle.selection.specs.Selection.{Selection, selectedPattern, fillingOf, Lent, roomOf, Accepted, selectedSize, selectedAnswer, selectedTable, ResultLists}
 use Rattle.selection.specs.Call.{Call, selectionOf, selectedSteps, accepted}
 use Rattle.entries.specs.Descendants.{desc-ascend}
 use Rattle.exact_entries.specs.Columns.{desc-descends, alike-ascend, alike-each, needed-closed}
 use Rattle.exact_entries.specs.Recurrence.{Selected, found, selected-pattern, table-recurs, reads-recurrence}
 
 module _ (x : Selection) where
-  -- all diagonals of L, or with pivots all these, are 1, the other kept entries are the whole numbers `whole`, and no product, sum or entry of the exact recurrence over the closed set
-  -- is beyond 2 ^ 53
+  -- every kept diagonal of L is 1, or, where pivots are given, every pivot is; the other kept entries are the whole numbers `whole`; and no product, sum or
+  -- entry of the exact recurrence over the closed set is beyond 2 ^ 53
   pub record ExactCall (whole : ℕ → List (Entry ℤ)) : Type 0 where
-    pub diagonals : (j : ℕ) → j < x .n → Whole (divisor (x .n) (x .starts) (x .rows) (x .values) (x .form) j) (pos 1)
-    pub entries : (j : ℕ) → j < x .n → Alike 0 (desc (x .starts) (x .rows) (x .values) j) (whole j)
-    pub within : WithinBound (x .n) whole (Selected x)
+    pub diagonals : (j : ℕ) → j < x .factor .n → Whole (divisor (x .factor .n) (x .factor .starts) (x .factor .rows) (x .factor .values) (x .form) j) (pos 1)
+    pub entries : (j : ℕ) → j < x .factor .n → Alike 0 (desc (x .factor .starts) (x .factor .rows) (x .factor .values) j) (whole j)
+    pub within : WithinBound (x .factor .n) whole (Selected x)
 
   -- X is what reads back: Complete exactly when the set is within the limit; then each pair of the set as a number equal to X's, every other pair as absent
-  pub record ReadsBack (starts rows : List ℕ) (values : List Float) (X : Matrix) : Type 0 where
+  pub record ReadsBack (left : Lent) (X : Matrix) : Type 0 where
     pub complete : (selectedAnswer x .status ≡ Complete) ↔ (selectedSize x ≤ x .limit)
     pub members : selectedAnswer x .status ≡ Complete → (row col : ℕ) → Selected x (max row col) (min row col)
-        → (v : Float) × (found x starts rows values row col ≡ answered v) × Whole v (X row col)
+        → (v : Float) × (found x left row col ≡ answered v) × Whole v (X row col)
     pub others : selectedAnswer x .status ≡ Complete → (row col : ℕ) → (Selected x (max row col) (min row col) → ⊥)
-        → found x starts rows values row col ≡ refused 8
+        → found x left row col ≡ refused 8
 
 -- a table that solves the recurrence of either form has the inverse's entries
 exact-table : (form : Form) (n : ℕ) (starts rows : List ℕ) (values : List Float) (whole : ℕ → List (Entry ℤ)) → ((j : ℕ) → j < n → Ascend n (suc j) (whole j))
@@ -61,35 +61,35 @@ exact-table (pivoted pivots) n starts rows values whole ascend In closed within 
 -- ---- an accepted selection in the exact case
 module _ (x : Selection) (lent : Lent) (A : Accepted x (roomOf lent)) (whole : ℕ → List (Entry ℤ)) (E : ExactCall x whole) where
   abbrev pat : ℕ → List ℕ
-  pat = pattern (x .starts) (x .rows) (nonzero (x .values))
+  pat = selectedPattern x
 
-  ascend : (j : ℕ) → j < x .n → Ascend (x .n) (suc j) (whole j)
-  ascend j jn = alike-ascend 0 (x .n) (suc j) (desc (x .starts) (x .rows) (x .values) j) (whole j) (E .entries j jn) (desc-ascend (x .values) (A .factor) j jn)
+  ascend : (j : ℕ) → j < x .factor .n → Ascend (x .factor .n) (suc j) (whole j)
+  ascend j jn = alike-ascend 0 (x .factor .n) (suc j) (desc (x .factor .starts) (x .factor .rows) (x .factor .values) j) (whole j) (E .entries j jn) (desc-ascend (x .factor .values) (A .factor) j jn)
 
-  closed : RecurrenceClosed (x .n) whole (Selected x)
+  closed : RecurrenceClosed (x .factor .n) whole (Selected x)
   closed =
-      needed-closed (x .n) pat (x .requests) (selected-pattern x lent A) (A .requests) whole ascend
-      (λ j jn. alike-each 0 _ (desc (x .starts) (x .rows) (x .values) j) (whole j) (E .entries j jn) (desc-descends (x .values) (A .factor) j jn))
+      needed-closed (x .factor .n) pat (x .requests) (selected-pattern x lent A) (A .requests) whole ascend
+      (λ j jn. alike-each 0 _ (desc (x .factor .starts) (x .factor .rows) (x .factor .values) j) (whole j) (E .entries j jn) (desc-descends (x .factor .values) (A .factor) j jn))
 
   -- L * Lᵀ has an inverse in whole numbers
-  pub exact-inverse : (X : Matrix) × WholeInverse (x .n) (factor ones whole) X
-  exact-inverse = unit-has-inverse (x .n) whole ascend
+  pub exact-inverse : (X : Matrix) × WholeInverse (x .factor .n) (factor ones whole) X
+  exact-inverse = unit-has-inverse (x .factor .n) whole ascend
 
-  module _ (X : Matrix) (is : WholeInverse (x .n) (factor ones whole) X) where
+  module _ (X : Matrix) (is : WholeInverse (x .factor .n) (factor ones whole) X) where
     -- an entry of the set is X's
     pub exact-at : (i j : ℕ) → Selected x i j → Whole (selectedTable x i j) (X i j)
     exact-at i j p =
-        exact-table (x .form) (x .n) (x .starts) (x .rows) (x .values) whole ascend (Selected x) closed (E .within) X is (E .diagonals) (E .entries)
+        exact-table (x .form) (x .factor .n) (x .factor .starts) (x .factor .rows) (x .factor .values) whole ascend (Selected x) closed (E .within) X is (E .diagonals) (E .entries)
         (selectedTable x) (table-recurs x lent A) i j p
 
     -- X is symmetric
-    pub exact-symmetric : (i j : ℕ) → i < x .n → j < x .n → X i j ≡ X j i
+    pub exact-symmetric : (i j : ℕ) → i < x .factor .n → j < x .factor .n → X i j ≡ X j i
     exact-symmetric =
-        inverse-symmetric (x .n) (pos 1) (pos-nonzero 1 (zero-lt-suc 0)) (factor ones whole)
-        (factor-triangular (x .n) ones whole ascend (λ j jn. pos-nonzero 1 (zero-lt-suc 0))) X 1
-        (whole-inverse (x .n) (factor ones whole) X is)
+        inverse-symmetric (x .factor .n) (pos 1) (pos-nonzero 1 (zero-lt-suc 0)) (factor ones whole)
+        (factor-triangular (x .factor .n) ones whole ascend (λ j jn. pos-nonzero 1 (zero-lt-suc 0))) X 1
+        (whole-inverse (x .factor .n) (factor ones whole) X is)
 
-    exchanged : (row col : ℕ) → max row col < x .n → X (max row col) (min row col) ≡ X row col
+    exchanged : (row col : ℕ) → max row col < x .factor .n → X (max row col) (min row col) ≡ X row col
     exchanged row col h = elim (decLe col row) [
       | yes l ↦
           let a : max row col ≡ row = omega arith in
@@ -104,12 +104,12 @@ module _ (x : Selection) (lent : Lent) (A : Accepted x (roomOf lent)) (whole : �
     -- read at either order of the indices
     pub exact-either : (row col : ℕ) → Selected x (max row col) (min row col) → Whole (at (selectedTable x) row col) (X row col)
     exact-either row col p =
-        subst (Whole (at (selectedTable x) row col)) (exchanged row col (needed-range pat (x .requests) (x .n) (selected-pattern x lent A) (A .requests) p .1))
+        subst (Whole (at (selectedTable x) row col)) (exchanged row col (needed-range pat (x .requests) (x .factor .n) (selected-pattern x lent A) (A .requests) p .1))
         (exact-at (max row col) (min row col) p)
 
     -- the exact case of every call that fills result lists: X, any inverse of L * Lᵀ, is what reads back
-    pub exact-entries : (steps : List Step) → Passed steps → {rs rr : List ℕ} {rv : List Float} {s : List ℕ} → ResultLists steps x lent rs rr rv s
-        → ReadsBack x rs rr rv X
+    pub exact-entries : (steps : List Step) → Passed steps → {left : Lent} → ResultLists steps (fillingOf x) lent left
+        → ReadsBack x left X
     exact-entries steps passed L =
         let R = reads-recurrence x lent A steps passed L in
         record {
@@ -120,7 +120,7 @@ module _ (x : Selection) (lent : Lent) (A : Accepted x (roomOf lent)) (whole : �
 
 -- ---- selected entries, with any limit: demand 3
 module _ (x : Call) (lent : Lent) (passed : Passed (selectedSteps x (roomOf lent))) (whole : ℕ → List (Entry ℤ)) (E : ExactCall (selectionOf x) whole) where
-  pub exact-call : (X : Matrix) → WholeInverse (x .n) (factor ones whole) X → {rs rr : List ℕ} {rv : List Float} {s : List ℕ}
-      → ResultLists (selectedSteps x (roomOf lent)) (selectionOf x) lent rs rr rv s → ReadsBack (selectionOf x) rs rr rv X
+  pub exact-call : (X : Matrix) → WholeInverse (x .factor .n) (factor ones whole) X → {left : Lent}
+      → ResultLists (selectedSteps x (roomOf lent)) (fillingOf (selectionOf x)) lent left → ReadsBack (selectionOf x) left X
   exact-call X is L =
       exact-entries (selectionOf x) lent (accepted x (roomOf lent) passed) whole E X is (selectedSteps x (roomOf lent)) passed L

@@ -5,15 +5,15 @@ use Prim.Native.Nat.{ℕ, _+_, _-_, _≤_, _<_, max, min}
 use native.Mathlib.Omega.{arith}
 use native.Mathlib.Nat.{le-refl}
 use native.Mathlib.Decide.{decLt, decLe}
-use mathlib.Core.Path.{_≡_, refl, sym, ap, _∙_}
+use mathlib.Core.Path.{_≡_, refl, sym, ap, subst, _∙_}
 use mathlib.Core.Bool.{Bool, true, false, cond, _&&_}
 use mathlib.Core.List.{List}
 use lib.Dec.{ltb}
-use lib.ListN.{length, getD}
+use lib.ListN.{length, getD, take}
 use borrow.Author.Tests.{lt-ltb, le-ltb}
 use Rattle.lists.specs.Overwrite.{overwrite, overwrite-length, overwrite-at}
 use Rattle.lists.specs.Tabulate.{tabulate-at}
-use Rattle.refusal.specs.Steps.{Reply, refused, answered}
+use Rattle.refusal.specs.Steps.{Step, Reply, refused, answered, Passed}
 use Rattle.pairs.specs.ColumnOrder.{setSize}
 use Rattle.columns.specs.Columns.{start, row}
 use Rattle.columns.specs.Factor.{Column}
@@ -23,6 +23,8 @@ use Rattle.result.specs.Lookup.{dimension, lookupOf, WellFormed}
 use Rattle.result.specs.Laws.{lookup-ordered, lookup-at, lookup-absent, lookup-outside}
 use Rattle.entries.specs.Entries.{columnCount, position, entryStarts, entryRows, entryValues, entryStarts-length, entryRows-length, entryValues-length}
 use Rattle.entries.specs.Position.{columnCount-mono, position-first, position-in, position-rises, position-found, entryRows-at, entryValues-at}
+use Rattle.selection.specs.Selection.{LentOf, Filling, ListsAfter, passed-starts, complete-rows, complete-values}
+use Rattle.selection.specs.SamePositions.{front-starts}
 
 -- (row, col), exchanged if row < col, is a pair of the set
 abbrev pub covered : ℕ → (ℕ → ℕ → Bool) → ℕ → ℕ → Bool
@@ -141,3 +143,30 @@ module _ {A : Type 0} (n : ℕ) (S : ℕ → ℕ → Bool) (Z : ℕ → ℕ → 
         lookup-outside blank starts rows′ values′ filled-result row col (omega (arith, dimension-is))
         ∙ ap (λ (b : Bool). cond (b && S (max row col) (min row col)) (answered (at Z row col)) (refused 8)) (sym (le-ltb (max row col) n (omega arith)))
   ]
+
+-- ---- the lists that a call within the limit leaves
+module _ {A : Type 0} (blank : A) (f : Filling A) (lent : LentOf A) (rows-fit : setSize (f .n) (f .set) ≤ length (lent .resultRows))
+    (values-fit : setSize (f .n) (f .set) ≤ length (lent .resultValues)) (steps : List Step) (passed : Passed steps) {leaving : List Step} {left : LentOf A}
+    (L : ListsAfter steps leaving f lent left) (complete : f .complete ≡ true) where
+  -- a fact of the set's lists is one of them
+  left-are : (Q : List ℕ → List ℕ → List A → Type 0)
+      → Q (entryStarts (f .n) (f .set)) (overwrite (entryRows (f .n) (f .set)) (lent .resultRows)) (overwrite (entryValues (f .n) (f .set) (f .table)) (lent .resultValues))
+      → Q (take (f .n + 1) (left .resultStarts)) (left .resultRows) (left .resultValues)
+  left-are Q q =
+      subst (λ (l : List ℕ). Q l (left .resultRows) (left .resultValues))
+      (sym (ap (take (f .n + 1)) (passed-starts steps f lent passed L) ∙ front-starts f lent complete))
+      (subst (λ (l : List ℕ). Q (entryStarts (f .n) (f .set)) l (left .resultValues)) (sym (complete-rows steps f lent passed L complete))
+      (subst (Q (entryStarts (f .n) (f .set)) (overwrite (entryRows (f .n) (f .set)) (lent .resultRows))) (sym (complete-values steps f lent passed L complete)) q))
+
+  -- they are well formed
+  pub result-left : WellFormed (take (f .n + 1) (left .resultStarts)) (left .resultRows) (length (left .resultValues))
+  result-left =
+      left-are (λ s r v. WellFormed s r (length v))
+      (filled-result (f .n) (f .set) (f .table) blank (lent .resultRows) (lent .resultValues) rows-fit values-fit)
+
+  -- and the lookup in them finds the set's entries, and no other
+  pub lookup-left : (row col : ℕ)
+      → lookupOf blank (take (f .n + 1) (left .resultStarts)) (left .resultRows) (left .resultValues) row col ≡ readBack (f .n) (f .set) (f .table) row col
+  lookup-left row col =
+      left-are (λ s r v. lookupOf blank s r v row col ≡ readBack (f .n) (f .set) (f .table) row col)
+      (lookup-filled (f .n) (f .set) (f .table) blank (lent .resultRows) (lent .resultValues) rows-fit values-fit row col)

@@ -7,7 +7,7 @@ pub mod starts;
 ghost use mathlib.Core.Path.{_≡_};
 ghost use Rattle.refusal.specs.Steps.{verdict};
 ghost use Rattle.refusal.specs.Refusal.{replyOf};
-ghost use Rattle.columns.specs.Columns.{columnSteps};
+ghost use Rattle.columns.specs.Columns.{columnSteps, factorLists};
 ghost use Rattle.columns.specs.Stored.{storedSteps, factorSteps};
 use bounds::check_bounds;
 use finite::check_finite;
@@ -27,7 +27,7 @@ pub fn check_columns(n: usize, starts: &[u32], rows: &[u32], values: usize) -> C
 
 // Steps 2, 3 and 18 of a factor.
 pub fn check_stored(n: usize, starts: &[u32], rows: &[u32], values: &[f64]) -> Checked
-    ensures { λ r. ⌜ replyOf r ≡ verdict (storedSteps n (now (starts .entry)) (now (rows .entry)) (now (values .entry))) ⌝ }
+    ensures { λ r. ⌜ replyOf r ≡ verdict (storedSteps (factorLists n (now (starts .entry)) (now (rows .entry)) (now (values .entry)))) ⌝ }
 {
     match check_columns(n, starts, rows, values.len()) {
         Checked::Refused(why) => Checked::Refused(why),
@@ -37,7 +37,7 @@ pub fn check_stored(n: usize, starts: &[u32], rows: &[u32], values: &[f64]) -> C
 
 // Steps 1, 2, 3 and 18 of a factor.
 pub fn check_factor(n: usize, starts: &[u32], rows: &[u32], values: &[f64]) -> Checked
-    ensures { λ r. ⌜ replyOf r ≡ verdict (factorSteps n (now (starts .entry)) (now (rows .entry)) (now (values .entry))) ⌝ }
+    ensures { λ r. ⌜ replyOf r ≡ verdict (factorSteps (factorLists n (now (starts .entry)) (now (rows .entry)) (now (values .entry)))) ⌝ }
 {
     match check_bounds(n, rows.len()) {
         Checked::Refused(why) => Checked::Refused(why),

@@ -2,6 +2,7 @@
 ghost use mathlib.Core.Path.{_≡_};
 ghost use Prim.Native.Nat.{_≤_};
 ghost use lib.ListN.{length};
+ghost use Rattle.columns.specs.Columns.{factorLists};
 ghost use Rattle.lists.specs.Overwrite.{cleared};
 ghost use Rattle.refusal.specs.Bounds.{maxDimension};
 ghost use Rattle.columns.specs.Form.{cholesky};
@@ -31,11 +32,11 @@ pub fn fill_lists(
     result_values: &mut [f64],
     scratch: &mut [u32],
 ) -> SelectedInverseDiagnostics
-    requires { ⌜ FillInput cholesky n (now starts) (now rows) (now values) «requested_pairs» limit
+    requires { ⌜ FillInput cholesky (factorLists n (now starts) (now rows) (now values)) «requested_pairs» limit
         (lists (now «result_starts») (now «result_rows») (now «result_values») (now scratch)) ⌝ }
-    ensures { λ d. ⌜ FillsLists cholesky n (now (starts .entry)) (now (rows .entry)) (now (values .entry)) limit
+    ensures { λ d. ⌜ FillsLists cholesky (factorLists n (now (starts .entry)) (now (rows .entry)) (now (values .entry))) limit
         (lists (now («result_starts» .entry)) (now («result_rows» .entry)) (now («result_values» .entry)) (now (scratch .entry))) d
-        (now («result_starts» .exit)) (now («result_rows» .exit)) (now («result_values» .exit)) (now (scratch .exit)) ⌝ }
+        (lists (now («result_starts» .exit)) (now («result_rows» .exit)) (now («result_values» .exit)) (now (scratch .exit))) ⌝ }
 {
     let kept_pairs = factor_pairs(n, starts, rows, values);
     let wholes: [i64; 1] = [0; 1];
@@ -95,11 +96,11 @@ pub fn fill_entries(
     result_values: &mut [f64],
     scratch: &mut [u32],
 ) -> SelectedInverseDiagnostics
-    requires { ⌜ FillInput cholesky n (now starts) (now rows) (now values) «requested_pairs» limit
+    requires { ⌜ FillInput cholesky (factorLists n (now starts) (now rows) (now values)) «requested_pairs» limit
         (lists (now «result_starts») (now «result_rows») (now «result_values») (now scratch)) ⌝ }
-    ensures { λ d. ⌜ Fills cholesky n (now (starts .entry)) (now (rows .entry)) (now (values .entry)) limit
+    ensures { λ d. ⌜ Fills cholesky (factorLists n (now (starts .entry)) (now (rows .entry)) (now (values .entry))) limit
         (lists (now («result_starts» .entry)) (now («result_rows» .entry)) (now («result_values» .entry)) (now (scratch .entry))) d
-        (now («result_starts» .exit)) (now («result_rows» .exit)) (now («result_values» .exit)) (now (scratch .exit)) ⌝ }
+        (lists (now («result_starts» .exit)) (now («result_rows» .exit)) (now («result_values» .exit)) (now (scratch .exit))) ⌝ }
 {
     let diagnosis = fill_lists(
         n,

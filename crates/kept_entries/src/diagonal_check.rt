@@ -1,6 +1,7 @@
 // The diagonals of a factor that passes 1, 2 and 3: refusal 6.
 ghost use mathlib.Core.Path.{_≡_};
 ghost use lib.ListN.{length};
+ghost use Rattle.columns.specs.Columns.{factorLists};
 ghost use Rattle.refusal.specs.Steps.{verdict};
 ghost use Rattle.refusal.specs.Refusal.{replyOf};
 ghost use Rattle.columns.specs.Factor.{Factor, Column};
@@ -28,7 +29,7 @@ fn bad_diagonal(c: usize, rows: &[u32], values: &[f64], s: usize, e: usize) -> b
 // Step 6.
 pub fn check_diagonals(n: usize, starts: &[u32], rows: &[u32], values: &[f64]) -> Checked
     requires { ⌜ Factor n (now starts) (now rows) (length (now values)) ⌝ }
-    ensures { λ r. ⌜ replyOf r ≡ verdict (diagonalSteps n (now (starts .entry)) (now (rows .entry)) (now (values .entry))) ⌝ }
+    ensures { λ r. ⌜ replyOf r ≡ verdict (diagonalSteps (factorLists n (now (starts .entry)) (now (rows .entry)) (now (values .entry)))) ⌝ }
 {
     let mut c = 0;
     while c < n {

@@ -15,7 +15,7 @@ use Rattle.diagnostics.specs.declared.SelectedInverseStatus.the-variants.{Compl
 use Rattle.diagnostics.specs.declared.Selected.{Selected}
 use Rattle.diagnostics.specs.declared.Selected.the-variants.{Answered, Refused}
 use Rattle.diagnostics.specs.Selected.{selectedReplyOf}
-use Rattle.selection.specs.Selection.{Selection, Lent, scratchWords, selectedComplete, selectedAnswer, ResultLists, lists-refused}
+use Rattle.selection.specs.Selection.{Selection, Lent, lists, scratchWords, selectedComplete, selectedAnswer, fillingOf, ResultLists, lists-refused}
 use Rattle.selection.specs.Status.{selected-complete}
 
 -- the output afterwards: the values at its front, if the call passes its steps and the set is within the limit
@@ -24,18 +24,18 @@ outputAfter steps sel values output = after steps (cond (selectedComplete sel) (
 
 -- the reply and the lists of a call with these steps, this selection and these values
 pub record SelectedOutput (steps : List Step) (sel : Selection) (values : List Float) (lent : Lent) (output : List Float) (reply : Selected)
-    (starts rows : List ℕ) (resultValues : List Float) (scratch : List ℕ) (out : List Float) : Type 0 where
+    (left : Lent) (out : List Float) : Type 0 where
   pub replies : selectedReplyOf reply ≡ first steps (selectedAnswer sel)
-  pub left : ResultLists steps sel lent starts rows resultValues scratch
+  pub lists-are : ResultLists steps (fillingOf sel) lent left
   pub output-is : out ≡ outputAfter steps sel values output
 
 module _ (steps : List Step) (sel : Selection) (values : List Float) (lent : Lent) (output : List Float) where
   -- ---- refused
   pub output-refused : {why : Refusal} → verdict steps ≡ refused (refusalNumber why)
-      → SelectedOutput steps sel values lent output (Refused why) (lent .resultStarts) (lent .resultRows) (lent .resultValues) (lent .scratch) output
+      → SelectedOutput steps sel values lent output (Refused why) lent output
   output-refused e = record {
     replies = sym (first-refused steps _ (selectedAnswer sel) e);
-    left = lists-refused steps sel lent e;
+    lists-are = lists-refused steps (fillingOf sel) lent e;
     output-is = sym (after-refused steps _ _ output e);
   }
 
@@ -51,19 +51,19 @@ module _ (steps : List Step) (sel : Selection) (values : List Float) (lent : Len
     after-complete e = after-within (le-leb _ _ (selected-complete sel .0 e))
 
     -- ---- the lists as they were filled, with the scratch still to clear
-    module _ {rs rr : List ℕ} {rv : List Float} (mid : List ℕ) (L : ResultLists steps sel lent rs rr rv (cleared (scratchWords (sel .n)) mid))
-        {d : SelectedInverseDiagnostics} (answer : d ≡ selectedAnswer sel) {s : List ℕ} (clear : s ≡ cleared (scratchWords (sel .n)) mid) where
+    module _ {rs rr : List ℕ} {rv : List Float} (mid : List ℕ) (L : ResultLists steps (fillingOf sel) lent (lists rs rr rv (cleared (scratchWords (sel .factor .n)) mid)))
+        {d : SelectedInverseDiagnostics} (answer : d ≡ selectedAnswer sel) {s : List ℕ} (clear : s ≡ cleared (scratchWords (sel .factor .n)) mid) where
       reply : answered d ≡ first steps (selectedAnswer sel)
       reply = ap (λ (y : SelectedInverseDiagnostics). answered y) answer ∙ sym (first-passed steps (selectedAnswer sel) passed)
 
-      left-is : ResultLists steps sel lent rs rr rv s
+      left-is : ResultLists steps (fillingOf sel) lent (lists rs rr rv s)
       left-is = rw clear L
 
       -- the set is beyond the limit
-      pub output-large : selectedComplete sel ≡ false → SelectedOutput steps sel values lent output (Answered d) rs rr rv s output
-      output-large large = record { replies = reply; left = left-is; output-is = sym (after-large large) }
+      pub output-large : selectedComplete sel ≡ false → SelectedOutput steps sel values lent output (Answered d) (lists rs rr rv s) output
+      output-large large = record { replies = reply; lists-are = left-is; output-is = sym (after-large large) }
 
       -- the set is within the limit, and the values were written
       pub output-within : selectedComplete sel ≡ true → {out : List Float} → out ≡ overwrite values output
-          → SelectedOutput steps sel values lent output (Answered d) rs rr rv s out
-      output-within within written = record { replies = reply; left = left-is; output-is = written ∙ sym (after-within within) }
+          → SelectedOutput steps sel values lent output (Answered d) (lists rs rr rv s) out
+      output-within within written = record { replies = reply; lists-are = left-is; output-is = written ∙ sym (after-within within) }

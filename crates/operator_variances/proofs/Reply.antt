@@ -17,7 +17,7 @@ use Rattle.closed_set.specs.Size.{closureSize-most}
 use Rattle.closed_set.specs.FactorPattern.{factor-pattern}
 use Rattle.entries.specs.Entries.{entryValues}
 use Rattle.layout.specs.Position.{Positioned}
-use Rattle.selection.specs.Selection.{Selection, Lent, roomOf, scratchWords, selectedSet, selectedSize, selectedComplete, selectedTable}
+use Rattle.selection.specs.Selection.{Selection, Lent, roomOf, scratchWords, selectedSet, selectedSize, selectedComplete, selectedTable, lists, fillingOf}
 use Rattle.selection.specs.Selection.{ResultLists, complete-values}
 use Rattle.request_marks.specs.OperatorRequests.{operatorRequested}
 use Rattle.quadratic_form.specs.RowValue.{operatorValues}
@@ -34,33 +34,33 @@ module _ (x : TransformedCall) (lent : Lent) (output : List Float) where
 
   -- ---- within the limit, with the scratch still to clear
   module _ (passed : Passed steps) {rs rr : List ℕ} {rv : List Float} (mid : List ℕ)
-      (L : ResultLists steps sel lent rs rr rv (cleared (scratchWords (x .n)) mid))
+      (L : ResultLists steps (fillingOf sel) lent (lists rs rr rv (cleared (scratchWords (x .factor .n)) mid)))
       (A : AcceptedTransformed x (roomOf lent) (length output)) (complete : selectedComplete sel ≡ true)
-      (P : Positioned (x .n) (selectedSet sel) mid) where
+      (P : Positioned (x .factor .n) (selectedSet sel) mid) where
     abbrev pat : ℕ → List ℕ
-    pat = pattern (x .starts) (x .rows) (nonzero (x .values))
+    pat = pattern (x .factor .starts) (x .factor .rows) (nonzero (x .factor .values))
 
     within : selectedSize sel ≤ sel .limit
     within = leb-true _ _ complete
 
     values-fit : selectedSize sel ≤ length (lent .resultValues)
-    values-fit = omega (arith, within, closureSize-most (x .n) pat (sel .requests), A .accepted .values-room)
+    values-fit = omega (arith, within, closureSize-most (x .factor .n) pat (sel .requests), A .accepted .values-room)
 
     holds : Holds (operatorRequested (x .rowStarts) (x .columns)) (selectedSet sel)
-    holds = member-holds (x .n) pat (sel .requests) (factor-pattern (nonzero (x .values)) (A .accepted .factor)) (A .accepted .requests)
+    holds = member-holds (x .factor .n) pat (sel .requests) (factor-pattern (nonzero (x .factor .values)) (A .accepted .factor)) (A .accepted .requests)
 
-    values-are : rv ≡ overwrite (entryValues (x .n) (selectedSet sel) (selectedTable sel)) (lent .resultValues)
-    values-are = complete-values steps sel lent passed L complete
+    values-are : rv ≡ overwrite (entryValues (x .factor .n) (selectedSet sel) (selectedTable sel)) (lent .resultValues)
+    values-are = complete-values steps (fillingOf sel) lent passed L complete
 
     pub transformed-reading : length mid ≡ length (lent .scratch)
-        → OperatorReading (x .n) (x .rowStarts) (x .columns) (length (x .weights)) mid (length rv) (length output)
+        → OperatorReading (x .factor .n) (x .rowStarts) (x .columns) (length (x .weights)) mid (length rv) (length output)
     transformed-reading long =
         rw values-are
-        (filled-reading (x .n) (selectedSet sel) (selectedTable sel) mid (lent .resultValues) values-fit P (x .rowStarts) (x .columns) (x .weights)
-        (A .operator) holds (length output) (A .accepted .small) (omega (arith, scratchWords-room (x .n) (A .accepted .scratch-room))) (A .room))
+        (filled-reading (x .factor .n) (selectedSet sel) (selectedTable sel) mid (lent .resultValues) values-fit P (x .rowStarts) (x .columns) (x .weights)
+        (A .operator) holds (length output) (A .accepted .small) (omega (arith, scratchWords-room (x .factor .n) (A .accepted .scratch-room))) (A .room))
 
-    pub transformed-written : operatorValues (x .rowStarts) (x .columns) (x .weights) (placed (x .n) mid rv) ≡ transformedValues x
+    pub transformed-written : operatorValues (x .rowStarts) (x .columns) (x .weights) (placed (x .factor .n) mid rv) ≡ transformedValues x
     transformed-written =
-        ap (λ (v : List Float). operatorValues (x .rowStarts) (x .columns) (x .weights) (placed (x .n) mid v)) values-are
-        ∙ filled-values (x .n) (selectedSet sel) (selectedTable sel) mid (lent .resultValues) values-fit P (x .rowStarts) (x .columns) (x .weights)
+        ap (λ (v : List Float). operatorValues (x .rowStarts) (x .columns) (x .weights) (placed (x .factor .n) mid v)) values-are
+        ∙ filled-values (x .factor .n) (selectedSet sel) (selectedTable sel) mid (lent .resultValues) values-fit P (x .rowStarts) (x .columns) (x .weights)
         (A .operator) holds

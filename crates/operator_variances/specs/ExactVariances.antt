@@ -25,7 +25,7 @@ use Rattle.diagnostics.specs.declared.SelectedInverseDiagnostics.{SelectedInver
 use Rattle.diagnostics.specs.declared.SelectedInverseStatus.the-variants.{Complete}
 use Rattle.diagnostics.specs.declared.Selected.{Selected}
 use Rattle.diagnostics.specs.Selected.{selectedReplyOf}
-use Rattle.selection.specs.Selection.{Lent, roomOf, selectedAnswer, selectedTable, ResultLists}
+use Rattle.selection.specs.Selection.{Lent, roomOf, selectedAnswer, selectedTable, ResultLists, fillingOf}
 use Rattle.exact_entries.specs.ExactEntries.{ExactCall, ReadsBack, exact-entries, exact-either}
 use Rattle.request_marks.specs.OperatorRequests.{places-requested}
 use Rattle.operator_values.specs.Output.{outputAfter, after-complete}
@@ -48,16 +48,16 @@ module _ (x : TransformedCall) where
     pub within : RowWithin (columnAt (x .columns)) v X (first-of-row i) (places-of-row i)
 
   -- X is what reads back, and wᵀXw what the output holds for each row in the exact case
-  pub record TransformedExact (rs rr : List ℕ) (rv out : List Float) (X : Matrix) : Type 0 where
-    pub reads : ReadsBack (transformedSelection x) rs rr rv X
+  pub record TransformedExact (left : Lent) (out : List Float) (X : Matrix) : Type 0 where
+    pub reads : ReadsBack (transformedSelection x) left X
     pub variances : selectedAnswer (transformedSelection x) .status ≡ Complete → (i : ℕ) → i < operatorRows (x .rowStarts) → (v : ℕ → ℤ) → ExactRow v X i
         → Whole (getD out i nan) (quadratic (columnAt (x .columns)) v X (first-of-row i) (places-of-row i))
 
 module _ (x : TransformedCall) (lent : Lent) (output : List Float) (passed : Passed (transformedSteps x (roomOf lent) (length output)))
-    (whole : ℕ → List (Entry ℤ)) (E : ExactCall (transformedSelection x) whole) (X : Matrix) (is : WholeInverse (x .n) (factor ones whole) X) where
-  pub transformed-exact : {rs rr : List ℕ} {rv : List Float} {s : List ℕ}
-      → ResultLists (transformedSteps x (roomOf lent) (length output)) (transformedSelection x) lent rs rr rv s
-      → TransformedExact x rs rr rv (outputAfter (transformedSteps x (roomOf lent) (length output)) (transformedSelection x) (transformedValues x) output) X
+    (whole : ℕ → List (Entry ℤ)) (E : ExactCall (transformedSelection x) whole) (X : Matrix) (is : WholeInverse (x .factor .n) (factor ones whole) X) where
+  pub transformed-exact : {left : Lent}
+      → ResultLists (transformedSteps x (roomOf lent) (length output)) (fillingOf (transformedSelection x)) lent left
+      → TransformedExact x left (outputAfter (transformedSteps x (roomOf lent) (length output)) (transformedSelection x) (transformedValues x) output) X
   unfolding operatorValues
   transformed-exact L = record {
     reads = exact-entries (transformedSelection x) lent (A .accepted) whole E X is (transformedSteps x (roomOf lent) (length output)) passed L;
@@ -88,9 +88,9 @@ module _ (x : TransformedCall) (lent : Lent) (output : List Float) (passed : Pas
           ∙ tabulate-at (operatorValue (x .rowStarts) (x .columns) (x .weights) (selectedTable (transformedSelection x))) (operatorRows (x .rowStarts)) i nan l
 
 -- ---- of a reply
-module _ (x : TransformedCall) (lent : Lent) (output : List Float) {reply : Selected} {rs rr : List ℕ} {rv : List Float} {s : List ℕ} {out : List Float}
-    (C : TransformedDiagonal x lent output reply rs rr rv s out) {d : SelectedInverseDiagnostics} (answer : selectedReplyOf reply ≡ answered d)
-    (whole : ℕ → List (Entry ℤ)) (E : ExactCall (transformedSelection x) whole) (X : Matrix) (is : WholeInverse (x .n) (factor ones whole) X) where
+module _ (x : TransformedCall) (lent : Lent) (output : List Float) {reply : Selected} {left : Lent} {out : List Float}
+    (C : TransformedDiagonal x lent output reply left out) {d : SelectedInverseDiagnostics} (answer : selectedReplyOf reply ≡ answered d)
+    (whole : ℕ → List (Entry ℤ)) (E : ExactCall (transformedSelection x) whole) (X : Matrix) (is : WholeInverse (x .factor .n) (factor ones whole) X) where
   abbrev checks : List Step
   checks = transformedSteps x (roomOf lent) (length output)
 
@@ -98,8 +98,8 @@ module _ (x : TransformedCall) (lent : Lent) (output : List Float) {reply : Sele
   all = told-passed checks (selectedAnswer (transformedSelection x)) (sym answer ∙ C .replies)
 
   -- demand 3, of the reply: d is the diagnosis, X is what reads back, and the output holds each row's wᵀXw
-  pub transformed-exact-reply : (d ≡ selectedAnswer (transformedSelection x)) × TransformedExact x rs rr rv out X
+  pub transformed-exact-reply : (d ≡ selectedAnswer (transformedSelection x)) × TransformedExact x left out X
   transformed-exact-reply = (
     told-answer checks (selectedAnswer (transformedSelection x)) (sym answer ∙ C .replies),
-    subst (λ (o : List Float). TransformedExact x rs rr rv o X) (sym (C .output-is)) (transformed-exact x lent output all whole E X is (C .left)),
+    subst (λ (o : List Float). TransformedExact x left o X) (sym (C .output-is)) (transformed-exact x lent output all whole E X is (C .lists-are)),
   )

@@ -7,10 +7,9 @@ use lib.Dec.{ltb, eqb}
 use lib.ListN.{length}
 use lib.Ieee.{Float}
 use borrow.Author.Tests.{ltb-false}
-use Rattle.refusal.specs.Bounds.{maxEntries}
 use Rattle.refusal.specs.Steps.{Step, Passed, passed-clear, passed-front}
 use Rattle.refusal.specs.Groups.{grouped, AllPassed, groups-passed}
-use Rattle.columns.specs.Columns.{boundSteps}
+use Rattle.columns.specs.Columns.{FactorLists, factorLists, boundSteps}
 use Rattle.columns.specs.Factor.{boundSteps-sound}
 use Rattle.columns.specs.Stored.{storedSteps}
 use Rattle.columns.specs.Operator.{operatorRows, operatorBoundSteps, operatorSteps, OperatorRows, operatorSteps-sound}
@@ -23,10 +22,7 @@ use Rattle.operator_values.specs.Output.{SelectedOutput}
 
 -- what a call is handed to read: a factor and an operator of `ncols` columns, in factor order
 pub record TransformedCall : Type 0 where
-  pub n : ℕ
-  pub starts : List ℕ
-  pub rows : List ℕ
-  pub values : List Float
+  pub factor : FactorLists Float
   pub ncols : ℕ
   pub rowStarts : List ℕ
   pub columns : List ℕ
@@ -35,10 +31,7 @@ pub record TransformedCall : Type 0 where
 -- a call, from a function's parameters in their order
 abbrev pub transformedCall : ℕ → List ℕ → List ℕ → List Float → ℕ → List ℕ → List ℕ → List Float → TransformedCall
 transformedCall n starts rows values ncols rowStarts columns weights = record {
-  n = n;
-  starts = starts;
-  rows = rows;
-  values = values;
+  factor = factorLists n starts rows values;
   ncols = ncols;
   rowStarts = rowStarts;
   columns = columns;
@@ -49,12 +42,12 @@ module _ (x : TransformedCall) where
   -- the requests are all column pairs of each row, the limit is the default one
   abbrev pub transformedSelection : Selection
   transformedSelection =
-      selection (x .n) (x .starts) (x .rows) (x .values) (operatorRequested (x .rowStarts) (x .columns))
-      (defaultLimit (x .rows))
+      selection (x .factor) (operatorRequested (x .rowStarts) (x .columns))
+      (defaultLimit (x .factor .rows))
 
   -- 4: the operator's columns are not n
   abbrev pub columnCountSteps : List Step
-  columnCountSteps = (4, not (eqb (x .ncols) (x .n))) ∷ []
+  columnCountSteps = (4, not (eqb (x .ncols) (x .factor .n))) ∷ []
 
   -- 7: an output below the operator's rows
   abbrev pub outputSteps : ℕ → List Step
@@ -63,11 +56,11 @@ module _ (x : TransformedCall) where
   -- refusals 1 of the factor and of the operator; 2, 3, 18; 4; 9; 6, 7; 7 of an output of that length
   abbrev pub transformedGroups : Room → ℕ → List (List Step)
   transformedGroups lengths output =
-      (boundSteps (x .n) (length (x .rows)) ++ operatorBoundSteps (x .rowStarts) (x .columns))
-      ∷ storedSteps (x .n) (x .starts) (x .rows) (x .values)
+      (boundSteps (x .factor .n) (length (x .factor .rows)) ++ operatorBoundSteps (x .rowStarts) (x .columns))
+      ∷ storedSteps (x .factor)
       ∷ columnCountSteps
-      ∷ operatorSteps (x .n) (x .rowStarts) (x .columns) (length (x .weights))
-      ∷ fillSteps (x .n) (x .starts) (x .rows) (x .values) (defaultLimit (x .rows)) lengths
+      ∷ operatorSteps (x .factor .n) (x .rowStarts) (x .columns) (length (x .weights))
+      ∷ fillSteps (x .factor) (defaultLimit (x .factor .rows)) lengths
       ∷ outputSteps output
       ∷ []
 
@@ -79,7 +72,7 @@ module _ (x : TransformedCall) where
   transformedValues = operatorValues (x .rowStarts) (x .columns) (x .weights) (selectedTable transformedSelection)
 
 -- the reply and the lists of a call; either status carries the diagnosis
-abbrev pub TransformedDiagonal : TransformedCall → Lent → List Float → Selected → List ℕ → List ℕ → List Float → List ℕ → List Float → Type 0
+abbrev pub TransformedDiagonal : TransformedCall → Lent → List Float → Selected → Lent → List Float → Type 0
 TransformedDiagonal x lent output = SelectedOutput (transformedSteps x (roomOf lent) (length output)) (transformedSelection x) (transformedValues x) lent output
 
 -- ---- a call that passed
@@ -87,8 +80,7 @@ TransformedDiagonal x lent output = SelectedOutput (transformedSteps x (roomOf l
 -- what it has
 pub record AcceptedTransformed (x : TransformedCall) (lengths : Room) (output : ℕ) : Type 0 where
   pub accepted : Accepted (transformedSelection x) lengths
-  pub few : length (x .rows) ≤ maxEntries
-  pub operator : OperatorRows (x .n) (x .rowStarts) (x .columns) (length (x .weights))
+  pub operator : OperatorRows (x .factor .n) (x .rowStarts) (x .columns) (length (x .weights))
   pub room : operatorRows (x .rowStarts) ≤ output
 
 module _ (x : TransformedCall) (lengths : Room) (output : ℕ) (p : Passed (transformedSteps x lengths output)) where
@@ -98,12 +90,11 @@ module _ (x : TransformedCall) (lengths : Room) (output : ℕ) (p : Passed (tran
 
   pub transformed-accepted : AcceptedTransformed x lengths output
   transformed-accepted =
-      let bounds = boundSteps (x .n) (length (x .rows)) in
-      let B = boundSteps-sound (x .n) (length (x .rows)) (passed-front bounds (operatorBoundSteps (x .rowStarts) (x .columns)) (passed .0)) in
-      let O = operatorSteps-sound (x .n) (x .rowStarts) (x .columns) (length (x .weights)) (passed .1 .1 .1 .0) in
+      let bounds = boundSteps (x .factor .n) (length (x .factor .rows)) in
+      let B = boundSteps-sound (x .factor .n) (length (x .factor .rows)) (passed-front bounds (operatorBoundSteps (x .rowStarts) (x .columns)) (passed .0)) in
+      let O = operatorSteps-sound (x .factor .n) (x .rowStarts) (x .columns) (length (x .weights)) (passed .1 .1 .1 .0) in
       record {
         accepted = fill-accepted (transformedSelection x) lengths B (passed .1 .0) (operatorRequested-ranged O) (passed .1 .1 .1 .1 .0);
-        few = B .few;
         operator = O;
         room = ltb-false _ _ (passed-clear (outputSteps x output) (passed .1 .1 .1 .1 .1 .0) .0);
       }

@@ -108,7 +108,7 @@ pub fn selected_inverse_transformed_diag(
     ensures { λ r. ⌜ TransformedDiagonal
         (transformedCall n (now (starts .entry)) (now (rows .entry)) (now (values .entry)) ncols (now («row_starts» .entry)) (now (columns .entry)) (now (weights .entry)))
         (lists (now («result_starts» .entry)) (now («result_rows» .entry)) (now («result_values» .entry)) (now (scratch .entry))) (now (output .entry)) r
-        (now («result_starts» .exit)) (now («result_rows» .exit)) (now («result_values» .exit)) (now (scratch .exit)) (now (output .exit)) ⌝ }
+        (lists (now («result_starts» .exit)) (now («result_rows» .exit)) (now («result_values» .exit)) (now (scratch .exit))) (now (output .exit)) ⌝ }
 {
     match check_transformed(
         n,

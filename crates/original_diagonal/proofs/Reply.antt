@@ -25,7 +25,7 @@ use Rattle.entries.specs.Entries.{columnCount, position, entryStarts, entryValu
 use Rattle.entries.specs.Position.{position-first, position-below, entryValues-at}
 use Rattle.factor_order.specs.Permutation.{index, reordered}
 use Rattle.diagnostics.specs.declared.SelectedInverseDiagnostics.{SelectedInverseDiagnostics}
-use Rattle.selection.specs.Selection.{Selection, Lent, roomOf, Accepted, selectedSet, selectedSize, selectedComplete, selectedAnswer, selectedTable}
+use Rattle.selection.specs.Selection.{selectedPattern, Selection, Lent, roomOf, Accepted, selectedSet, selectedSize, selectedComplete, selectedAnswer, selectedTable, fillingOf}
 use Rattle.selection.specs.Selection.{ResultLists, lists-refused, complete-starts, complete-values}
 use Rattle.diagnostics.specs.declared.Selected.the-variants.{Answered, Refused}
 use Rattle.request_marks.specs.DiagonalMarks.{diagonal-requested, diagonals-ranged}
@@ -44,19 +44,19 @@ module _ (x : OriginalCall) (lent : Lent) (output : List Float) where
 
   -- ---- refused
   pub original-refused : {why : Refusal} → verdict steps ≡ refused (refusalNumber why)
-      → OriginalDiagonal x lent output (Refused why) (lent .resultStarts) (lent .resultRows) (lent .resultValues) (lent .scratch) output
+      → OriginalDiagonal x lent output (Refused why) lent output
   original-refused e = record {
     replies = sym (append-refused steps eight _ (selectedAnswer sel) e);
-    left = lists-refused steps sel lent e;
+    lists-are = lists-refused steps (fillingOf sel) lent e;
     output-is = sym (after-refused (steps ++ eight) _ _ output (append-refused steps eight _ tt e));
   }
 
-  module _ (passed : Passed steps) {rs rr : List ℕ} {rv : List Float} {s : List ℕ} (L : ResultLists steps sel lent rs rr rv s) where
+  module _ (passed : Passed steps) {left : Lent} (L : ResultLists steps (fillingOf sel) lent left) where
     -- ---- the set is beyond the limit
-    pub original-large : selectedComplete sel ≡ false → OriginalDiagonal x lent output (Refused NotCovered) rs rr rv s output
+    pub original-large : selectedComplete sel ≡ false → OriginalDiagonal x lent output (Refused NotCovered) left output
     original-large large = record {
       replies = sym (append-passed steps eight (selectedAnswer sel) passed ∙ first-hit 8 [] (selectedAnswer sel) (ap not large));
-      left = L;
+      lists-are = L;
       output-is = sym (after-refused (steps ++ eight) 8 _ output (append-passed steps eight tt passed ∙ first-hit 8 [] tt (ap not large)));
     }
 
@@ -67,46 +67,46 @@ module _ (x : OriginalCall) (lent : Lent) (output : List Float) where
 
       size : selectedSize sel ≤ length (lent .resultValues)
       size =
-          omega (arith, within, closureSize-most (x .n) (pattern (x .starts) (x .rows) (nonzero (x .values))) (sel .requests), A .accepted .values-room)
+          omega (arith, within, closureSize-most (x .factor .n) (selectedPattern sel) (sel .requests), A .accepted .values-room)
 
-      starts-are : rs ≡ overwrite (entryStarts (x .n) (selectedSet sel)) (lent .resultStarts)
-      starts-are = complete-starts steps sel lent passed L complete
+      starts-are : left .resultStarts ≡ overwrite (entryStarts (x .factor .n) (selectedSet sel)) (lent .resultStarts)
+      starts-are = complete-starts steps (fillingOf sel) lent passed L complete
 
-      values-are : rv ≡ overwrite (entryValues (x .n) (selectedSet sel) (selectedTable sel)) (lent .resultValues)
-      values-are = complete-values steps sel lent passed L complete
+      values-are : left .resultValues ≡ overwrite (entryValues (x .factor .n) (selectedSet sel) (selectedTable sel)) (lent .resultValues)
+      values-are = complete-values steps (fillingOf sel) lent passed L complete
 
-      module _ (j : ℕ) (l : j < x .n) where
-        start-is : index rs j ≡ columnCount (x .n) (selectedSet sel) j
+      module _ (j : ℕ) (l : j < x .factor .n) where
+        start-is : index (left .resultStarts) j ≡ columnCount (x .factor .n) (selectedSet sel) j
         start-is =
             ap (λ (q : List ℕ). getD q j 0) starts-are
-            ∙ overwrite-at (entryStarts (x .n) (selectedSet sel)) (lent .resultStarts) j 0 (omega (arith, entryStarts-length (x .n) (selectedSet sel)))
-            ∙ tabulate-at (columnCount (x .n) (selectedSet sel)) (x .n + 1) j 0 (omega arith)
+            ∙ overwrite-at (entryStarts (x .factor .n) (selectedSet sel)) (lent .resultStarts) j 0 (omega (arith, entryStarts-length (x .factor .n) (selectedSet sel)))
+            ∙ tabulate-at (columnCount (x .factor .n) (selectedSet sel)) (x .factor .n + 1) j 0 (omega arith)
 
         covered : selectedSet sel j j ≡ true
         covered =
-            member-holds (x .n) (pattern (x .starts) (x .rows) (nonzero (x .values))) (sel .requests)
-            (factor-pattern (nonzero (x .values)) (A .accepted .factor)) (diagonals-ranged (x .n)) j j (diagonal-requested (x .n) j l)
+            member-holds (x .factor .n) (selectedPattern sel) (sel .requests)
+            (factor-pattern (nonzero (x .factor .values)) (A .accepted .factor)) (diagonals-ranged (x .factor .n)) j j (diagonal-requested (x .factor .n) j l)
 
-        place : index rs j ≡ position (x .n) (selectedSet sel) j j
-        place = start-is ∙ sym (position-first (x .n) (selectedSet sel) j)
+        place : index (left .resultStarts) j ≡ position (x .factor .n) (selectedSet sel) j j
+        place = start-is ∙ sym (position-first (x .factor .n) (selectedSet sel) j)
 
-        place-below : index rs j < selectedSize sel
+        place-below : index (left .resultStarts) j < selectedSize sel
         place-below =
             subst (λ (k : ℕ). k < selectedSize sel) (sym place)
-            (position-below (x .n) (selectedSet sel) j j (x .n) (le-refl j) l l covered)
+            (position-below (x .factor .n) (selectedSet sel) j j (x .factor .n) (le-refl j) l l covered)
 
         -- the first entry of a column is its diagonal
-        first-is : getD rv (index rs j) nan ≡ selectedTable sel j j
+        first-is : getD (left .resultValues) (index (left .resultStarts) j) nan ≡ selectedTable sel j j
         first-is =
             ap₂ (λ (v : List Float) (k : ℕ). getD v k nan) values-are place
-            ∙ overwrite-at (entryValues (x .n) (selectedSet sel) (selectedTable sel)) (lent .resultValues) (position (x .n) (selectedSet sel) j j) nan
-            (omega (arith, place, place-below, entryValues-length (x .n) (selectedSet sel) (selectedTable sel)))
-            ∙ entryValues-at (x .n) (selectedSet sel) (selectedTable sel) nan j j (le-refl j) l covered
+            ∙ overwrite-at (entryValues (x .factor .n) (selectedSet sel) (selectedTable sel)) (lent .resultValues) (position (x .factor .n) (selectedSet sel) j j) nan
+            (omega (arith, place, place-below, entryValues-length (x .factor .n) (selectedSet sel) (selectedTable sel)))
+            ∙ entryValues-at (x .factor .n) (selectedSet sel) (selectedTable sel) nan j j (le-refl j) l covered
 
-      inside : (i : ℕ) → i < x .n → index (x .perm) i < x .n
+      inside : (i : ℕ) → i < x .factor .n → index (x .perm) i < x .factor .n
       inside i l = omega (arith, A .order .inside i (omega (arith, A .long)), A .long)
 
-      pub original-input : FirstEntries (x .n) (x .perm) rs rv output
+      pub original-input : FirstEntries (x .factor .n) (x .perm) (left .resultStarts) (left .resultValues) output
       original-input = record {
         long = A .long;
         room = A .room;
@@ -114,31 +114,31 @@ module _ (x : OriginalCall) (lent : Lent) (output : List Float) where
         places = λ i l. omega (arith, place-below (index (x .perm) i) (inside i l), size, values-long);
       }
         where
-          starts-long : length rs ≡ length (lent .resultStarts)
+          starts-long : length (left .resultStarts) ≡ length (lent .resultStarts)
           starts-long =
               ap length starts-are
-              ∙ overwrite-length (entryStarts (x .n) (selectedSet sel)) (lent .resultStarts)
-              (omega (arith, entryStarts-length (x .n) (selectedSet sel), A .accepted .starts-room))
+              ∙ overwrite-length (entryStarts (x .factor .n) (selectedSet sel)) (lent .resultStarts)
+              (omega (arith, entryStarts-length (x .factor .n) (selectedSet sel), A .accepted .starts-room))
 
-          values-long : length rv ≡ length (lent .resultValues)
+          values-long : length (left .resultValues) ≡ length (lent .resultValues)
           values-long =
               ap length values-are
-              ∙ overwrite-length (entryValues (x .n) (selectedSet sel) (selectedTable sel)) (lent .resultValues)
-              (omega (arith, entryValues-length (x .n) (selectedSet sel) (selectedTable sel), size))
+              ∙ overwrite-length (entryValues (x .factor .n) (selectedSet sel) (selectedTable sel)) (lent .resultValues)
+              (omega (arith, entryValues-length (x .factor .n) (selectedSet sel) (selectedTable sel), size))
 
-      written : firstEntries (x .n) (x .perm) rs rv ≡ reordered nan (x .perm) (factorDiagonal x)
+      written : firstEntries (x .factor .n) (x .perm) (left .resultStarts) (left .resultValues) ≡ reordered nan (x .perm) (factorDiagonal x)
       unfolding reordered
       written =
-          tabulate-cong (λ i. getD rv (index rs (index (x .perm) i)) nan) (λ i. getD (factorDiagonal x) (index (x .perm) i) nan) (x .n)
+          tabulate-cong (λ i. getD (left .resultValues) (index (left .resultStarts) (index (x .perm) i)) nan) (λ i. getD (factorDiagonal x) (index (x .perm) i) nan) (x .factor .n)
           (λ i l. first-is (index (x .perm) i) (inside i l)
-          ∙ sym (tabulate-at (λ j. selectedTable sel j j) (x .n) (index (x .perm) i) nan (inside i l)))
+          ∙ sym (tabulate-at (λ j. selectedTable sel j j) (x .factor .n) (index (x .perm) i) nan (inside i l)))
           ∙ ap (tabulate (λ i. getD (factorDiagonal x) (index (x .perm) i) nan)) (sym (A .long))
 
-      pub original-done : {d : SelectedInverseDiagnostics} {out : List Float} → d ≡ selectedAnswer sel → out ≡ overwrite (firstEntries (x .n) (x .perm) rs rv) output
-          → OriginalDiagonal x lent output (Answered d) rs rr rv s out
+      pub original-done : {d : SelectedInverseDiagnostics} {out : List Float} → d ≡ selectedAnswer sel → out ≡ overwrite (firstEntries (x .factor .n) (x .perm) (left .resultStarts) (left .resultValues)) output
+          → OriginalDiagonal x lent output (Answered d) left out
       original-done {d} {out} e w = record {
         replies = ap (λ (y : SelectedInverseDiagnostics). answered y) e ∙ sym (first-passed (steps ++ eight) (selectedAnswer sel) all);
-        left = L;
+        lists-are = L;
         output-is =
             w ∙ ap (λ (l : List Float). overwrite l output) written
             ∙ sym (after-passed (steps ++ eight) (overwrite (reordered nan (x .perm) (factorDiagonal x)) output) output all);

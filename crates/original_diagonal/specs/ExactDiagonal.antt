@@ -26,7 +26,7 @@ use Rattle.diagnostics.specs.declared.SelectedInverseDiagnostics.{SelectedInver
 use Rattle.diagnostics.specs.declared.SelectedInverseStatus.the-variants.{Complete}
 use Rattle.diagnostics.specs.declared.Selected.{Selected}
 use Rattle.diagnostics.specs.Selected.{selectedReplyOf}
-use Rattle.selection.specs.Selection.{Lent, roomOf, defaultLimit, selectedSize, selectedComplete, selectedAnswer, selectedTable, ResultLists}
+use Rattle.selection.specs.Selection.{Lent, roomOf, defaultLimit, selectedSize, selectedComplete, selectedAnswer, selectedTable, ResultLists, fillingOf}
 use Rattle.selection.specs.Status.{selected-complete}
 use Rattle.exact_entries.specs.ExactEntries.{ExactCall, ReadsBack, exact-entries, exact-at}
 use Rattle.request_marks.specs.DiagonalMarks.{diagonal-requested}
@@ -34,28 +34,28 @@ use Rattle.original_diagonal.specs.Original.{OriginalCall, originalSelec
 use Rattle.original_diagonal.specs.Original.{OriginalDiagonal, AcceptedOriginal, original-accepted}
 
 -- X is what reads back, and its diagonal in original order what the output holds
-pub record OriginalExact (x : OriginalCall) (rs rr : List ℕ) (rv out : List Float) (X : Matrix) : Type 0 where
-  pub reads : ReadsBack (originalSelection x) rs rr rv X
-  pub variances : selectedAnswer (originalSelection x) .status ≡ Complete → (i : ℕ) → i < x .n
+pub record OriginalExact (x : OriginalCall) (left : Lent) (out : List Float) (X : Matrix) : Type 0 where
+  pub reads : ReadsBack (originalSelection x) left X
+  pub variances : selectedAnswer (originalSelection x) .status ≡ Complete → (i : ℕ) → i < x .factor .n
       → Whole (getD out i nan) (X (index (x .perm) i) (index (x .perm) i))
 
 module _ (x : OriginalCall) (lent : Lent) (output : List Float) (passed : Passed (originalSteps x (roomOf lent) (length output)))
-    (whole : ℕ → List (Entry ℤ)) (E : ExactCall (originalSelection x) whole) (X : Matrix) (is : WholeInverse (x .n) (factor ones whole) X) where
-  pub original-exact : {rs rr : List ℕ} {rv : List Float} {s : List ℕ}
-      → ResultLists (originalSteps x (roomOf lent) (length output)) (originalSelection x) lent rs rr rv s
-      → OriginalExact x rs rr rv (originalAfter x lent output) X
+    (whole : ℕ → List (Entry ℤ)) (E : ExactCall (originalSelection x) whole) (X : Matrix) (is : WholeInverse (x .factor .n) (factor ones whole) X) where
+  pub original-exact : {left : Lent}
+      → ResultLists (originalSteps x (roomOf lent) (length output)) (fillingOf (originalSelection x)) lent left
+      → OriginalExact x left (originalAfter x lent output) X
   original-exact L = record {
     reads = exact-entries (originalSelection x) lent (A .accepted) whole E X is (originalSteps x (roomOf lent) (length output)) passed L;
     variances = λ e i l.
         subst (λ (v : Float). Whole v (X (index (x .perm) i) (index (x .perm) i))) (sym (value e i l))
         (exact-at (originalSelection x) lent (A .accepted) whole E X is (index (x .perm) i) (index (x .perm) i)
-        (request (diagonal-requested (x .n) (index (x .perm) i) (inside i l))));
+        (request (diagonal-requested (x .factor .n) (index (x .perm) i) (inside i l))));
   }
     where
       A : AcceptedOriginal x (roomOf lent) (length output)
       A = original-accepted x (roomOf lent) (length output) passed
 
-      inside : (i : ℕ) → i < x .n → index (x .perm) i < x .n
+      inside : (i : ℕ) → i < x .factor .n → index (x .perm) i < x .factor .n
       inside i l = omega (arith, A .order .inside i (omega (arith, A .long)), A .long)
 
       covered : selectedAnswer (originalSelection x) .status ≡ Complete → Passed (coveredSteps x (roomOf lent) (length output))
@@ -64,17 +64,17 @@ module _ (x : OriginalCall) (lent : Lent) (output : List Float) (passed : Passed
           (clear-passed ((8, not (selectedComplete (originalSelection x))) ∷ [])
           (ap not (le-leb _ _ (selected-complete (originalSelection x) .0 e)), tt))
 
-      value : selectedAnswer (originalSelection x) .status ≡ Complete → (i : ℕ) → i < x .n
+      value : selectedAnswer (originalSelection x) .status ≡ Complete → (i : ℕ) → i < x .factor .n
           → getD (originalAfter x lent output) i nan ≡ selectedTable (originalSelection x) (index (x .perm) i) (index (x .perm) i)
       value e i l =
           ap (λ (v : List Float). getD v i nan) (after-passed (coveredSteps x (roomOf lent) (length output)) _ output (covered e))
           ∙ overwrite-at (reordered nan (x .perm) (factorDiagonal x)) output i nan (omega (arith, reordered-length nan (x .perm) (factorDiagonal x), A .long))
           ∙ reordered-at nan (x .perm) (factorDiagonal x) i (omega (arith, A .long))
-          ∙ tabulate-at (λ j. selectedTable (originalSelection x) j j) (x .n) (index (x .perm) i) nan (inside i l)
+          ∙ tabulate-at (λ j. selectedTable (originalSelection x) j j) (x .factor .n) (index (x .perm) i) nan (inside i l)
 
 -- ---- of a reply
-module _ (x : OriginalCall) (lent : Lent) (output : List Float) {reply : Selected} {rs rr : List ℕ} {rv : List Float} {s : List ℕ} {out : List Float}
-    (C : OriginalDiagonal x lent output reply rs rr rv s out) where
+module _ (x : OriginalCall) (lent : Lent) (output : List Float) {reply : Selected} {left : Lent} {out : List Float}
+    (C : OriginalDiagonal x lent output reply left out) where
   abbrev checks : List Step
   checks = originalSteps x (roomOf lent) (length output)
 
@@ -83,30 +83,30 @@ module _ (x : OriginalCall) (lent : Lent) (output : List Float) {reply : Selecte
 
   module _ (passed : Passed checks) where
     -- past the checks, a set within the limit is answered with the diagnosis
-    pub within-reply : selectedSize (originalSelection x) ≤ defaultLimit (x .rows) → selectedReplyOf reply ≡ answered (selectedAnswer (originalSelection x))
+    pub within-reply : selectedSize (originalSelection x) ≤ defaultLimit (x .factor .rows) → selectedReplyOf reply ≡ answered (selectedAnswer (originalSelection x))
     within-reply h =
         C .replies
         ∙ first-passed (checks ++ eight) (selectedAnswer (originalSelection x)) (passed-append checks eight passed (clear-passed eight (ap not (le-leb _ _ h), tt)))
 
     -- any other is refused with 8
-    pub beyond-reply : defaultLimit (x .rows) < selectedSize (originalSelection x) → selectedReplyOf reply ≡ refused 8
+    pub beyond-reply : defaultLimit (x .factor .rows) < selectedSize (originalSelection x) → selectedReplyOf reply ≡ refused 8
     beyond-reply h =
         C .replies
         ∙ append-passed checks eight (selectedAnswer (originalSelection x)) passed
-        ∙ first-hit 8 [] (selectedAnswer (originalSelection x)) (ap not (lt-leb (selectedSize (originalSelection x)) (defaultLimit (x .rows)) h))
+        ∙ first-hit 8 [] (selectedAnswer (originalSelection x)) (ap not (lt-leb (selectedSize (originalSelection x)) (defaultLimit (x .factor .rows)) h))
 
   -- demand 3, of the reply: d is the diagnosis, Complete, X is what reads back, and its diagonal in original order is the output
   module _ {d : SelectedInverseDiagnostics} (answer : selectedReplyOf reply ≡ answered d) (whole : ℕ → List (Entry ℤ)) (E : ExactCall (originalSelection x) whole)
-      (X : Matrix) (is : WholeInverse (x .n) (factor ones whole) X) where
+      (X : Matrix) (is : WholeInverse (x .factor .n) (factor ones whole) X) where
     all : Passed (checks ++ eight)
     all = told-passed (checks ++ eight) (selectedAnswer (originalSelection x)) (sym answer ∙ C .replies)
 
     covered-is : selectedComplete (originalSelection x) ≡ true
     covered-is = not-false _ (passed-clear eight (passed-back checks eight all) .0)
 
-    pub original-exact-reply : (d ≡ selectedAnswer (originalSelection x)) × (selectedSize (originalSelection x) ≤ defaultLimit (x .rows)) × OriginalExact x rs rr rv out X
+    pub original-exact-reply : (d ≡ selectedAnswer (originalSelection x)) × (selectedSize (originalSelection x) ≤ defaultLimit (x .factor .rows)) × OriginalExact x left out X
     original-exact-reply = (
       told-answer (checks ++ eight) (selectedAnswer (originalSelection x)) (sym answer ∙ C .replies),
       leb-true _ _ covered-is,
-      subst (λ (o : List Float). OriginalExact x rs rr rv o X) (sym (C .output-is)) (original-exact x lent output (passed-front checks eight all) whole E X is (C .left)),
+      subst (λ (o : List Float). OriginalExact x left o X) (sym (C .output-is)) (original-exact x lent output (passed-front checks eight all) whole E X is (C .lists-are)),
     )

@@ -10,14 +10,14 @@ use lib.Ieee.{Float, nan}
 use borrow.Author.Tests.{ltb-false, eqb-true, not-false}
 use Rattle.lists.specs.Tabulate.{tabulate}
 use Rattle.lists.specs.Overwrite.{overwrite}
-use Rattle.refusal.specs.Bounds.{maxEntries}
 use Rattle.refusal.specs.Steps.{Step, Reply, first, after, Passed, passed-clear, passed-front, passed-back}
 use Rattle.refusal.specs.Groups.{grouped, AllPassed, groups-passed}
+use Rattle.columns.specs.Columns.{FactorLists, factorLists}
 use Rattle.columns.specs.Stored.{factorSteps, factorSteps-bounded, factorSteps-stored}
 use Rattle.factor_order.specs.Permutation.{index, orderSteps, permutationSteps, reordered, Permutation}
 use Rattle.factor_order.specs.Laws.{passed-distinct, distinct-permutation}
 use Rattle.diagnostics.specs.declared.SelectedInverseDiagnostics.{SelectedInverseDiagnostics}
-use Rattle.selection.specs.Selection.{Selection, selection, Lent, Room, roomOf, defaultLimit, fillSteps, selectedComplete, selectedAnswer, selectedTable, Accepted}
+use Rattle.selection.specs.Selection.{Selection, selection, Lent, Room, roomOf, defaultLimit, fillSteps, selectedComplete, selectedAnswer, selectedTable, Accepted, fillingOf}
 use Rattle.selection.specs.Selection.{ResultLists}
 use Rattle.selection.specs.Call.{fill-accepted}
 use Rattle.diagnostics.specs.declared.Selected.{Selected}
@@ -26,33 +26,30 @@ use Rattle.request_marks.specs.DiagonalMarks.{diagonalPairs, diagonals-ranged}
 
 -- what a call is handed to read: a factor and a permutation, orig_to_perm
 pub record OriginalCall : Type 0 where
-  pub n : ℕ
-  pub starts : List ℕ
-  pub rows : List ℕ
-  pub values : List Float
+  pub factor : FactorLists Float
   pub perm : List ℕ
 
 -- a call, from a function's parameters in their order
 abbrev pub originalCall : ℕ → List ℕ → List ℕ → List Float → List ℕ → OriginalCall
-originalCall n starts rows values perm = record { n = n; starts = starts; rows = rows; values = values; perm = perm }
+originalCall n starts rows values perm = record { factor = factorLists n starts rows values; perm = perm }
 
 module _ (x : OriginalCall) where
   -- the requests are all diagonals, the limit is the default one
   abbrev pub originalSelection : Selection
   originalSelection =
-      selection (x .n) (x .starts) (x .rows) (x .values) (diagonalPairs (x .n))
-      (defaultLimit (x .rows))
+      selection (x .factor) (diagonalPairs (x .factor .n))
+      (defaultLimit (x .factor .rows))
 
   -- 7: an output below n
   abbrev pub outputSteps : ℕ → List Step
-  outputSteps output = (7, ltb output (x .n)) ∷ []
+  outputSteps output = (7, ltb output (x .factor .n)) ∷ []
 
   -- refusals 1, 2, 3, 18; 4, 10, 11; 6, 7; 7 of an output of that length
   abbrev pub originalGroups : Room → ℕ → List (List Step)
   originalGroups lengths output =
-      factorSteps (x .n) (x .starts) (x .rows) (x .values)
-      ∷ orderSteps (x .n) (x .perm)
-      ∷ fillSteps (x .n) (x .starts) (x .rows) (x .values) (defaultLimit (x .rows)) lengths
+      factorSteps (x .factor)
+      ∷ orderSteps (x .factor .n) (x .perm)
+      ∷ fillSteps (x .factor) (defaultLimit (x .factor .rows)) lengths
       ∷ outputSteps output
       ∷ []
 
@@ -69,7 +66,7 @@ module _ (x : OriginalCall) where
 
   -- the diagonal, in factor order
   abbrev pub factorDiagonal : List Float
-  factorDiagonal = tabulate (λ j. selectedTable originalSelection j j) (x .n)
+  factorDiagonal = tabulate (λ j. selectedTable originalSelection j j) (x .factor .n)
 
   -- the output afterwards: output i is the diagonal at orig_to_perm i
   abbrev pub originalAfter : Lent → List Float → List Float
@@ -77,10 +74,9 @@ module _ (x : OriginalCall) where
       after (coveredSteps (roomOf lent) (length output)) (overwrite (reordered nan (x .perm) factorDiagonal) output) output
 
 -- the reply and the lists of a call
-pub record OriginalDiagonal (x : OriginalCall) (lent : Lent) (output : List Float) (reply : Selected) (starts rows : List ℕ) (values : List Float)
-    (scratch : List ℕ) (out : List Float) : Type 0 where
+pub record OriginalDiagonal (x : OriginalCall) (lent : Lent) (output : List Float) (reply : Selected) (left : Lent) (out : List Float) : Type 0 where
   pub replies : selectedReplyOf reply ≡ originalReply x lent (length output)
-  pub left : ResultLists (originalSteps x (roomOf lent) (length output)) (originalSelection x) lent starts rows values scratch
+  pub lists-are : ResultLists (originalSteps x (roomOf lent) (length output)) (fillingOf (originalSelection x)) lent left
   pub output-is : out ≡ originalAfter x lent output
 
 -- ---- the first entry of each column, in original order
@@ -100,10 +96,9 @@ firstEntries n perm starts values = tabulate (λ i. getD values (index starts (i
 -- what it has
 pub record AcceptedOriginal (x : OriginalCall) (lengths : Room) (output : ℕ) : Type 0 where
   pub accepted : Accepted (originalSelection x) lengths
-  pub few : length (x .rows) ≤ maxEntries
   pub order : Permutation (x .perm)
-  pub long : length (x .perm) ≡ x .n
-  pub room : x .n ≤ output
+  pub long : length (x .perm) ≡ x .factor .n
+  pub room : x .factor .n ≤ output
 
 module _ (x : OriginalCall) (lengths : Room) (output : ℕ) (p : Passed (originalSteps x lengths output)) where
   passed : AllPassed (originalGroups x lengths output)
@@ -112,13 +107,12 @@ module _ (x : OriginalCall) (lengths : Room) (output : ℕ) (p : Passed (origina
 
   pub original-accepted : AcceptedOriginal x lengths output
   original-accepted =
-      let B = factorSteps-bounded (x .n) (x .starts) (x .rows) (x .values) (passed .0) in
-      let S = factorSteps-stored (x .n) (x .starts) (x .rows) (x .values) (passed .0) in
-      let four : List Step = (4, not (eqb (length (x .perm)) (x .n))) ∷ [] in
+      let B = factorSteps-bounded (x .factor) (passed .0) in
+      let S = factorSteps-stored (x .factor) (passed .0) in
+      let four : List Step = (4, not (eqb (length (x .perm)) (x .factor .n))) ∷ [] in
       let o = passed .1 .0 in
       record {
-        accepted = fill-accepted (originalSelection x) lengths B S (diagonals-ranged (x .n)) (passed .1 .1 .0);
-        few = B .few;
+        accepted = fill-accepted (originalSelection x) lengths B S (diagonals-ranged (x .factor .n)) (passed .1 .1 .0);
         order = distinct-permutation (x .perm) (passed-distinct (x .perm) (passed-back four (permutationSteps (x .perm)) o));
         long = eqb-true _ _ (not-false _ (passed-clear four (passed-front four (permutationSteps (x .perm)) o) .0));
         room = ltb-false _ _ (passed-clear (outputSteps x output) (passed .1 .1 .1 .0) .0);

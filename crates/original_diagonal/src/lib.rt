@@ -94,7 +94,7 @@ pub fn selected_inverse_diag_with_diagnostics(
     ensures { λ r. ⌜ OriginalDiagonal
         (originalCall n (now (starts .entry)) (now (rows .entry)) (now (values .entry)) (now («orig_to_perm» .entry)))
         (lists (now («result_starts» .entry)) (now («result_rows» .entry)) (now («result_values» .entry)) (now (scratch .entry))) (now (output .entry)) r
-        (now («result_starts» .exit)) (now («result_rows» .exit)) (now («result_values» .exit)) (now (scratch .exit)) (now (output .exit)) ⌝ }
+        (lists (now («result_starts» .exit)) (now («result_rows» .exit)) (now («result_values» .exit)) (now (scratch .exit))) (now (output .exit)) ⌝ }
 {
     match check_original(
         n,

@@ -6,6 +6,7 @@ pub mod marks;
 
 ghost use mathlib.Core.Path.{_≡_};
 ghost use lib.ListN.{length};
+ghost use Rattle.columns.specs.Columns.{factorLists};
 ghost use Rattle.refusal.specs.Steps.{verdict};
 ghost use Rattle.refusal.specs.Refusal.{replyOf};
 ghost use Rattle.columns.specs.Stored.{factorSteps};
@@ -43,7 +44,7 @@ pub fn from_cholesky_factor(
     pair_rows: &mut [u32],
     pair_columns: &mut [u32],
 ) -> PatternPairs
-    ensures { λ r. ⌜ PatternLists (factorSteps n (now (starts .entry)) (now (rows .entry)) (now (values .entry))) n
+    ensures { λ r. ⌜ PatternLists (factorSteps (factorLists n (now (starts .entry)) (now (rows .entry)) (now (values .entry)))) n
         (keptPair (now (starts .entry)) (now (rows .entry)) (nonzero (now (values .entry)))) r
         (now (scratch .entry)) (now («pair_rows» .entry)) (now («pair_columns» .entry)) (now (scratch .exit)) (now («pair_rows» .exit)) (now («pair_columns» .exit)) ⌝ }
 {

@@ -3,6 +3,7 @@
 ghost use mathlib.Core.Path.{_≡_};
 ghost use lib.ListN.{length};
 ghost use lib.Ieee.{nan};
+ghost use Rattle.columns.specs.Columns.{factorLists};
 ghost use Rattle.lists.specs.Overwrite.{overwrite};
 ghost use Rattle.refusal.specs.Steps.{verdict, first, after};
 ghost use Rattle.columns.specs.Stored.{factorSteps};
@@ -72,7 +73,7 @@ pub extern "C" fn redstartgilt_selected_inverse_entries_with_limit(
     ensures { λ r. ⌜ Shows (λ d. selectedNumbers (selectedReplyOf d)) (λ d. SelectedEntries
         (call n (now (starts .entry)) (now (rows .entry)) (now (values .entry)) dimension (now («request_rows» .entry)) (now («request_columns» .entry)) limit)
         (lists (now («result_starts» .entry)) (now («result_rows» .entry)) (now («result_values» .entry)) (now (scratch .entry))) d
-        (now («result_starts» .exit)) (now («result_rows» .exit)) (now («result_values» .exit)) (now (scratch .exit))) r ⌝ }
+        (lists (now («result_starts» .exit)) (now («result_rows» .exit)) (now («result_values» .exit)) (now (scratch .exit)))) r ⌝ }
 {
     selected_numbers(selected::selected_inverse_entries_with_limit(
         n,
@@ -108,7 +109,7 @@ pub extern "C" fn redstartgilt_selected_inverse_entries(
     ensures { λ r. ⌜ Shows (λ d. selectedNumbers (selectedReplyOf d)) (λ d. SelectedEntries
         (call n (now (starts .entry)) (now (rows .entry)) (now (values .entry)) dimension (now («request_rows» .entry)) (now («request_columns» .entry)) (defaultLimit (now (rows .entry))))
         (lists (now («result_starts» .entry)) (now («result_rows» .entry)) (now («result_values» .entry)) (now (scratch .entry))) d
-        (now («result_starts» .exit)) (now («result_rows» .exit)) (now («result_values» .exit)) (now (scratch .exit))) r ⌝ }
+        (lists (now («result_starts» .exit)) (now («result_rows» .exit)) (now («result_values» .exit)) (now (scratch .exit)))) r ⌝ }
 {
     selected_numbers(selected::selected_inverse_entries(
         n,
@@ -142,7 +143,7 @@ pub extern "C" fn redstartgilt_selected_inverse_diag_with_diagnostics(
     ensures { λ r. ⌜ Shows (λ d. selectedNumbers (selectedReplyOf d)) (λ d. OriginalDiagonal
         (originalCall n (now (starts .entry)) (now (rows .entry)) (now (values .entry)) (now («orig_to_perm» .entry)))
         (lists (now («result_starts» .entry)) (now («result_rows» .entry)) (now («result_values» .entry)) (now (scratch .entry))) (now (output .entry)) d
-        (now («result_starts» .exit)) (now («result_rows» .exit)) (now («result_values» .exit)) (now (scratch .exit)) (now (output .exit))) r ⌝ }
+        (lists (now («result_starts» .exit)) (now («result_rows» .exit)) (now («result_values» .exit)) (now (scratch .exit))) (now (output .exit))) r ⌝ }
 {
     selected_numbers(original_diagonal::selected_inverse_diag_with_diagnostics(
         n,
@@ -178,7 +179,7 @@ pub extern "C" fn redstartgilt_selected_inverse_transformed_diag(
     ensures { λ r. ⌜ Shows (λ d. selectedNumbers (selectedReplyOf d)) (λ d. TransformedDiagonal
         (transformedCall n (now (starts .entry)) (now (rows .entry)) (now (values .entry)) ncols (now («row_starts» .entry)) (now (columns .entry)) (now (weights .entry)))
         (lists (now («result_starts» .entry)) (now («result_rows» .entry)) (now («result_values» .entry)) (now (scratch .entry))) (now (output .entry)) d
-        (now («result_starts» .exit)) (now («result_rows» .exit)) (now («result_values» .exit)) (now (scratch .exit)) (now (output .exit))) r ⌝ }
+        (lists (now («result_starts» .exit)) (now («result_rows» .exit)) (now («result_values» .exit)) (now (scratch .exit))) (now (output .exit))) r ⌝ }
 {
     selected_numbers(operator_variances::selected_inverse_transformed_diag(
         n,
@@ -226,7 +227,7 @@ pub extern "C" fn redstartgilt_selected_inverse_transformed_covariances(
         (operator «b_ncols» (now («b_row_starts» .entry)) (now («b_columns» .entry)) (now («b_weights» .entry)))
         (now («a_rows» .entry)) (now («b_rows» .entry)))
         (lists (now («result_starts» .entry)) (now («result_rows» .entry)) (now («result_values» .entry)) (now (scratch .entry))) (now (output .entry)) d
-        (now («result_starts» .exit)) (now («result_rows» .exit)) (now («result_values» .exit)) (now (scratch .exit)) (now (output .exit))) r ⌝ }
+        (lists (now («result_starts» .exit)) (now («result_rows» .exit)) (now («result_values» .exit)) (now (scratch .exit))) (now (output .exit))) r ⌝ }
 {
     selected_numbers(covariances::selected_inverse_transformed_covariances(
         n,
@@ -368,7 +369,7 @@ pub extern "C" fn redstartgilt_from_cholesky_factor(
     pair_rows: &mut [u32],
     pair_columns: &mut [u32],
 ) -> PairNumbers
-    ensures { λ r. ⌜ Shows (λ d. pairNumbers (listReply d)) (λ d. PatternLists (factorSteps n (now (starts .entry)) (now (rows .entry)) (now (values .entry))) n
+    ensures { λ r. ⌜ Shows (λ d. pairNumbers (listReply d)) (λ d. PatternLists (factorSteps (factorLists n (now (starts .entry)) (now (rows .entry)) (now (values .entry)))) n
         (keptPair (now (starts .entry)) (now (rows .entry)) (nonzero (now (values .entry)))) d
         (now (scratch .entry)) (now («pair_rows» .entry)) (now («pair_columns» .entry)) (now (scratch .exit)) (now («pair_rows» .exit)) (now («pair_columns» .exit))) r ⌝ }
 {

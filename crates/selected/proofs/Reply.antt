@@ -14,7 +14,7 @@ use Rattle.refusal.specs.declared.Refusal.{Refusal}
 use Rattle.refusal.specs.Bounds.{maxDimension, maxEntries}
 use Rattle.columns.specs.Columns.{boundSteps}
 use Rattle.diagnostics.specs.declared.SelectedInverseDiagnostics.{SelectedInverseDiagnostics}
-use Rattle.selection.specs.Selection.{Lent, roomOf, selectedAnswer, ResultLists, lists-refused}
+use Rattle.selection.specs.Selection.{Lent, roomOf, selectedAnswer, fillingOf, ResultLists, lists-refused}
 use Rattle.selection.specs.RequestSteps.{requestBoundSteps}
 use Rattle.selection.specs.Call.{Call, selectionOf, selectedSteps}
 use Rattle.diagnostics.specs.declared.Selected.the-variants.{Answered, Refused}
@@ -25,20 +25,20 @@ module _ (x : Call) (lent : Lent) where
   steps = selectedSteps x (roomOf lent)
 
   pub entries-refused : {why : Refusal} → verdict steps ≡ refused (refusalNumber why)
-      → SelectedEntries x lent (Refused why) (lent .resultStarts) (lent .resultRows) (lent .resultValues) (lent .scratch)
-  entries-refused e = record { replies = sym (first-refused steps _ _ e); left = lists-refused steps (selectionOf x) lent e }
+      → SelectedEntries x lent (Refused why) lent
+  entries-refused e = record { replies = sym (first-refused steps _ _ e); lists-are = lists-refused steps (fillingOf (selectionOf x)) lent e }
 
-  pub entries-answered : Passed steps → {d : SelectedInverseDiagnostics} {rs rr : List ℕ} {rv : List Float} {s : List ℕ} → d ≡ selectedAnswer (selectionOf x)
-      → ResultLists steps (selectionOf x) lent rs rr rv s → SelectedEntries x lent (Answered d) rs rr rv s
-  entries-answered p e L = record { replies = ap (λ (y : SelectedInverseDiagnostics). answered y) e ∙ sym (first-passed steps _ p); left = L }
+  pub entries-answered : Passed steps → {d : SelectedInverseDiagnostics} {left : Lent} → d ≡ selectedAnswer (selectionOf x)
+      → ResultLists steps (fillingOf (selectionOf x)) lent left → SelectedEntries x lent (Answered d) left
+  entries-answered p e L = record { replies = ap (λ (y : SelectedInverseDiagnostics). answered y) e ∙ sym (first-passed steps _ p); lists-are = L }
 
   -- more stored entries than the bound are refused whatever the limit
-  pub too-many : maxEntries < length (x .rows) → verdict steps ≡ refused 1
+  pub too-many : maxEntries < length (x .factor .rows) → verdict steps ≡ refused 1
   unfolding selectedSteps boundSteps
   too-many h =
-      append-refused (boundSteps (x .n) (length (x .rows)) ++ requestBoundSteps (length (x .requestRows))) _ 1 tt
-      (append-refused (boundSteps (x .n) (length (x .rows))) (requestBoundSteps (length (x .requestRows))) 1 tt (go (ltb maxDimension (x .n)) refl))
+      append-refused (boundSteps (x .factor .n) (length (x .factor .rows)) ++ requestBoundSteps (length (x .requestRows))) _ 1 tt
+      (append-refused (boundSteps (x .factor .n) (length (x .factor .rows))) (requestBoundSteps (length (x .requestRows))) 1 tt (go (ltb maxDimension (x .factor .n)) refl))
     where
-      go : (b : Bool) → ltb maxDimension (x .n) ≡ b → verdict (boundSteps (x .n) (length (x .rows))) ≡ refused 1
+      go : (b : Bool) → ltb maxDimension (x .factor .n) ≡ b → verdict (boundSteps (x .factor .n) (length (x .factor .rows))) ≡ refused 1
       go true e = first-hit 1 _ _ e
-      go false e = first-skip 1 _ _ e (first-hit 1 _ _ (lt-ltb maxEntries (length (x .rows)) h))
+      go false e = first-skip 1 _ _ e (first-hit 1 _ _ (lt-ltb maxEntries (length (x .factor .rows)) h))

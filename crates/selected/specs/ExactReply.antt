@@ -20,7 +20,7 @@ use Rattle.selection.specs.Call.{Call, selectionOf, selectedSteps}
 use Rattle.exact_entries.specs.ExactEntries.{ExactCall, ReadsBack, exact-call}
 use Rattle.selected.specs.Selected.{SelectedEntries}
 
-module _ (x : Call) (lent : Lent) {reply : Selected} {rs rr : List ℕ} {rv : List Float} {s : List ℕ} (C : SelectedEntries x lent reply rs rr rv s) where
+module _ (x : Call) (lent : Lent) {reply : Selected} {left : Lent} (C : SelectedEntries x lent reply left) where
   abbrev steps : List Step
   steps = selectedSteps x (roomOf lent)
 
@@ -34,9 +34,9 @@ module _ (x : Call) (lent : Lent) {reply : Selected} {rs rr : List ℕ} {rv : Li
     reply-passed = told-passed steps (selectedAnswer (selectionOf x)) (sym answer ∙ C .replies)
 
     -- demand 3, of the reply: d is the diagnosis, Complete exactly if the set is within the limit, and X is what reads back
-    pub exact-reply : (whole : ℕ → List (Entry ℤ)) → ExactCall (selectionOf x) whole → (X : Matrix) → WholeInverse (x .n) (factor ones whole) X
-        → (d ≡ selectedAnswer (selectionOf x)) × ReadsBack (selectionOf x) rs rr rv X
+    pub exact-reply : (whole : ℕ → List (Entry ℤ)) → ExactCall (selectionOf x) whole → (X : Matrix) → WholeInverse (x .factor .n) (factor ones whole) X
+        → (d ≡ selectedAnswer (selectionOf x)) × ReadsBack (selectionOf x) left X
     exact-reply whole E X is = (
       told-answer steps (selectedAnswer (selectionOf x)) (sym answer ∙ C .replies),
-      exact-call x lent reply-passed whole E X is (C .left),
+      exact-call x lent reply-passed whole E X is (C .lists-are),
     )

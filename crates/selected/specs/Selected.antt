@@ -6,10 +6,10 @@ use mathlib.Core.List.{List}
 use lib.Ieee.{Float}
 use Rattle.diagnostics.specs.declared.Selected.{Selected}
 use Rattle.diagnostics.specs.Selected.{selectedReplyOf}
-use Rattle.selection.specs.Selection.{Lent, roomOf, ResultLists}
+use Rattle.selection.specs.Selection.{Lent, roomOf, ResultLists, fillingOf}
 use Rattle.selection.specs.Call.{Call, selectionOf, selectedSteps, selectedReply}
 
 -- the reply and the lists of a call
-pub record SelectedEntries (x : Call) (lent : Lent) (reply : Selected) (starts rows : List ℕ) (values : List Float) (scratch : List ℕ) : Type 0 where
+pub record SelectedEntries (x : Call) (lent : Lent) (reply : Selected) (left : Lent) : Type 0 where
   pub replies : selectedReplyOf reply ≡ selectedReply x lent
-  pub left : ResultLists (selectedSteps x (roomOf lent)) (selectionOf x) lent starts rows values scratch
+  pub lists-are : ResultLists (selectedSteps x (roomOf lent)) (fillingOf (selectionOf x)) lent left

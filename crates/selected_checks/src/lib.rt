@@ -4,6 +4,7 @@ pub mod requests;
 ghost use mathlib.Core.Path.{_≡_};
 ghost use Prim.Native.Nat.{_*_, _≤_, min};
 ghost use lib.ListN.{length};
+ghost use Rattle.columns.specs.Columns.{factorLists};
 ghost use Rattle.refusal.specs.Bounds.{maxDimension, maxEntries};
 ghost use Rattle.refusal.specs.Steps.{verdict};
 ghost use Rattle.refusal.specs.Refusal.{replyOf};
@@ -76,7 +77,7 @@ pub fn check_fill(
     scratch: usize,
 ) -> Checked
     requires { ⌜ (n ≤ maxDimension) × Factor n (now starts) (now rows) (length (now values)) ⌝ }
-    ensures { λ r. ⌜ replyOf r ≡ verdict (fillSteps n (now (starts .entry)) (now (rows .entry)) (now (values .entry)) limit
+    ensures { λ r. ⌜ replyOf r ≡ verdict (fillSteps (factorLists n (now (starts .entry)) (now (rows .entry)) (now (values .entry))) limit
         (room «result_starts» «result_rows» «result_values» scratch)) ⌝ }
 {
     let diagonals = check_diagonals(n, starts, rows, values);

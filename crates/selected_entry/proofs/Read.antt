@@ -19,7 +19,7 @@ use Rattle.diagnostics.specs.declared.SelectedInverseStatus.the-variants as sta
 use Rattle.result.specs.Lookup.{lookup}
 use Rattle.lookup.specs.Reply.{entryReply}
 use Rattle.lookup.specs.declared.ordered.Entry.{Entry}
-use Rattle.selection.specs.Selection.{Lent, roomOf, selectedComplete, selectedAnswer, ResultLists}
+use Rattle.selection.specs.Selection.{Lent, roomOf, selectedComplete, selectedAnswer, ResultLists, fillingOf}
 use Rattle.selection.specs.Call.{Call, selectionOf, selectedSteps, accepted}
 use Rattle.selection.specs.Status.{status-tells, selected-complete}
 use Rattle.selected.specs.Selected.{SelectedEntries}
@@ -43,8 +43,8 @@ module _ (x : Call) (lent : Lent) where
   diagnosis = selectedAnswer (selectionOf x)
 
   -- an answered call has starts to look up in
-  pub read-ready : {rs rr : List ℕ} {rv : List Float} {s : List ℕ} (r : Selected) → SelectedEntries x lent r rs rr rv s
-      → length rs ≡ length (lent .resultStarts) → LookUpInput (x .n) rs r
+  pub read-ready : {left : Lent} (r : Selected) → SelectedEntries x lent r left
+      → length (left .resultStarts) ≡ length (lent .resultStarts) → LookUpInput (x .factor .n) (left .resultStarts) r
   read-ready (reply.Answered d) E e =
       let A = accepted x (roomOf lent) (told-passed steps diagnosis (E .replies)) in
       (A .small, omega (arith, A .starts-room))
@@ -60,47 +60,47 @@ module _ (x : Call) (lent : Lent) where
     unfolding entryAnswer
     answer-large p c = rw (p, c)
 
-    answer-found : {rs rr : List ℕ} {rv : List Float} {s : List ℕ} → Passed steps → selectedComplete (selectionOf x) ≡ true
-        → ResultLists steps (selectionOf x) lent rs rr rv s → {z : Reply Float}
-        → z ≡ found (selectionOf x) rs rr rv row col → looked z ≡ entryAnswer x (roomOf lent) row col
+    answer-found : {left : Lent} → Passed steps → selectedComplete (selectionOf x) ≡ true
+        → ResultLists steps (fillingOf (selectionOf x)) lent left → {z : Reply Float}
+        → z ≡ found (selectionOf x) left row col → looked z ≡ entryAnswer x (roomOf lent) row col
     unfolding entryAnswer
     answer-found p c L h =
         ap looked (h ∙ found-entries (selectionOf x) lent (accepted x (roomOf lent) p) steps p L (leb-true _ _ c) row col) ∙ rw (p, c)
 
-  module _ {rs rr : List ℕ} {rv : List Float} {s : List ℕ} (row col : ℕ) where
-    module _ {d : SelectedInverseDiagnostics} (E : SelectedEntries x lent (reply.Answered d) rs rr rv s) where
+  module _ {left : Lent} (row col : ℕ) where
+    module _ {d : SelectedInverseDiagnostics} (E : SelectedEntries x lent (reply.Answered d) left) where
       passed : Passed steps
       passed = told-passed steps diagnosis (E .replies)
 
       status-same : (v : SelectedInverseStatus) → d .status ≡ v → diagnosis .status ≡ v
       status-same v e = ap (λ (y : SelectedInverseDiagnostics). y .status) (sym (told-answer steps diagnosis (E .replies))) ∙ e
 
-      at-status : (v : SelectedInverseStatus) → d .status ≡ v → (r : SelectedEntry) → LookedAt (x .n) row col rs rr rv v r → ReadEntry x lent row col r rs rr rv s
+      at-status : (v : SelectedInverseStatus) → d .status ≡ v → (r : SelectedEntry) → LookedAt (x .factor .n) row col (left .resultStarts) (left .resultRows) (left .resultValues) v r → ReadEntry x lent row col r left
       at-status status.ClosureTooLarge e r h =
           let large = status-tells (selectionOf x) status.ClosureTooLarge (status-same status.ClosureTooLarge e) in
-          subst (λ (q : SelectedEntry). ReadEntry x lent row col q rs rr rv s) (sym h)
-          (record { replies = answer-large row col passed large; exact = λ whole C X inv. leb-false _ _ large; left = E .left })
+          subst (λ (q : SelectedEntry). ReadEntry x lent row col q left) (sym h)
+          (record { replies = answer-large row col passed large; exact = λ whole C X inv. leb-false _ _ large; lists-are = E .lists-are })
       at-status status.Complete e r h =
           let st = status-same status.Complete e in
-          subst (λ (q : SelectedEntry). ReadEntry x lent row col q rs rr rv s) (sym (h .1))
+          subst (λ (q : SelectedEntry). ReadEntry x lent row col q left) (sym (h .1))
           (record {
-            replies = answer-found row col passed (status-tells (selectionOf x) status.Complete st) (E .left) (h .2);
+            replies = answer-found row col passed (status-tells (selectionOf x) status.Complete st) (E .lists-are) (h .2);
             exact = λ whole C X inv.
-                let B = exact-call x lent passed whole C X inv (E .left) in (
+                let B = exact-call x lent passed whole C X inv (E .lists-are) in (
                   selected-complete (selectionOf x) .0 st,
                   (λ p. let m = B .members st row col p in (m .0, h .2 ∙ m .1, m .2)),
                   (λ none. h .2 ∙ B .others st row col none),
                 );
-            left = E .left;
+            lists-are = E .lists-are;
           })
 
     -- the lookup after a call is what is promised of both
-    pub read-entry : (a : Selected) → SelectedEntries x lent a rs rr rv s → (r : SelectedEntry) → LookUpResult (x .n) row col rs rr rv a r
-        → ReadEntry x lent row col r rs rr rv s
+    pub read-entry : (a : Selected) → SelectedEntries x lent a left → (r : SelectedEntry) → LookUpResult (x .factor .n) row col (left .resultStarts) (left .resultRows) (left .resultValues) a r
+        → ReadEntry x lent row col r left
     read-entry (reply.Answered d) E r h = at-status E (d .status) refl r h
     read-entry (reply.Refused why) E r h =
-        subst (λ (q : SelectedEntry). ReadEntry x lent row col q rs rr rv s) (sym h)
-        (record { replies = answer-refused row col (told-refused steps diagnosis (E .replies)); exact = λ whole C X inv. tt; left = E .left })
+        subst (λ (q : SelectedEntry). ReadEntry x lent row col q left) (sym h)
+        (record { replies = answer-refused row col (told-refused steps diagnosis (E .replies)); exact = λ whole C X inv. tt; lists-are = E .lists-are })
 
 -- ---- the lookup itself
 

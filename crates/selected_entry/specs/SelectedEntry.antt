@@ -18,7 +18,7 @@ use Rattle.exact.specs.Factor.{factor}
 use Rattle.exact.specs.ExactCase.{ones}
 use Rattle.diagnostics.specs.declared.SelectedInverseStatus.{SelectedInverseStatus}
 use Rattle.diagnostics.specs.declared.SelectedInverseStatus.the-variants as status
-use Rattle.selection.specs.Selection.{Lent, Room, roomOf, selectedSet, selectedSize, selectedComplete, selectedTable, ResultLists}
+use Rattle.selection.specs.Selection.{Lent, Room, roomOf, selectedSet, selectedSize, selectedComplete, selectedTable, ResultLists, fillingOf}
 use Rattle.selection.specs.Call.{Call, selectionOf, selectedSteps}
 use Rattle.diagnostics.specs.declared.Selected.{Selected}
 use Rattle.diagnostics.specs.declared.Selected.the-variants as reply
@@ -53,7 +53,7 @@ answerFrom (answered u) true z = looked z
 unfoldable pub entryAnswer : Call → Room → ℕ → ℕ → EntryAnswer
 entryAnswer x lengths row col =
     answerFrom (verdict (selectedSteps x lengths)) (selectedComplete (selectionOf x))
-    (readBack (x .n) (selectedSet (selectionOf x)) (selectedTable (selectionOf x)) row col)
+    (readBack (x .factor .n) (selectedSet (selectionOf x)) (selectedTable (selectionOf x)) row col)
 
 -- the exact case of an accepted call: the set is within the limit and the pair reads back as X's entry, or as absent if it is not in the set; or the set is
 -- beyond the limit
@@ -66,10 +66,10 @@ Exact x row col X ClosureTooLarge = x .limit < selectedSize (selectionOf x)
 Exact x row col X (Refused why) = Unit {0}
 
 -- the reply, the lists as the call leaves them, and the exact case for every inverse X of L * Lᵀ
-pub record ReadEntry (x : Call) (lent : Lent) (row col : ℕ) (reply : SelectedEntry) (starts rows : List ℕ) (values : List Float) (scratch : List ℕ) : Type 0 where
+pub record ReadEntry (x : Call) (lent : Lent) (row col : ℕ) (reply : SelectedEntry) (left : Lent) : Type 0 where
   pub replies : answerOf reply ≡ entryAnswer x (roomOf lent) row col
-  pub exact : (whole : ℕ → List (Entry ℤ)) → ExactCall (selectionOf x) whole → (X : Matrix) → WholeInverse (x .n) (factor ones whole) X → Exact x row col X reply
-  pub left : ResultLists (selectedSteps x (roomOf lent)) (selectionOf x) lent starts rows values scratch
+  pub exact : (whole : ℕ → List (Entry ℤ)) → ExactCall (selectionOf x) whole → (X : Matrix) → WholeInverse (x .factor .n) (factor ones whole) X → Exact x row col X reply
+  pub lists-are : ResultLists (selectedSteps x (roomOf lent)) (fillingOf (selectionOf x)) lent left
 
 -- ---- the lookup after the call's answer
 

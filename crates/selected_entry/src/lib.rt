@@ -66,7 +66,7 @@ pub fn selected_inverse_entry_with_limit(
     ensures { λ r. ⌜ ReadEntry
         (call n (now (starts .entry)) (now (rows .entry)) (now (values .entry)) dimension (now («request_rows» .entry)) (now («request_columns» .entry)) limit)
         (lists (now («result_starts» .entry)) (now («result_rows» .entry)) (now («result_values» .entry)) (now (scratch .entry))) row col r
-        (now («result_starts» .exit)) (now («result_rows» .exit)) (now («result_values» .exit)) (now (scratch .exit)) ⌝ }
+        (lists (now («result_starts» .exit)) (now («result_rows» .exit)) (now («result_values» .exit)) (now (scratch .exit))) ⌝ }
 {
     let answer = selected_inverse_entries_with_limit(
         n,
@@ -112,7 +112,7 @@ pub fn selected_inverse_entry(
     ensures { λ r. ⌜ ReadEntry
         (call n (now (starts .entry)) (now (rows .entry)) (now (values .entry)) dimension (now («request_rows» .entry)) (now («request_columns» .entry)) (defaultLimit (now (rows .entry))))
         (lists (now («result_starts» .entry)) (now («result_rows» .entry)) (now («result_values» .entry)) (now (scratch .entry))) row col r
-        (now («result_starts» .exit)) (now («result_rows» .exit)) (now («result_values» .exit)) (now (scratch .exit)) ⌝ }
+        (lists (now («result_starts» .exit)) (now («result_rows» .exit)) (now («result_values» .exit)) (now (scratch .exit))) ⌝ }
 {
     let answer = selected_inverse_entries(
         n,

@@ -8,7 +8,7 @@ use borrow.Author.Tests.{ltb-false}
 use Rattle.refusal.specs.Steps.{Step, Reply, first, Passed, passed-clear, passed-front, passed-back}
 use Rattle.refusal.specs.Groups.{grouped, AllPassed, groups-passed}
 use Rattle.pairs.specs.Pair.{pairTotal}
-use Rattle.columns.specs.Columns.{boundSteps}
+use Rattle.columns.specs.Columns.{FactorLists, factorLists, boundSteps}
 use Rattle.columns.specs.Factor.{FactorBounded, boundSteps-sound}
 use Rattle.columns.specs.Stored.{storedSteps, storedSteps-sound, storedSteps-finite}
 use Rattle.columns.specs.Diagonal.{diagonalSteps, diagonalSteps-sound}
@@ -20,10 +20,7 @@ use Rattle.selection.specs.Selection.{Selection, selection, choleskyOf, 
 
 -- what a call is handed to read: a factor, two lists of requests with their dimension, and a limit
 pub record Call : Type 0 where
-  pub n : ℕ
-  pub starts : List ℕ
-  pub rows : List ℕ
-  pub values : List Float
+  pub factor : FactorLists Float
   pub dimension : ℕ
   pub requestRows : List ℕ
   pub requestColumns : List ℕ
@@ -32,10 +29,7 @@ pub record Call : Type 0 where
 -- a call, from a function's parameters in their order
 abbrev pub call : ℕ → List ℕ → List ℕ → List Float → ℕ → List ℕ → List ℕ → ℕ → Call
 call n starts rows values dimension requestRows requestColumns limit = record {
-  n = n;
-  starts = starts;
-  rows = rows;
-  values = values;
+  factor = factorLists n starts rows values;
   dimension = dimension;
   requestRows = requestRows;
   requestColumns = requestColumns;
@@ -45,15 +39,15 @@ call n starts rows values dimension requestRows requestColumns limit = record {
 module _ (x : Call) where
   -- the requests as a set of pairs
   abbrev pub selectionOf : Selection
-  selectionOf = selection (x .n) (x .starts) (x .rows) (x .values) (requested (x .requestRows) (x .requestColumns)) (x .limit)
+  selectionOf = selection (x .factor) (requested (x .requestRows) (x .requestColumns)) (x .limit)
 
   -- refusals 1 to 7 and 18: 1 of the factor and of the requests; 2, 3 and 18; 4 and 5; 6 and 7
   abbrev pub selectedGroups : Room → List (List Step)
   selectedGroups lengths =
-      (boundSteps (x .n) (length (x .rows)) ++ requestBoundSteps (length (x .requestRows)))
-      ∷ storedSteps (x .n) (x .starts) (x .rows) (x .values)
-      ∷ requestSteps (x .n) (x .dimension) (x .requestRows) (x .requestColumns)
-      ∷ fillSteps (x .n) (x .starts) (x .rows) (x .values) (x .limit) lengths
+      (boundSteps (x .factor .n) (length (x .factor .rows)) ++ requestBoundSteps (length (x .requestRows)))
+      ∷ storedSteps (x .factor)
+      ∷ requestSteps (x .factor .n) (x .dimension) (x .requestRows) (x .requestColumns)
+      ∷ fillSteps (x .factor) (x .limit) lengths
       ∷ []
 
   unfoldable pub selectedSteps : Room → List Step
@@ -84,21 +78,21 @@ roomSteps-sound n limit lengths p =
     }
 
 -- a factor and requests past their checks, and lists that can be filled
-pub fill-accepted : (x : Selection) (lengths : Room) → FactorBounded (x .n) (length (x .rows)) → Passed (storedSteps (x .n) (x .starts) (x .rows) (x .values))
-    → Ranged (x .n) (x .requests) → Passed (fillSteps (x .n) (x .starts) (x .rows) (x .values) (x .limit) lengths)
+pub fill-accepted : (x : Selection) (lengths : Room) → FactorBounded (x .factor .n) (length (x .factor .rows)) → Passed (storedSteps (x .factor))
+    → Ranged (x .factor .n) (x .requests) → Passed (fillSteps (x .factor) (x .limit) lengths)
     → Accepted (choleskyOf x) lengths
 fill-accepted x lengths bounded stored R p =
-    let F = storedSteps-sound (x .n) (x .starts) (x .rows) (x .values) stored in
-    let a = diagonalSteps (x .n) (x .starts) (x .rows) (x .values) in
-    let b = roomSteps (x .n) (x .limit) lengths in
-    let room = roomSteps-sound (x .n) (x .limit) lengths (passed-back a b p) in
+    let F = storedSteps-sound (x .factor) stored in
+    let a = diagonalSteps (x .factor) in
+    let b = roomSteps (x .factor .n) (x .limit) lengths in
+    let room = roomSteps-sound (x .factor .n) (x .limit) lengths (passed-back a b p) in
     record {
       small = bounded .small;
       few = bounded .few;
       factor = F;
-      finite = storedSteps-finite (x .n) (x .starts) (x .rows) (x .values) stored;
+      finite = storedSteps-finite (x .factor) stored;
       requests = R;
-      diagonals = diagonalSteps-sound (x .n) (x .starts) (x .rows) (x .values) (F .rows-ascend) (passed-front a b p);
+      diagonals = diagonalSteps-sound (x .factor .n) (x .factor .starts) (x .factor .rows) (x .factor .values) (F .rows-ascend) (passed-front a b p);
       starts-room = room .starts-room;
       rows-room = room .rows-room;
       values-room = room .values-room;
@@ -111,12 +105,12 @@ module _ (x : Call) (lengths : Room) (p : Passed (selectedSteps x lengths)) wher
   unfolding selectedSteps
   passed = groups-passed (selectedGroups x lengths) p
 
-  pub accepted-requests : Requests (x .n) (x .requestRows) (x .requestColumns)
-  accepted-requests = requestSteps-sound (x .n) (x .dimension) (x .requestRows) (x .requestColumns) (passed .1 .1 .0)
+  pub accepted-requests : Requests (x .factor .n) (x .requestRows) (x .requestColumns)
+  accepted-requests = requestSteps-sound (x .factor .n) (x .dimension) (x .requestRows) (x .requestColumns) (passed .1 .1 .0)
 
   pub accepted : Accepted (selectionOf x) lengths
   accepted =
-      let bounds = boundSteps (x .n) (length (x .rows)) in
-      let B = boundSteps-sound (x .n) (length (x .rows)) (passed-front bounds (requestBoundSteps (length (x .requestRows))) (passed .0)) in
+      let bounds = boundSteps (x .factor .n) (length (x .factor .rows)) in
+      let B = boundSteps-sound (x .factor .n) (length (x .factor .rows)) (passed-front bounds (requestBoundSteps (length (x .requestRows))) (passed .0)) in
       fill-accepted (selectionOf x) lengths B (passed .1 .0)
-      (requested-ranged (x .requestRows) (x .requestColumns) (x .n) accepted-requests) (passed .1 .1 .1 .0)
+      (requested-ranged (x .requestRows) (x .requestColumns) (x .factor .n) accepted-requests) (passed .1 .1 .1 .0)

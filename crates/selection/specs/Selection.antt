@@ -16,6 +16,7 @@ use Rattle.refusal.specs.Bounds.{maxDimension, maxEntries}
 use Rattle.refusal.specs.Steps.{Step, refused, first, verdict, after, after-refused, after-passed, Passed}
 use Rattle.pairs.specs.Pair.{pairTotal}
 pub use Rattle.pairs.specs.Scratch.{scratchWords}
+use Rattle.columns.specs.Columns.{FactorLists}
 use Rattle.columns.specs.Kept.{nonzero, pattern}
 use Rattle.columns.specs.Factor.{Factor}
 use Rattle.columns.specs.Stored.{FiniteEntries}
@@ -30,14 +31,11 @@ use Rattle.entries.specs.Entries.{entryStarts, entryRows, entryValues, formTabl
 -- a factor and how it is given, the set of requested pairs, and a limit
 pub record Selection : Type 0 where
   pub form : Form
-  pub n : ℕ
-  pub starts : List ℕ
-  pub rows : List ℕ
-  pub values : List Float
+  pub factor : FactorLists Float
   pub requests : ℕ → ℕ → Bool
   pub limit : ℕ
 
--- the lists lent for writing, with result values of any kind
+-- the lists lent for writing, with result values of any kind, before a call or after it
 pub record LentOf (W : Type 0) : Type 0 where
   pub resultStarts : List ℕ
   pub resultRows : List ℕ
@@ -62,17 +60,16 @@ room resultStarts resultRows resultValues scratch = record { resultStarts = resu
 abbrev pub lists : {W : Type 0} → List ℕ → List ℕ → List W → List ℕ → LentOf W
 lists resultStarts resultRows resultValues scratch = record { resultStarts = resultStarts; resultRows = resultRows; resultValues = resultValues; scratch = scratch }
 
-abbrev pub selecting : Form → ℕ → List ℕ → List ℕ → List Float → (ℕ → ℕ → Bool) → ℕ → Selection
-selecting form n starts rows values requests limit =
-    record { form = form; n = n; starts = starts; rows = rows; values = values; requests = requests; limit = limit }
+abbrev pub selecting : Form → FactorLists Float → (ℕ → ℕ → Bool) → ℕ → Selection
+selecting form factor requests limit = record { form = form; factor = factor; requests = requests; limit = limit }
 
 -- of a factor L with L * Lᵀ
-abbrev pub selection : ℕ → List ℕ → List ℕ → List Float → (ℕ → ℕ → Bool) → ℕ → Selection
+abbrev pub selection : FactorLists Float → (ℕ → ℕ → Bool) → ℕ → Selection
 selection = selecting cholesky
 
 -- the same factor, requests and limit, with L * Lᵀ
 abbrev pub choleskyOf : Selection → Selection
-choleskyOf y = selection (y .n) (y .starts) (y .rows) (y .values) (y .requests) (y .limit)
+choleskyOf y = selection (y .factor) (y .requests) (y .limit)
 
 -- the lengths of lists
 abbrev pub roomOf : {W : Type 0} → LentOf W → Room
@@ -101,17 +98,21 @@ roomSteps n limit lengths =
     ∷ []
 
 -- what filling result lists asks: 6, then 7
-abbrev pub fillSteps : ℕ → List ℕ → List ℕ → List Float → ℕ → Room → List Step
-fillSteps n starts rows values limit lengths = diagonalSteps n starts rows values ++ roomSteps n limit lengths
+abbrev pub fillSteps : FactorLists Float → ℕ → Room → List Step
+fillSteps f limit lengths = diagonalSteps f ++ roomSteps (f .n) limit lengths
 
 module _ (x : Selection) where
+  -- the descendants of each column
+  abbrev pub selectedPattern : ℕ → List ℕ
+  selectedPattern = pattern (x .factor .starts) (x .factor .rows) (nonzero (x .factor .values))
+
   -- the closed set of the requested pairs
   abbrev pub selectedSet : ℕ → ℕ → Bool
-  selectedSet = member (x .n) (pattern (x .starts) (x .rows) (nonzero (x .values))) (x .requests)
+  selectedSet = member (x .factor .n) selectedPattern (x .requests)
 
   -- how many pairs it has
   abbrev pub selectedSize : ℕ
-  selectedSize = closureSize (x .n) (pattern (x .starts) (x .rows) (nonzero (x .values))) (x .requests)
+  selectedSize = closureSize (x .factor .n) selectedPattern (x .requests)
 
   -- it is within the limit
   abbrev pub selectedComplete : Bool
@@ -120,64 +121,64 @@ module _ (x : Selection) where
   -- the diagnosis
   abbrev pub selectedAnswer : SelectedInverseDiagnostics
   selectedAnswer =
-      diagnosisOf (x .n) (pattern (x .starts) (x .rows) (nonzero (x .values))) (keptPairs (x .n) (x .starts) (x .rows) (x .values) (x .form)) (x .requests) (x .limit)
+      diagnosisOf (x .factor .n) selectedPattern (keptPairs (x .factor .n) (x .factor .starts) (x .factor .rows) (x .factor .values) (x .form)) (x .requests) (x .limit)
 
   -- the values: Takahashi's recurrence in f64
   abbrev pub selectedTable : ℕ → ℕ → Float
-  selectedTable = formTable (x .form) (x .n) (x .starts) (x .rows) (x .values)
+  selectedTable = formTable (x .form) (x .factor .n) (x .factor .starts) (x .factor .rows) (x .factor .values)
 
--- ---- the lists after a call: of a set of pairs in n columns, whether it is within the limit, and a table of any kind
-module _ {W : Type 0} (n : ℕ) (S : ℕ → ℕ → Bool) (complete : Bool) (Z : ℕ → ℕ → W) (lent : LentOf W) where
+-- ---- the lists after a call
+
+-- what fills result lists: a set of pairs in n columns, whether it is within the limit, and a table of entries of any kind
+pub record Filling (W : Type 0) : Type 0 where
+  pub n : ℕ
+  pub set : ℕ → ℕ → Bool
+  pub complete : Bool
+  pub table : ℕ → ℕ → W
+
+module _ {W : Type 0} (f : Filling W) (lent : LentOf W) where
   -- the result lists, written where the set is within the limit
-  abbrev pub startsOf : List ℕ
-  startsOf = cond complete (overwrite (entryStarts n S) (lent .resultStarts)) (lent .resultStarts)
+  abbrev pub filledStarts : List ℕ
+  filledStarts = cond (f .complete) (overwrite (entryStarts (f .n) (f .set)) (lent .resultStarts)) (lent .resultStarts)
 
-  abbrev pub rowsOf : List ℕ
-  rowsOf = cond complete (overwrite (entryRows n S) (lent .resultRows)) (lent .resultRows)
+  abbrev pub filledRows : List ℕ
+  filledRows = cond (f .complete) (overwrite (entryRows (f .n) (f .set)) (lent .resultRows)) (lent .resultRows)
 
-  abbrev pub valuesOf : List W
-  valuesOf = cond complete (overwrite (entryValues n S Z) (lent .resultValues)) (lent .resultValues)
-
-  -- the lists after a call: as they were where one of these refusals holds, else the result lists written; and the scratch as it was where one of those
-  -- that leave it holds, else its first words 0
-  pub record ListsAfter (steps leaving : List Step) (starts rows : List ℕ) (values : List W) (scratch : List ℕ) : Type 0 where
-    pub starts-are : starts ≡ after steps startsOf (lent .resultStarts)
-    pub rows-are : rows ≡ after steps rowsOf (lent .resultRows)
-    pub values-are : values ≡ after steps valuesOf (lent .resultValues)
-    pub scratch-is : scratch ≡ after leaving (cleared (scratchWords n) (lent .scratch)) (lent .scratch)
-
-module _ (x : Selection) where
-  -- of a selection
-  abbrev pub filledStarts : Lent → List ℕ
-  filledStarts lent = startsOf (x .n) (selectedSet x) (selectedComplete x) (selectedTable x) lent
-
-  abbrev pub filledRows : Lent → List ℕ
-  filledRows lent = rowsOf (x .n) (selectedSet x) (selectedComplete x) (selectedTable x) lent
-
-  abbrev pub filledValues : Lent → List Float
-  filledValues lent = valuesOf (x .n) (selectedSet x) (selectedComplete x) (selectedTable x) lent
+  abbrev pub filledValues : List W
+  filledValues = cond (f .complete) (overwrite (entryValues (f .n) (f .set) (f .table)) (lent .resultValues)) (lent .resultValues)
 
   -- the scratch, whose first words end 0
-  abbrev pub clearedScratch : Lent → List ℕ
-  clearedScratch lent = cleared (scratchWords (x .n)) (lent .scratch)
+  abbrev pub clearedScratch : List ℕ
+  clearedScratch = cleared (scratchWords (f .n)) (lent .scratch)
+
+-- the lists that a call leaves: as they were where one of these refusals holds, else the result lists written; and the scratch as it was where one of those
+-- that leave it holds, else its first words 0
+pub record ListsAfter {W : Type 0} (steps leaving : List Step) (f : Filling W) (lent left : LentOf W) : Type 0 where
+  pub starts-are : left .resultStarts ≡ after steps (filledStarts f lent) (lent .resultStarts)
+  pub rows-are : left .resultRows ≡ after steps (filledRows f lent) (lent .resultRows)
+  pub values-are : left .resultValues ≡ after steps (filledValues f lent) (lent .resultValues)
+  pub scratch-is : left .scratch ≡ after leaving (clearedScratch f lent) (lent .scratch)
 
 -- every refusal leaves the scratch too
-abbrev pub ResultLists : List Step → Selection → Lent → List ℕ → List ℕ → List Float → List ℕ → Type 0
-ResultLists steps x lent starts rows values scratch =
-    ListsAfter (x .n) (selectedSet x) (selectedComplete x) (selectedTable x) lent steps steps starts rows values scratch
+abbrev pub ResultLists : {W : Type 0} → List Step → Filling W → LentOf W → LentOf W → Type 0
+ResultLists steps = ListsAfter steps steps
+
+-- of a selection: its closed set, and the recurrence's table
+abbrev pub fillingOf : Selection → Filling Float
+fillingOf x = record { n = x .factor .n; set = selectedSet x; complete = selectedComplete x; table = selectedTable x }
 
 -- what a call has that passed its checks
 pub record Accepted (x : Selection) (lengths : Room) : Type 0 where
-  pub small : x .n ≤ maxDimension
-  pub few : length (x .rows) ≤ maxEntries
-  pub factor : Factor (x .n) (x .starts) (x .rows) (length (x .values))
-  pub finite : FiniteEntries (x .n) (x .starts) (x .rows) (x .values)
-  pub requests : Ranged (x .n) (x .requests)
-  pub diagonals : Divisors (x .n) (x .starts) (x .rows) (x .values) (x .form)
-  pub starts-room : x .n + 1 ≤ lengths .resultStarts
-  pub rows-room : min (x .limit) (pairTotal (x .n)) ≤ lengths .resultRows
-  pub values-room : min (x .limit) (pairTotal (x .n)) ≤ lengths .resultValues
-  pub scratch-room : scratchWords (x .n) ≤ lengths .scratch
+  pub small : x .factor .n ≤ maxDimension
+  pub few : length (x .factor .rows) ≤ maxEntries
+  pub factor : Factor (x .factor .n) (x .factor .starts) (x .factor .rows) (length (x .factor .values))
+  pub finite : FiniteEntries (x .factor .n) (x .factor .starts) (x .factor .rows) (x .factor .values)
+  pub requests : Ranged (x .factor .n) (x .requests)
+  pub diagonals : Divisors (x .factor .n) (x .factor .starts) (x .factor .rows) (x .factor .values) (x .form)
+  pub starts-room : x .factor .n + 1 ≤ lengths .resultStarts
+  pub rows-room : min (x .limit) (pairTotal (x .factor .n)) ≤ lengths .resultRows
+  pub values-room : min (x .limit) (pairTotal (x .factor .n)) ≤ lengths .resultValues
+  pub scratch-room : scratchWords (x .factor .n) ≤ lengths .scratch
 
 -- ---- cleared words
 
@@ -201,9 +202,8 @@ pub nothing-refused : Passed []
 unfolding first
 nothing-refused = refl
 
-module _ (steps : List Step) (x : Selection) (lent : Lent) where
-  pub lists-refused : {k : ℕ} → verdict steps ≡ refused k
-      → ResultLists steps x lent (lent .resultStarts) (lent .resultRows) (lent .resultValues) (lent .scratch)
+module _ {W : Type 0} (steps : List Step) (f : Filling W) (lent : LentOf W) where
+  pub lists-refused : {k : ℕ} → verdict steps ≡ refused k → ResultLists steps f lent lent
   lists-refused {k} e = record {
     starts-are = sym (after-refused steps k _ _ e);
     rows-are = sym (after-refused steps k _ _ e);
@@ -211,9 +211,9 @@ module _ (steps : List Step) (x : Selection) (lent : Lent) where
     scratch-is = sym (after-refused steps k _ _ e);
   }
 
-  module _ (p : Passed steps) {starts rows : List ℕ} {values : List Float} {scratch : List ℕ} where
-    pub lists-passed : starts ≡ filledStarts x lent → rows ≡ filledRows x lent → values ≡ filledValues x lent → scratch ≡ clearedScratch x lent
-        → ResultLists steps x lent starts rows values scratch
+  module _ (p : Passed steps) {left : LentOf W} where
+    pub lists-passed : left .resultStarts ≡ filledStarts f lent → left .resultRows ≡ filledRows f lent → left .resultValues ≡ filledValues f lent
+        → left .scratch ≡ clearedScratch f lent → ResultLists steps f lent left
     lists-passed a b c d = record {
       starts-are = a ∙ sym (after-passed steps _ _ p);
       rows-are = b ∙ sym (after-passed steps _ _ p);
@@ -221,27 +221,28 @@ module _ (steps : List Step) (x : Selection) (lent : Lent) where
       scratch-is = d ∙ sym (after-passed steps _ _ p);
     }
 
-    module _ (L : ResultLists steps x lent starts rows values scratch) where
-      pub passed-starts : starts ≡ filledStarts x lent
+    pub passed-scratch : ResultLists steps f lent left → left .scratch ≡ clearedScratch f lent
+    passed-scratch L = L .scratch-is ∙ after-passed steps _ _ p
+
+    -- whatever leaves the scratch
+    module _ {leaving : List Step} (L : ListsAfter steps leaving f lent left) where
+      pub passed-starts : left .resultStarts ≡ filledStarts f lent
       passed-starts = L .starts-are ∙ after-passed steps _ _ p
 
-      pub passed-rows : rows ≡ filledRows x lent
+      pub passed-rows : left .resultRows ≡ filledRows f lent
       passed-rows = L .rows-are ∙ after-passed steps _ _ p
 
-      pub passed-values : values ≡ filledValues x lent
+      pub passed-values : left .resultValues ≡ filledValues f lent
       passed-values = L .values-are ∙ after-passed steps _ _ p
 
-      pub passed-scratch : scratch ≡ clearedScratch x lent
-      passed-scratch = L .scratch-is ∙ after-passed steps _ _ p
-
       -- where the set is within the limit
-      module _ (complete : selectedComplete x ≡ true) where
-        pub complete-starts : starts ≡ overwrite (entryStarts (x .n) (selectedSet x)) (lent .resultStarts)
-        complete-starts = passed-starts ∙ ap (λ (b : Bool). cond b (overwrite (entryStarts (x .n) (selectedSet x)) (lent .resultStarts)) (lent .resultStarts)) complete
+      module _ (complete : f .complete ≡ true) where
+        pub complete-starts : left .resultStarts ≡ overwrite (entryStarts (f .n) (f .set)) (lent .resultStarts)
+        complete-starts = passed-starts ∙ ap (λ (b : Bool). cond b (overwrite (entryStarts (f .n) (f .set)) (lent .resultStarts)) (lent .resultStarts)) complete
 
-        pub complete-rows : rows ≡ overwrite (entryRows (x .n) (selectedSet x)) (lent .resultRows)
-        complete-rows = passed-rows ∙ ap (λ (b : Bool). cond b (overwrite (entryRows (x .n) (selectedSet x)) (lent .resultRows)) (lent .resultRows)) complete
+        pub complete-rows : left .resultRows ≡ overwrite (entryRows (f .n) (f .set)) (lent .resultRows)
+        complete-rows = passed-rows ∙ ap (λ (b : Bool). cond b (overwrite (entryRows (f .n) (f .set)) (lent .resultRows)) (lent .resultRows)) complete
 
-        pub complete-values : values ≡ overwrite (entryValues (x .n) (selectedSet x) (selectedTable x)) (lent .resultValues)
+        pub complete-values : left .resultValues ≡ overwrite (entryValues (f .n) (f .set) (f .table)) (lent .resultValues)
         complete-values =
-            passed-values ∙ ap (λ (b : Bool). cond b (overwrite (entryValues (x .n) (selectedSet x) (selectedTable x)) (lent .resultValues)) (lent .resultValues)) complete
+            passed-values ∙ ap (λ (b : Bool). cond b (overwrite (entryValues (f .n) (f .set) (f .table)) (lent .resultValues)) (lent .resultValues)) complete

@@ -29,7 +29,7 @@ module _ (x : Selection) where
   selected-complete = ((λ e. leb-true _ _ (status-tells Complete e)), (λ h. status-is ∙ ap statusOf (le-leb _ _ h)))
 
   -- its counts
-  pub factor-pairs-are : selectedAnswer x .«factor_pairs» ≡ keptPairs (x .n) (x .starts) (x .rows) (x .values) (x .form)
+  pub factor-pairs-are : selectedAnswer x .«factor_pairs» ≡ keptPairs (x .factor .n) (x .factor .starts) (x .factor .rows) (x .factor .values) (x .form)
   unfolding diagnosisOf diagnosis
   factor-pairs-are = refl
 

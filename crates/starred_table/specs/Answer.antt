@@ -19,6 +19,6 @@ abbrev pub one-entry : Float → EntryAnswer
 one-entry diagonal = entryAnswer (call 1 (0 ∷ 1 ∷ []) (0 ∷ []) (diagonal ∷ []) 1 (0 ∷ []) (0 ∷ []) 3) (room 2 1 1 6) 0 0
 
 -- the answer of a call whose lists have these lengths
-pub read-answer-in : (x : Call) (lent : Lent) (row col : ℕ) (r : SelectedEntry) (lengths : Room) {starts rows : List ℕ} {values : List Float} {scratch : List ℕ}
-    → ReadEntry x lent row col r starts rows values scratch → roomOf lent ≡ lengths → answerOf r ≡ entryAnswer x lengths row col
+pub read-answer-in : (x : Call) (lent : Lent) (row col : ℕ) (r : SelectedEntry) (lengths : Room) {left : Lent}
+    → ReadEntry x lent row col r left → roomOf lent ≡ lengths → answerOf r ≡ entryAnswer x lengths row col
 read-answer-in x lent row col r lengths R same = R .replies ∙ ap (λ (l : Room). entryAnswer x l row col) same

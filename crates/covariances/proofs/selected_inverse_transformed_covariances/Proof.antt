@@ -106,7 +106,7 @@ mark-cross-pairs-requires c κs =
     }
 
 default-limit-requires : tie.Need-default-limit-requires
-default-limit-requires c κs = ready (c .before .before .before .before) .few
+default-limit-requires c κs = ready (c .before .before .before .before) .accepted .few
 
 fill-lists-requires : tie.Need-fill-lists-requires
 fill-lists-requires c κs =

@@ -8,7 +8,7 @@ use Rattle.refusal.specs.Steps.{Step, verdict, Passed, append-refused, append-p
 use Rattle.refusal.specs.FirstOf.{verdicts}
 use Rattle.refusal.specs.Refusal.{replyOf}
 use Rattle.refusal.specs.Bounds.{maxDimension}
-use Rattle.columns.specs.Columns.{boundSteps}
+use Rattle.columns.specs.Columns.{boundSteps, factorLists}
 use Rattle.columns.specs.Factor.{boundSteps-sound}
 use Rattle.columns.specs.Stored.{storedSteps, storedSteps-sound}
 use Rattle.columns.specs.Diagonal.{diagonalSteps}
@@ -26,13 +26,13 @@ module _ (f : tie.After-first-of) where
   bounds = let a = begin f .args in boundSteps (a .n) (length (now (a .rows))) ++ requestBoundSteps (length (now (a .request-rows)))
 
   abbrev entries : List Step
-  entries = let a = begin f .args in storedSteps (a .n) (now (a .starts)) (now (a .rows)) (now (a .values))
+  entries = let a = begin f .args in storedSteps (factorLists (a .n) (now (a .starts)) (now (a .rows)) (now (a .values)))
 
   abbrev requests : List Step
   requests = let a = begin f .args in requestSteps (a .n) (a .dimension) (now (a .request-rows)) (now (a .request-columns))
 
   abbrev diagonals : List Step
-  diagonals = let a = begin f .args in diagonalSteps (a .n) (now (a .starts)) (now (a .rows)) (now (a .values))
+  diagonals = let a = begin f .args in diagonalSteps (factorLists (a .n) (now (a .starts)) (now (a .rows)) (now (a .values)))
 
   abbrev seek : List Step
   seek = let a = begin f .args in seekSteps (a .n) (a .scratch) (a .row) (a .column)
@@ -86,7 +86,7 @@ check-requests-requires c κs = search needs
 
 check-diagonals-requires : tie.Need-check-diagonals-requires
 check-diagonals-requires c κs =
-    storedSteps-sound _ _ _ _ (entered (c .before))
+    storedSteps-sound _ (entered (c .before))
 
 check-seek-requires : tie.Need-check-seek-requires
 check-seek-requires c κs =

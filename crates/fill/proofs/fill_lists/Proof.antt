@@ -2,6 +2,7 @@ use borrow.Author.Needs.{needs}
 use native.Mathlib.Omega.{arith}
 use Prim.Native.Nat.{ℕ, _≤_}
 use lib.ListN.{length-replicate}
+use Rattle.columns.specs.Columns.{factorLists}
 use Rattle.refusal.specs.Bounds.{maxDimension}
 use mathlib.Core.Path.{_≡_, refl}
 use denote.Ref.{now}
@@ -19,10 +20,10 @@ use Rattle.fill.proofs.fill_lists.Tie as tie
 abbrev handed : tie.Start → Selection
 handed s =
     let a = s .args in
-    selection (a .n) (now (a .starts)) (now (a .rows)) (now (a .values)) (markedSet (a .n) (now (a .scratch))) (a .limit)
+    selection (factorLists (a .n) (now (a .starts)) (now (a .rows)) (now (a .values))) (markedSet (a .n) (now (a .scratch))) (a .limit)
 
 abbrev asked : tie.Start → (ℕ → ℕ → Bool) → Selection
-asked s req = let a = s .args in selection (a .n) (now (a .starts)) (now (a .rows)) (now (a .values)) req (a .limit)
+asked s req = let a = s .args in selection (factorLists (a .n) (now (a .starts)) (now (a .rows)) (now (a .values))) req (a .limit)
 
 abbrev lent : tie.Start → Lent
 lent s = let a = s .args in lists (now (a .result-starts)) (now (a .result-rows)) (now (a .result-values)) (now (a .scratch))
@@ -35,7 +36,7 @@ begin d = d .before .before .before .before .before .before .before .before .bef
 set : (d : tie.After-diagnose) → let a = begin d .args in Requested (a .n) (markedSet (a .n) (now (a .scratch))) (now (a .scratch))
 set d = let a = begin d .args in marked-requested (a .n) (now (a .scratch))
 
--- an accepted selection stays so for another set that the marked pairs are
+-- an accepted selection (factorLists stays so for another) set that the marked pairs are
 other : (s : tie.Start) (req : ℕ → ℕ → Bool) → Requested (s .args .n) req (now (s .args .scratch)) → Accepted (asked s req) (roomOf (lent s))
 other s req R =
     let A = s .pre .accepted in

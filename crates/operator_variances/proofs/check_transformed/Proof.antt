@@ -6,7 +6,7 @@ use borrow.Author.Needs.{needs}
 use Rattle.refusal.specs.Steps.{Step, verdict, Passed, append-refused, append-passed, passed-front}
 use Rattle.refusal.specs.FirstOf.{verdicts}
 use Rattle.refusal.specs.Refusal.{replyOf}
-use Rattle.columns.specs.Columns.{boundSteps}
+use Rattle.columns.specs.Columns.{boundSteps, factorLists}
 use Rattle.columns.specs.Factor.{FactorBounded, boundSteps-sound}
 use Rattle.columns.specs.Stored.{storedSteps, storedSteps-sound}
 use Rattle.columns.specs.Operator.{operatorRows, operatorBoundSteps, operatorSteps}
@@ -29,7 +29,7 @@ module _ (f : tie.After-first-of) where
   bounds = let a = begin f .args in boundSteps (a .n) (length (now (a .rows))) ++ operatorBoundSteps (now (a .row-starts)) (now (a .columns))
 
   abbrev entries : List Step
-  entries = let a = begin f .args in storedSteps (a .n) (now (a .starts)) (now (a .rows)) (now (a .values))
+  entries = let a = begin f .args in storedSteps (factorLists (a .n) (now (a .starts)) (now (a .rows)) (now (a .values)))
 
   abbrev operator : List Step
   operator = let a = begin f .args in operatorSteps (a .n) (now (a .row-starts)) (now (a .columns)) (length (now (a .weights)))
@@ -37,7 +37,7 @@ module _ (f : tie.After-first-of) where
   abbrev fill : List Step
   fill =
       let a = begin f .args in
-      fillSteps (a .n) (now (a .starts)) (now (a .rows)) (now (a .values)) (defaultLimit (now (a .rows)))
+      fillSteps (factorLists (a .n) (now (a .starts)) (now (a .rows)) (now (a .values))) (defaultLimit (now (a .rows)))
       (room (a .result-starts) (a .result-rows) (a .result-values) (a .scratch))
 
   abbrev output : List Step
@@ -101,7 +101,7 @@ default-limit-requires c κs = bounded (c .before .before .before .before .befor
 check-fill-requires : tie.Need-check-fill-requires
 check-fill-requires c κs =
     let t = c .before .before .before in
-    (bounded (t .before .before .before) .small, storedSteps-sound _ _ _ _ (entered t))
+    (bounded (t .before .before .before) .small, storedSteps-sound _ (entered t))
 
 operator-rows-requires : tie.Need-operator-rows-requires
 operator-rows-requires c κs = search needs

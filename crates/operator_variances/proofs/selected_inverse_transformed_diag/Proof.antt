@@ -91,7 +91,7 @@ mark-operator-pairs-requires c κs =
     record { small = A .accepted .small; rows = subst (OperatorRows _ _ _) (A .operator .weighed) (A .operator); room = scratchWords-room _ (A .accepted .scratch-room) }
 
 default-limit-requires : tie.Need-default-limit-requires
-default-limit-requires c κs = ready (c .before .before .before .before) .few
+default-limit-requires c κs = ready (c .before .before .before .before) .accepted .few
 
 fill-lists-requires : tie.Need-fill-lists-requires
 fill-lists-requires c κs =

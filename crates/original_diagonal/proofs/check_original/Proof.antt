@@ -5,6 +5,7 @@ use lib.Dec.{ltb}
 use lib.ListN.{length}
 use denote.Ref.{now}
 use borrow.Author.Needs.{needs}
+use Rattle.columns.specs.Columns.{factorLists}
 use Rattle.refusal.specs.Bounds.{maxEntries}
 use Rattle.refusal.specs.Steps.{Step, Passed, append-refused, append-passed}
 use Rattle.refusal.specs.Refusal.{replyOf}
@@ -21,7 +22,7 @@ begin f = f .before .before .before .before .before
 
 -- the groups of steps
 abbrev one : tie.After-check-factor → List Step
-one f = let a = begin f .args in factorSteps (a .n) (now (a .starts)) (now (a .rows)) (now (a .values))
+one f = let a = begin f .args in factorSteps (factorLists (a .n) (now (a .starts)) (now (a .rows)) (now (a .values)))
 
 abbrev two : tie.After-check-factor → List Step
 two f = let a = begin f .args in orderSteps (a .n) (now (a .orig-to-perm))
@@ -29,7 +30,7 @@ two f = let a = begin f .args in orderSteps (a .n) (now (a .orig-to-perm))
 abbrev three : tie.After-check-factor → List Step
 three f =
     let a = begin f .args in
-    fillSteps (a .n) (now (a .starts)) (now (a .rows)) (now (a .values)) (defaultLimit (now (a .rows)))
+    fillSteps (factorLists (a .n) (now (a .starts)) (now (a .rows)) (now (a .values))) (defaultLimit (now (a .rows)))
     (room (a .result-starts) (a .result-rows) (a .result-values) (a .scratch))
 
 abbrev four : tie.After-check-factor → List Step
@@ -49,15 +50,15 @@ enum-told c = search needs
 
 check-order-requires : tie.Need-check-order-requires
 check-order-requires c κs =
-    factorSteps-bounded _ _ _ _ (passed c) .small
+    factorSteps-bounded _ (passed c) .small
 
 default-limit-requires : tie.Need-default-limit-requires
-default-limit-requires c κs = factorSteps-bounded _ _ _ _ (passed (c .before)) .few
+default-limit-requires c κs = factorSteps-bounded _ (passed (c .before)) .few
 
 check-fill-requires : tie.Need-check-fill-requires
 check-fill-requires c κs =
     let p = passed (c .before .before) in
-    (factorSteps-bounded _ _ _ _ p .small, factorSteps-sound _ _ _ _ p)
+    (factorSteps-bounded _ p .small, factorSteps-sound _ p)
 
 check-output-requires : tie.Need-check-output-requires
 check-output-requires c κs = search needs

@@ -68,7 +68,7 @@ mark-diagonals-requires c κs =
     record { small = A .small; room = scratchWords-room _ (A .scratch-room) }
 
 default-limit-requires : tie.Need-default-limit-requires
-default-limit-requires c κs = ready (c .before .before .before .before) .few
+default-limit-requires c κs = ready (c .before .before .before .before) .accepted .few
 
 fill-entries-requires : tie.Need-fill-entries-requires
 fill-entries-requires c κs =

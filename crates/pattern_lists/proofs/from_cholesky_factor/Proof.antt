@@ -3,6 +3,7 @@ use mathlib.Core.Path.{_≡_, sym, ap, _∙_}
 use lib.ListN.{length}
 use denote.Ref.{now}
 use borrow.Author.Needs.{needs}
+use Rattle.columns.specs.Columns.{factorLists}
 use Rattle.refusal.specs.Steps.{Passed}
 use Rattle.refusal.specs.Refusal.{replyOf}
 use Rattle.columns.specs.Stored.{factorSteps, factorSteps-bounded, factorSteps-sound}
@@ -14,7 +15,7 @@ abbrev start : tie.After-check-factor → tie.Start
 start q = q .before .before .before .before .before .before .before
 
 -- the input passes
-passed : (c : tie.After-enum-told) → Passed (factorSteps (start (c .before .before) .args .n) (now (start (c .before .before) .args .starts)) (now (start (c .before .before) .args .rows)) (now (start (c .before .before) .args .values)))
+passed : (c : tie.After-enum-told) → Passed (factorSteps (factorLists (start (c .before .before) .args .n) (now (start (c .before .before) .args .starts)) (now (start (c .before .before) .args .rows)) (now (start (c .before .before) .args .values))))
 passed c = sym (c .before .before .check-factor .ensures) ∙ ap replyOf (c .enum-told .given .1)
 
 check-factor-requires : tie.Need-check-factor-requires
@@ -30,7 +31,7 @@ factor-lists-requires : tie.Need-factor-lists-requires
 factor-lists-requires c κs =
     let t = c .before .before .before in
     let p = passed t in
-    (factorSteps-sound _ _ _ _ p, factorSteps-bounded _ _ _ _ p .small)
+    (factorSteps-sound _ p, factorSteps-bounded _ p .small)
 
 returns : tie.Need-returns
 returns c =

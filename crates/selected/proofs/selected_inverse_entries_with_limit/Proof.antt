@@ -45,7 +45,7 @@ mark-requests-requires c κs =
     let x = handed (begin (t .before .before)) in
     let r = roomOf (lent (begin (t .before .before))) in
     let A = accepted x r (passed t) in
-    record { small = A .small; requests = accepted-requests x r (passed t); room = scratchWords-room (x .n) (A .scratch-room) }
+    record { small = A .small; requests = accepted-requests x r (passed t); room = scratchWords-room (x .factor .n) (A .scratch-room) }
 
 fill-entries-requires : tie.Need-fill-entries-requires
 fill-entries-requires c κs =

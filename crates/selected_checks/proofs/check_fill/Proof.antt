@@ -1,5 +1,6 @@
 use denote.Ref.{now}
 use borrow.Author.Needs.{needs}
+use Rattle.columns.specs.Columns.{factorLists}
 use Rattle.columns.specs.Diagonal.{diagonalSteps}
 use Rattle.selection.specs.Selection.{room, roomSteps}
 use Rattle.refusal.specs.FirstOf.{verdicts}
@@ -20,7 +21,7 @@ returns c =
     let r = c .before in
     let d = r .before in
     let a = d .before .before .before .before .args in
-    verdicts (diagonalSteps (a .n) (now (a .starts)) (now (a .rows)) (now (a .values)))
+    verdicts (diagonalSteps (factorLists (a .n) (now (a .starts)) (now (a .rows)) (now (a .values))))
     (roomSteps (a .n) (a .limit) (room (a .result-starts) (a .result-rows) (a .result-values) (a .scratch)))
     (c .first-of .ensures) (d .check-diagonals .ensures) (r .check-room .ensures)
 

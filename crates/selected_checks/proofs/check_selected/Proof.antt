@@ -6,7 +6,7 @@ use borrow.Author.Needs.{needs}
 use Rattle.refusal.specs.Steps.{Step, verdict, Passed, append-refused, append-passed, passed-front}
 use Rattle.refusal.specs.FirstOf.{orElse, verdicts}
 use Rattle.refusal.specs.Refusal.{replyOf}
-use Rattle.columns.specs.Columns.{boundSteps}
+use Rattle.columns.specs.Columns.{boundSteps, factorLists}
 use Rattle.columns.specs.Factor.{boundSteps-sound}
 use Rattle.columns.specs.Stored.{storedSteps, storedSteps-sound}
 use Rattle.selection.specs.Selection.{room, fillSteps}
@@ -24,7 +24,7 @@ module _ (f : tie.After-first-of) where
   bounds = let a = begin f .args in boundSteps (a .n) (length (now (a .rows))) ++ requestBoundSteps (length (now (a .request-rows)))
 
   abbrev entries : List Step
-  entries = let a = begin f .args in storedSteps (a .n) (now (a .starts)) (now (a .rows)) (now (a .values))
+  entries = let a = begin f .args in storedSteps (factorLists (a .n) (now (a .starts)) (now (a .rows)) (now (a .values)))
 
   abbrev requests : List Step
   requests = let a = begin f .args in requestSteps (a .n) (a .dimension) (now (a .request-rows)) (now (a .request-columns))
@@ -32,7 +32,7 @@ module _ (f : tie.After-first-of) where
   abbrev fill : List Step
   fill =
       let a = begin f .args in
-      fillSteps (a .n) (now (a .starts)) (now (a .rows)) (now (a .values)) (a .limit) (room (a .result-starts) (a .result-rows) (a .result-values) (a .scratch))
+      fillSteps (factorLists (a .n) (now (a .starts)) (now (a .rows)) (now (a .values))) (a .limit) (room (a .result-starts) (a .result-rows) (a .result-values) (a .scratch))
 
   bounds-told : replyOf (f .first-of .result) ≡ verdict bounds
   bounds-told =
@@ -80,7 +80,7 @@ check-fill-requires c κs =
     let t = c .before in
     let u = t .before .before .before in
     let a = begin (u .before .before) .args in
-    (boundSteps-sound (a .n) (length (now (a .rows))) (passed-front _ (requestBoundSteps (length (now (a .request-rows)))) (within u)) .small, storedSteps-sound _ _ _ _ (entered t))
+    (boundSteps-sound (a .n) (length (now (a .rows))) (passed-front _ (requestBoundSteps (length (now (a .request-rows)))) (within u)) .small, storedSteps-sound _ (entered t))
 
 first-of-requires-2 : tie.Need-first-of-requires-2
 first-of-requires-2 c κs = search needs

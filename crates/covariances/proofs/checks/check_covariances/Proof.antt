@@ -6,7 +6,7 @@ use borrow.Author.Needs.{needs}
 use Rattle.refusal.specs.Steps.{Step, Passed, append-refused, append-passed, passed-front}
 use Rattle.refusal.specs.FirstOf.{verdicts}
 use Rattle.refusal.specs.Refusal.{replyOf}
-use Rattle.columns.specs.Columns.{boundSteps}
+use Rattle.columns.specs.Columns.{boundSteps, factorLists}
 use Rattle.columns.specs.Factor.{FactorBounded, boundSteps-sound}
 use Rattle.columns.specs.Stored.{storedSteps, storedSteps-sound}
 use Rattle.selection.specs.Selection.{room, defaultLimit, fillSteps}
@@ -31,12 +31,12 @@ module _ (f : tie.After-check-all-bounds) where
   bounds = covarianceBounds handed
 
   abbrev entries : List Step
-  entries = let a = begin f .args in storedSteps (a .n) (now (a .starts)) (now (a .rows)) (now (a .values))
+  entries = let a = begin f .args in storedSteps (factorLists (a .n) (now (a .starts)) (now (a .rows)) (now (a .values)))
 
   abbrev fill : List Step
   fill =
       let a = begin f .args in
-      fillSteps (a .n) (now (a .starts)) (now (a .rows)) (now (a .values)) (defaultLimit (now (a .rows)))
+      fillSteps (factorLists (a .n) (now (a .starts)) (now (a .rows)) (now (a .values))) (defaultLimit (now (a .rows)))
       (room (a .result-starts) (a .result-rows) (a .result-values) (a .scratch))
 
   abbrev output : List Step
@@ -88,7 +88,7 @@ default-limit-requires c κs = bounded (c .before .before .before .before .befor
 check-fill-requires : tie.Need-check-fill-requires
 check-fill-requires c κs =
     let t = c .before .before .before in
-    (bounded (t .before .before .before) .small, storedSteps-sound _ _ _ _ (entered t))
+    (bounded (t .before .before .before) .small, storedSteps-sound _ (entered t))
 
 check-output-requires : tie.Need-check-output-requires
 check-output-requires c κs = search needs
