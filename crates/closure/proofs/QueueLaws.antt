@@ -16,14 +16,14 @@ use borrow.Author.Tests.{le-ltb, lt-ltb, ltb-true, eqb-true}
 use Rattle.lists.specs.Test.{and-left, and-both, or-cases, or-left, or-right}
 use Rattle.refusal.specs.Bounds.{maxDimension}
 use Rattle.pairs.specs.Pair.{pairTotal, ordered, ordered-is, is-ordered}
-use Rattle.pairs.specs.Scratch.{queueStart}
+use Rattle.pairs.specs.Scratch.{queueStart, packed, rowOf, columnOf}
 use Rattle.pairs.specs.ColumnOrder.{columnMarking}
 use Rattle.columns.specs.Columns.{start, row}
 use Rattle.columns.specs.Kept.{keptBelow, pattern}
 use Rattle.columns.specs.Factor.{Factor, starts-end}
 use Rattle.closed_set.specs.ClosedSet.{Closed, Pattern, descends}
 use Rattle.closure.specs.Nested.{Nested, Stop, StopFound}
-use Rattle.marked_pairs.specs.MarkedPairs.{packed, rowOf, columnOf, queueWord, Queued, Marked, Insert, Inserted, count-most}
+use Rattle.marked_pairs.specs.MarkedPairs.{queueWord, Queued, Marked, Insert, Inserted, count-most}
 use Rattle.closure.specs.Queue.{MarkedWithin, Grown, QueueInput, EndRoom, EndOf, afterSpan, EndColumnInput, ColumnEnded, QueueClosed}
 use Rattle.closed_set.specs.FactorPattern.{factor-pattern, entry-descends, descends-entry}
 

@@ -7,9 +7,9 @@ ghost use Rattle.kept_entries.specs.KeptBy.{ValuesLent, keptAt};
 ghost use Rattle.closure.specs.Queue.{QueueInput, EndRoom, EndOf, afterSpan, EndColumnInput, ColumnEnded, QueueClosed};
 use super::stops::find_stop;
 use kept_entries::kept_by::is_kept;
-use marked_pairs::PACKING;
 use marked_pairs::insert_closure_pair;
-use scratch::queue_start;
+use pair_places::PACKING;
+use pair_places::scratch::queue_start;
 use words::at;
 
 // Where closing (r, c) ends among the entries of column c: at its stop, if the row there is at most r, else with the column.

@@ -28,7 +28,7 @@ use Rattle.entries.specs.Entries.{columnCount, position, belowStep, diagonalSte
 use Rattle.entries.specs.Descendants.{form-solves}
 use Rattle.entries.specs.Position.{columnCount-mono, position-first, position-in, position-below, position-rises, position-found}
 use Rattle.column_sums.specs.Part.{putIf, putIf-length, putIf-other}
-use Rattle.column_sums.specs.Sums.{positionOf, inverseAt, sumBetween, sumBetween-cong, entrySum, Summing}
+use Rattle.column_sums.specs.Sums.{positionAt, inverseAt, sumBetween, sumBetween-cong, entrySum, Summing}
 use Rattle.column_sums.specs.Stored.{Storing, SumsStored}
 use Rattle.closure_route.specs.Finish.{PartFinished, DiagonalRoom}
 use Rattle.closure_route.specs.Route.{ClosureRoute, SolvedFrom, Solved}
@@ -71,7 +71,7 @@ module _ {n : ℕ} {starts rows : List ℕ} {values : List Float} {firsts listed
       G .closed r j (row rows p) h l d t
 
   -- its position stands behind the marks
-  word-is : (r k : ℕ) → r < n → k < n → S (max r k) (min r k) ≡ true → positionOf n scratch r k ≡ position n S (max r k) (min r k)
+  word-is : (r k : ℕ) → r < n → k < n → S (max r k) (min r k) ≡ true → positionAt n scratch r k ≡ position n S (max r k) (min r k)
   word-is r k a b t = G .positions (max r k) (min r k) (omega arith) (omega arith) t
 
   -- what a sum asks
@@ -145,7 +145,7 @@ module _ {n : ℕ} {starts rows : List ℕ} {values : List Float} {firsts listed
             | no h ↦ omega arith
           ]
 
-      later : (r p : ℕ) → j < r → r < n → S r j ≡ true → Kept j p → columnCount n S (j + 1) ≤ positionOf n scratch r (row rows p)
+      later : (r p : ℕ) → j < r → r < n → S r j ≡ true → Kept j p → columnCount n S (j + 1) ≤ positionAt n scratch r (row rows p)
       later r p h l t k =
           let b = row-inside j p jn (k .0) (k .1) in
           let u = row-below j p k in
@@ -155,7 +155,7 @@ module _ {n : ℕ} {starts rows : List ℕ} {values : List Float} {firsts listed
 
       -- down the column of a descendant
       down : (r r′ p : ℕ) → j < r → r < r′ → r′ < n → S r j ≡ true → S r′ j ≡ true → Kept j p → row rows p ≤ r
-          → positionOf n scratch r (row rows p) < positionOf n scratch r′ (row rows p)
+          → positionAt n scratch r (row rows p) < positionAt n scratch r′ (row rows p)
       down r r′ p h less l t t′ k up =
           let x = row rows p in
           let b = row-inside j p jn (k .0) (k .1) in
@@ -173,7 +173,7 @@ module _ {n : ℕ} {starts rows : List ℕ} {values : List Float} {firsts listed
 
       -- along the column of the row
       along : (r p p′ : ℕ) → j < r → r < n → S r j ≡ true → Kept j p → Kept j p′ → p < p′ → r < row rows p
-          → positionOf n scratch r (row rows p) < positionOf n scratch r (row rows p′)
+          → positionAt n scratch r (row rows p) < positionAt n scratch r (row rows p′)
       along r p p′ h l t k k′ less up =
           let x = row rows p in
           let x′ = row rows p′ in
@@ -237,9 +237,9 @@ module _ {n : ℕ} {starts rows : List ℕ} {values : List Float} {firsts listed
     sum-of r = sumBetween rows values j r (start starts j) (start starts (j + 1))
 
     -- below the diagonal
-    sum-below : (r : ℕ) → j < r → r < n → S r j ≡ true → sum-of (inverseAt n scratch z₀ r) ≡ sum-of (at Z r)
+    sum-below : (r : ℕ) → j < r → r < n → S r j ≡ true → sum-of (inverseAt nan n scratch z₀ r) ≡ sum-of (at Z r)
     sum-below r h l t =
-        sumBetween-cong rows values j (inverseAt n scratch z₀ r) (at Z r) (start starts j) (start starts (j + 1)) (column j jn .ordered)
+        sumBetween-cong rows values j (inverseAt nan n scratch z₀ r) (at Z r) (start starts j) (start starts (j + 1)) (column j jn .ordered)
         (λ p lo hi k.
         let b = row-inside j p jn lo hi in
         let u = row-below j p (lo, hi, k) in
@@ -255,13 +255,13 @@ module _ {n : ℕ} {starts rows : List ℕ} {values : List Float} {firsts listed
         let b : j < row listed q = omega arith in
         let hi = position-in n S r j (omega arith) l t in
         B .below q (omega arith) hi b
-        ∙ ap (belowStep form (divisor n starts rows values form j)) (A .sums q (omega arith) hi b ∙ ap (λ (i : ℕ). sum-of (inverseAt n scratch z₀ i)) e ∙ sum-below r h l t)
+        ∙ ap (belowStep form (divisor n starts rows values form j)) (A .sums q (omega arith) hi b ∙ ap (λ (i : ℕ). sum-of (inverseAt nan n scratch z₀ i)) e ∙ sum-below r h l t)
         ∙ sym (solves .below-is r j (omega arith, l) h)
 
     -- on it
-    sum-on : S j j ≡ true → sum-of (inverseAt n scratch z₂ j) ≡ sum-of (λ k. Z k j)
+    sum-on : S j j ≡ true → sum-of (inverseAt nan n scratch z₂ j) ≡ sum-of (λ k. Z k j)
     sum-on t =
-        sumBetween-cong rows values j (inverseAt n scratch z₂ j) (λ k. Z k j) (start starts j) (start starts (j + 1)) (column j jn .ordered)
+        sumBetween-cong rows values j (inverseAt nan n scratch z₂ j) (λ k. Z k j) (start starts j) (start starts (j + 1)) (column j jn .ordered)
         (λ p lo hi k.
         let x = row rows p in
         let b = row-inside j p jn lo hi in
@@ -277,7 +277,7 @@ module _ {n : ℕ} {starts rows : List ℕ} {values : List Float} {firsts listed
     on-diagonal t =
         let d = divisor n starts rows values form j in
         let q = columnCount n S j in
-        let x = diagonalStep form d (sum-of (inverseAt n scratch z₂ j)) in
+        let x = diagonalStep form d (sum-of (inverseAt nan n scratch z₂ j)) in
         let inside = position-below n S j j n (omega arith) jn jn t in
         ap₂ (λ (z : List Float) (p : ℕ). getD z p nan) (C ∙ ap (λ (b : Bool). putIf b z₂ q x) t) (position-first n S j)
         ∙ getD-set-same z₂ q x nan (omega (arith, position-first n S j, A .long, B .long, G .values-fit))
@@ -288,7 +288,7 @@ module _ {n : ℕ} {starts rows : List ℕ} {values : List Float} {firsts listed
     untouched q h = ap (λ (z : List Float). getD z q nan) C ∙ go (S j j) refl
       where
         x : Float
-        x = diagonalStep form (divisor n starts rows values form j) (sum-of (inverseAt n scratch z₂ j))
+        x = diagonalStep form (divisor n starts rows values form j) (sum-of (inverseAt nan n scratch z₂ j))
 
         go : (b : Bool) → S j j ≡ b → getD (putIf b z₂ (columnCount n S j) x) q nan ≡ getD z₂ q nan
         go true t = let l = h t in putIf-other true z₂ (columnCount n S j) q x (omega arith)

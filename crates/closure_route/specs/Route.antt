@@ -18,7 +18,7 @@ use Rattle.closed_set.specs.ClosedSet.{Closed, Pattern}
 use Rattle.columns.specs.Kept.{nonzero, pattern}
 use Rattle.columns.specs.Factor.{Factor}
 use Rattle.entries.specs.Entries.{columnCount, position, entryStarts, entryRows, entryStarts-length, entryRows-length}
-use Rattle.entries.specs.Position.{entryRows-at, position-below, columnCount-cong, position-cong}
+use Rattle.entries.specs.Position.{Positioned, entryRows-at, position-below, columnCount-cong, position-cong}
 use Rattle.layout.specs.Layout.{LayOut, LaidOut}
 
 -- a factor past its checks, the marks of a closed set with its members' positions, its starts and rows, and room for its entries
@@ -27,8 +27,7 @@ pub record ClosureRoute (n : ℕ) (starts rows : List ℕ) (values : List Float)
   pub factor : Factor n starts rows (length values)
   pub closed : Closed n (pattern starts rows (nonzero values)) (columnMarking n scratch)
   pub room : queueStart n + pairTotal n ≤ length scratch
-  pub positions : (r c : ℕ) → c ≤ r → r < n → columnMarking n scratch r c ≡ true
-      → getD scratch (queueStart n + columnPlace n r c) 0 ≡ position n (columnMarking n scratch) r c
+  pub positions : Positioned n (columnMarking n scratch) scratch
   pub starts-fit : n + 1 ≤ length firsts
   pub starts-are : (c : ℕ) → c ≤ n → getD firsts c 0 ≡ columnCount n (columnMarking n scratch) c
   pub rows-fit : setSize n (columnMarking n scratch) ≤ length listed

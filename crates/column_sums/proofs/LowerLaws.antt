@@ -37,7 +37,7 @@ module _ {n j p q last : ℕ} {rows : List ℕ} {values : List Float} {entryRows
     passed = λ i lo hi. absurd (omega arith);
     reached = λ i lo hi. omega (arith, R .below i lo hi);
     long = refl;
-    added = λ i lo hi. withProduct-above rows values j p (inverseAt n scratch z (row entryRows i)) (getD z i nan) h;
+    added = λ i lo hi. withProduct-above rows values j p (inverseAt nan n scratch z (row entryRows i)) (getD z i nan) h;
     before = λ i h. refl;
     after = λ i h. refl;
   }
@@ -48,7 +48,7 @@ module _ {n j p q last : ℕ} {rows : List ℕ} {values : List Float} {entryRows
         omega (arith, F .stops (omega arith), later-row entryRows q last (R .ascends) m i (F .from) lo hi)
 
     -- it adds nothing
-    none-added : (z : List Float) → ((i : ℕ) → m ≤ i → i < last → getD z i nan ≡ withProduct rows values j (inverseAt n scratch z (row entryRows i)) p (getD z i nan))
+    none-added : (z : List Float) → ((i : ℕ) → m ≤ i → i < last → getD z i nan ≡ withProduct rows values j (inverseAt nan n scratch z (row entryRows i)) p (getD z i nan))
         → Stepped n j p q m last rows values entryRows scratch z z
     none-added z same = record {
       from = F .from;
@@ -64,7 +64,7 @@ module _ {n j p q last : ℕ} {rows : List ℕ} {values : List Float} {entryRows
     -- as it is 0
     pub step-zero : (z : List Float) → j < row rows p → ne (value values p) f0 ≡ false → Stepped n j p q m last rows values entryRows scratch z z
     step-zero z h t =
-        none-added z (λ i lo hi. withProduct-zero rows values j p (inverseAt n scratch z (row entryRows i)) (getD z i nan) h t)
+        none-added z (λ i lo hi. withProduct-zero rows values j p (inverseAt nan n scratch z (row entryRows i)) (getD z i nan) h t)
 
     -- as no sum is left
     pub step-none : (z : List Float) → last ≤ m → Stepped n j p q m last rows values entryRows scratch z z
@@ -79,7 +79,7 @@ module _ {n j p q last : ℕ} {rows : List ℕ} {values : List Float} {entryRows
       passed = first-less F;
       reached = reached;
       long = A .long;
-      added = λ i lo hi. A .holds i lo hi ∙ withProduct-kept rows values j p (inverseAt n scratch z (row entryRows i)) (getD z i nan) k;
+      added = λ i lo hi. A .holds i lo hi ∙ withProduct-kept rows values j p (inverseAt nan n scratch z (row entryRows i)) (getD z i nan) k;
       before = A .before;
       after = A .after;
     }
@@ -127,7 +127,7 @@ module _ {n j first last s e : ℕ} {rows : List ℕ} {values : List Float} {ent
     sums = λ q lo hi. (
       s,
       record { from = omega arith; upto = omega arith; before = anyIn-none (outsideAt (row entryRows q + 1) rows) s; stops = λ l. absurd (omega arith) },
-      C q lo hi ∙ sumBetween-none rows values j (inverseAt n scratch z (row entryRows q)) s,
+      C q lo hi ∙ sumBetween-none rows values j (inverseAt nan n scratch z (row entryRows q)) s,
     );
     after = λ q h. refl;
   }
@@ -177,8 +177,8 @@ module _ {n j first last s e : ℕ} {rows : List ℕ} {values : List Float} {ent
           | yes x ↦ omega (arith, F .upto)
           | no x ↦ absurd (omega (arith, F .stops (omega arith), R .storing .column .ascends f p (F .from) (omega arith) hi))
         ] in
-        let r = inverseAt n scratch z (row entryRows i) in
-        let r₀ = inverseAt n scratch z₀ (row entryRows i) in (
+        let r = inverseAt nan n scratch z (row entryRows i) in
+        let r₀ = inverseAt nan n scratch z₀ (row entryRows i) in (
           p + 1,
           record {
             from = omega arith;

@@ -1,15 +1,16 @@
 -- The products of one descendant, by the positions of the rows and by a run of them.
 -- Assumes nothing.
-use Prim.Native.Nat.{ℕ, _+_, _-_, _≤_, _<_, min, max}
+use Prim.Native.Nat.{ℕ, _+_, _-_, _≤_, _<_}
 use native.Mathlib.Omega.{arith}
 use mathlib.Core.Path.{_≡_, ap, ap₂, _∙_}
 use mathlib.Core.List.{List}
 use lib.ListN.{length, getD, set}
 use lib.Ieee.{Float, binary64, nan, add, mul}
 use Rattle.pairs.specs.Scratch.{queueStart}
-use Rattle.pairs.specs.ColumnOrder.{colStart, columnPlace}
+use Rattle.pairs.specs.ColumnOrder.{colStart}
+use Rattle.pairs.specs.Positions.{positionWord, positionAt}
 use Rattle.columns.specs.Columns.{row}
-use Rattle.layout.specs.Position.{positionOf, reading-inside, word-right}
+use Rattle.pair_places.specs.Position.{word-inside, word-right}
 use Rattle.column_sums.specs.Part.{PartSet}
 use Rattle.column_sums.proofs.PartLaws.{part-more, part-same}
 use Rattle.column_sums.specs.Run.{rowPositions, RunRoom, Follows}
@@ -28,16 +29,16 @@ product-more {from} {q} position l {z₀} {z} {r} D lo fits e behind =
 module _ {n k from last : ℕ} {entryRows scratch : List ℕ} {size : ℕ} (R : ColumnProductsRoom n k from last entryRows scratch size)
     (base : ℕ) (based : base + k ≡ queueStart n + colStart n k) where
   module _ (q : ℕ) (lo : from ≤ q) (hi : q < last) where
-    word-is : base + row entryRows q ≡ queueStart n + columnPlace n (max (row entryRows q) k) (min (row entryRows q) k)
+    word-is : base + row entryRows q ≡ positionWord n (row entryRows q) k
     word-is = word-right n base (row entryRows q) k based (R .below q lo hi)
 
-    word-holds : rowPositions base entryRows scratch q ≡ positionOf n scratch (row entryRows q) k
+    word-holds : rowPositions base entryRows scratch q ≡ positionAt n scratch (row entryRows q) k
     word-holds = ap (λ (x : ℕ). getD scratch x 0) word-is
 
     word-room : WordProductRoom q (base + row entryRows q) scratch size
     word-room = record {
       fits = omega (arith, R .fits);
-      inside = omega (arith, word-is, reading-inside (R .reads q lo hi));
+      inside = omega (arith, word-is, word-inside (R .reads q lo hi .pair));
       known = omega (arith, word-holds, R .reads q lo hi .known);
     }
 

@@ -1,6 +1,6 @@
 -- The end of a sum, by the positions of the rows and by a run of them.
 -- Assumes nothing.
-use Prim.Native.Nat.{ℕ, _+_, _-_, _≤_, _<_, min, max}
+use Prim.Native.Nat.{ℕ, _+_, _-_, _≤_, _<_}
 use native.Mathlib.Omega.{arith}
 use mathlib.Core.Path.{_≡_, sym, ap, _∙_}
 use mathlib.Core.Bool.{Bool, true, false}
@@ -11,12 +11,13 @@ use lib.Dec.{ltb}
 use borrow.Author.Tests.{lt-ltb}
 use Rattle.lists.specs.Test.{and-both, anyIn, anyIn-below}
 use Rattle.pairs.specs.Scratch.{queueStart}
-use Rattle.pairs.specs.ColumnOrder.{colStart, columnPlace}
+use Rattle.pairs.specs.ColumnOrder.{colStart}
+use Rattle.pairs.specs.Positions.{positionWord}
 use Rattle.columns.specs.Columns.{row, value}
 use Rattle.columns.specs.Kept.{nonzero, nonzero-not, keptBelow}
-use Rattle.layout.specs.Position.{word-left, word-position, word-reads}
+use Rattle.pair_places.specs.Position.{PairEntryInput, word-left, word-position, word-reads}
 use Rattle.column_sums.specs.Run.{rowPositions, RunRoom, Follows}
-use Rattle.column_sums.specs.Sums.{positionOf, inverseAt, Reading, Continued, sumBetween, sumBetween-next}
+use Rattle.column_sums.specs.Sums.{positionAt, inverseAt, Continued, sumBetween, sumBetween-next}
 use Rattle.column_sums.proofs.SumLaws.{summing-entry, adding-read, withProduct-kept}
 use Rattle.column_sums.specs.Rest.{zeroAt, RestRunRoom, RestRowsRoom, runPositions, Summed, Rest}
 
@@ -32,16 +33,16 @@ module _ {n i j first e : ℕ} {zeros : Bool} {rows : List ℕ} {values : List F
       and-both (ltb j (row rows p)) (nonzero values p) (lt-ltb j (row rows p) (omega (arith, R .below, R .above p lo hi))) (R .whole none p lo hi)
 
   -- an entry of the inverse can be read
-  rest-read : (p : ℕ) → first ≤ p → p < e → Reading n i (row rows p) scratch size
+  rest-read : (p : ℕ) → first ≤ p → p < e → PairEntryInput n i (row rows p) scratch size
   rest-read p lo hi = adding-read (summing-entry (R .summing) p lo hi) (rest-kept p lo hi)
 
-  word-is : (p : ℕ) → first ≤ p → p < e → base + row rows p ≡ queueStart n + columnPlace n (max i (row rows p)) (min i (row rows p))
+  word-is : (p : ℕ) → first ≤ p → p < e → base + row rows p ≡ positionWord n i (row rows p)
   word-is p lo hi = word-left n base i (row rows p) based (omega (arith, R .above p lo hi))
 
   rest-word : (p : ℕ) → first ≤ p → p < e → (base + row rows p < length scratch) × (rowPositions base rows scratch p < size)
   rest-word p lo hi = word-reads (rest-read p lo hi) (word-is p lo hi)
 
-  rest-position : (p : ℕ) → first ≤ p → p < e → rowPositions base rows scratch p ≡ positionOf n scratch i (row rows p)
+  rest-position : (p : ℕ) → first ≤ p → p < e → rowPositions base rows scratch p ≡ positionAt n scratch i (row rows p)
   rest-position p lo hi = word-position (rest-read p lo hi) (word-is p lo hi)
 
   -- read from the words
@@ -54,9 +55,9 @@ module _ {n i j first e : ℕ} {zeros : Bool} {rows : List ℕ} {values : List F
   }
 
   pub rows-summed : (z : List Float) (sum x : Float) → Summed values z first e (rowPositions base rows scratch) sum x
-      → Continued rows values j (inverseAt n scratch z i) first e sum x
+      → Continued rows values j (inverseAt nan n scratch z i) first e sum x
   rows-summed z sum x S s h q =
-      let r = inverseAt n scratch z i in
+      let r = inverseAt nan n scratch z i in
       S (λ p. sumBetween rows values j r s p) q
       (λ p lo hi.
       ap (λ (k : ℕ). add binary64 (sumBetween rows values j r s p) (mul binary64 (value values p) (getD z k nan))) (rest-position p lo hi)
@@ -87,7 +88,7 @@ module _ {n i j first e : ℕ} {zeros : Bool} {rows : List ℕ} {values : List F
         }
 
     pub run-summed : (z : List Float) (sum x : Float) → Summed values z first e (runPositions first position) sum x
-        → Continued rows values j (inverseAt n scratch z i) first e sum x
+        → Continued rows values j (inverseAt nan n scratch z i) first e sum x
     run-summed z sum x S =
         rows-summed z sum x
         (λ f b s.

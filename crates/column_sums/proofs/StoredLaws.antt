@@ -67,7 +67,7 @@ module _ {n j first last s e : ℕ} {rows : List ℕ} {values : List Float} {ent
   pub unread : (z₀ z : List Float) (p q : ℕ) → s ≤ p → p ≤ e → first ≤ q → q < last → ((i : ℕ) → last ≤ i → getD z i nan ≡ getD z₀ i nan)
       → entrySum n j s p rows values scratch z (row entryRows q) ≡ entrySum n j s p rows values scratch z₀ (row entryRows q)
   unread z₀ z p q lo hi a b after =
-      sumBetween-cong rows values j (inverseAt n scratch z (row entryRows q)) (inverseAt n scratch z₀ (row entryRows q)) s p lo
+      sumBetween-cong rows values j (inverseAt nan n scratch z (row entryRows q)) (inverseAt nan n scratch z₀ (row entryRows q)) s p lo
       (λ i c d k. after _ (R .storing .behind q i a b (R .below q a b) c (omega arith) k))
 
 -- ---- from the first entry below the diagonal on

@@ -12,7 +12,7 @@ use Rattle.columns.specs.Columns.{row, value}
 use Rattle.columns.specs.Kept.{f0, nonzero, keptBelow}
 use Rattle.takahashi.specs.Recurrence.{run}
 use Rattle.exact.specs.Exact.{floats}
-use Rattle.layout.specs.Position.{Reading}
+use Rattle.pair_places.specs.Position.{PairEntryInput}
 use Rattle.column_sums.specs.Sums.{entriesAt, withProduct, Adding, Summing}
 
 -- one of them
@@ -47,8 +47,8 @@ summing-from S m lo hi = record {
 
 -- the inverse's entry for it
 pub adding-read : {n i j p : ℕ} {rows : List ℕ} {values : List Float} {scratch : List ℕ} {size : ℕ}
-    → Adding n i j p rows values scratch size → keptBelow rows (nonzero values) j p ≡ true → Reading n i (row rows p) scratch size
-adding-read A k = record { small = A .small; left = A .left; right = A .inside; room = A .room; known = A .known k }
+    → Adding n i j p rows values scratch size → keptBelow rows (nonzero values) j p ≡ true → PairEntryInput n i (row rows p) scratch size
+adding-read A k = record { pair = record { small = A .small; left = A .left; right = A .inside; room = A .room }; known = A .known k }
 
 -- ---- one product
 

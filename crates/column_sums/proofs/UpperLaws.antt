@@ -34,12 +34,12 @@ module _ {n j p e q m : ℕ} {rows : List ℕ} {values : List Float} {entryRows 
   rested-none z h = record {
     first = F;
     long = refl;
-    value = λ s l w. let k : m ≡ e = omega (arith, F .upto) in w ∙ ap (sumBetween rows values j (inverseAt n scratch z (row entryRows q)) s) k;
+    value = λ s l w. let k : m ≡ e = omega (arith, F .upto) in w ∙ ap (sumBetween rows values j (inverseAt nan n scratch z (row entryRows q)) s) k;
     others = λ i d. refl;
   }
 
   pub rested-set : (z : List Float) (x : Float) → q < length z
-      → Continued rows values j (inverseAt n scratch z (row entryRows q)) m e (getD z q nan) x → RestAdded n j p e q m rows values entryRows scratch z (set z q x)
+      → Continued rows values j (inverseAt nan n scratch z (row entryRows q)) m e (getD z q nan) x → RestAdded n j p e q m rows values entryRows scratch z (set z q x)
   rested-set z x fits C = record {
     first = F;
     long = length-set z q x;

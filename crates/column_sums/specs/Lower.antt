@@ -31,7 +31,7 @@ pub record Stepped (n j p q m last : ℕ) (rows : List ℕ) (values : List Float
   pub passed : (i : ℕ) → q ≤ i → i < m → row entryRows i < row rows p
   pub reached : (i : ℕ) → m ≤ i → i < last → row rows p ≤ row entryRows i
   pub long : length z′ ≡ length z
-  pub added : (i : ℕ) → m ≤ i → i < last → getD z′ i nan ≡ withProduct rows values j (inverseAt n scratch z (row entryRows i)) p (getD z i nan)
+  pub added : (i : ℕ) → m ≤ i → i < last → getD z′ i nan ≡ withProduct rows values j (inverseAt nan n scratch z (row entryRows i)) p (getD z i nan)
   pub before : (i : ℕ) → i < m → getD z′ i nan ≡ getD z i nan
   pub after : (i : ℕ) → last ≤ i → getD z′ i nan ≡ getD z i nan
 

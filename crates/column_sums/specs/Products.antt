@@ -5,8 +5,9 @@ use mathlib.Core.List.{List}
 use lib.ListN.{length, getD}
 use lib.Ieee.{Float, binary64, nan, add, mul}
 use Rattle.refusal.specs.Bounds.{maxDimension}
+use Rattle.pairs.specs.Positions.{positionAt}
 use Rattle.columns.specs.Columns.{row}
-use Rattle.layout.specs.Position.{positionOf, Reading}
+use Rattle.pair_places.specs.Position.{PairEntryInput}
 use Rattle.column_sums.specs.Run.{rowPositions}
 
 -- the entry at q, with the product of l and the entry at another position
@@ -23,7 +24,7 @@ rowTerms base l entryRows scratch z q = withTerm z q l (rowPositions base entryR
 
 -- the entry at q, with the product of l and the inverse's entry for its row and k
 abbrev pub columnTerms : ℕ → ℕ → Float → List ℕ → List ℕ → List Float → ℕ → Float
-columnTerms n k l entryRows scratch z q = withTerm z q l (positionOf n scratch (row entryRows q) k)
+columnTerms n k l entryRows scratch z q = withTerm z q l (positionAt n scratch (row entryRows q) k)
 
 -- the entries from `from` to below last, and as many from a position behind them
 pub record RunProductsRoom (from last position size : ℕ) : Type 0 where
@@ -52,7 +53,7 @@ pub record ColumnProductsRoom (n k from last : ℕ) (entryRows scratch : List �
   pub fits : last ≤ size
   pub listed : last ≤ length entryRows
   pub below : (q : ℕ) → from ≤ q → q < last → k ≤ row entryRows q
-  pub reads : (q : ℕ) → from ≤ q → q < last → Reading n (row entryRows q) k scratch size
-  pub behind : (q : ℕ) → from ≤ q → q < last → last ≤ positionOf n scratch (row entryRows q) k
+  pub reads : (q : ℕ) → from ≤ q → q < last → PairEntryInput n (row entryRows q) k scratch size
+  pub behind : (q : ℕ) → from ≤ q → q < last → last ≤ positionAt n scratch (row entryRows q) k
   pub rises : (q q′ : ℕ) → from ≤ q → q < q′ → q′ < last
-      → positionOf n scratch (row entryRows q) k < positionOf n scratch (row entryRows q′) k
+      → positionAt n scratch (row entryRows q) k < positionAt n scratch (row entryRows q′) k

@@ -9,7 +9,7 @@ use lib.Ieee.{Float, binary64, nan, eq, add, mul}
 use Rattle.columns.specs.Columns.{row, value}
 use Rattle.columns.specs.Kept.{f0, nonzero, keptBelow}
 use Rattle.column_sums.specs.Run.{rowPositions}
-use Rattle.column_sums.specs.Sums.{positionOf, Summing}
+use Rattle.column_sums.specs.Sums.{positionAt, Summing}
 
 -- the value at p is 0.0
 abbrev pub zeroAt : List Float → ℕ → Bool
@@ -48,4 +48,4 @@ pub record Rest (n i j first e : ℕ) (zeros : Bool) (rows : List ℕ) (values :
   pub above : (p : ℕ) → first ≤ p → p < e → i < row rows p
   pub whole : zeros ≡ false → (p : ℕ) → first ≤ p → p < e → nonzero values p ≡ true
   pub rises : (p q : ℕ) → first ≤ p → p < q → q < e → keptBelow rows (nonzero values) j p ≡ true → keptBelow rows (nonzero values) j q ≡ true
-      → positionOf n scratch i (row rows p) < positionOf n scratch i (row rows q)
+      → positionAt n scratch i (row rows p) < positionAt n scratch i (row rows q)

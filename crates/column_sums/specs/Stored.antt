@@ -10,7 +10,7 @@ use Rattle.refusal.specs.Bounds.{maxDimension}
 use Rattle.columns.specs.Columns.{row}
 use Rattle.columns.specs.Kept.{nonzero, keptBelow}
 use Rattle.columns.specs.Factor.{Ascends, Column}
-use Rattle.column_sums.specs.Sums.{positionOf, entrySum, Summing}
+use Rattle.column_sums.specs.Sums.{positionAt, entrySum, Summing}
 
 -- the result's entries from first to below last of column j, whose factor entries are stored from s to below e: their sums can be taken from
 -- entries behind them, whose positions rise with either row of a pair along a column
@@ -24,12 +24,12 @@ pub record Storing (n j first last s e : ℕ) (rows : List ℕ) (values : List F
   pub ascends : Ascends entryRows first last
   pub sums : (q : ℕ) → first ≤ q → q < last → j < row entryRows q → Summing n (row entryRows q) j s e rows values scratch size
   pub behind : (q p : ℕ) → first ≤ q → q < last → j < row entryRows q → s ≤ p → p < e → keptBelow rows (nonzero values) j p ≡ true
-      → last ≤ positionOf n scratch (row entryRows q) (row rows p)
+      → last ≤ positionAt n scratch (row entryRows q) (row rows p)
   pub rises : (q q′ p : ℕ) → first ≤ q → q < q′ → q′ < last → j < row entryRows q → s ≤ p → p < e → keptBelow rows (nonzero values) j p ≡ true
-      → row rows p ≤ row entryRows q → positionOf n scratch (row entryRows q) (row rows p) < positionOf n scratch (row entryRows q′) (row rows p)
+      → row rows p ≤ row entryRows q → positionAt n scratch (row entryRows q) (row rows p) < positionAt n scratch (row entryRows q′) (row rows p)
   pub follows : (q p p′ : ℕ) → first ≤ q → q < last → j < row entryRows q → s ≤ p → p < p′ → p′ < e → keptBelow rows (nonzero values) j p ≡ true
       → keptBelow rows (nonzero values) j p′ ≡ true → row entryRows q < row rows p
-      → positionOf n scratch (row entryRows q) (row rows p) < positionOf n scratch (row entryRows q) (row rows p′)
+      → positionAt n scratch (row entryRows q) (row rows p) < positionAt n scratch (row entryRows q) (row rows p′)
 
 -- the sums of the entries from first to below q are stored, and the entries from q on are as they were
 pub record SumsStored (n j first q s e : ℕ) (rows : List ℕ) (values : List Float) (entryRows scratch : List ℕ) (z₀ z : List Float) : Type 0 where

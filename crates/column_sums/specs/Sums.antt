@@ -6,7 +6,7 @@ use mathlib.Core.Path.{_≡_, refl, sym, ap, subst, _∙_}
 use mathlib.Core.Bool.{Bool, true, false}
 use mathlib.Core.List.{List, [], _∷_, _++_, map, map-append}
 use lib.ListN.{length}
-use lib.Ieee.{Float, binary64, ofBits, add, mul}
+use lib.Ieee.{Float, binary64, ofBits, nan, add, mul}
 use Rattle.lists.specs.Select.{one, select, select-none, select-next}
 use Rattle.refusal.specs.Bounds.{maxDimension}
 use Rattle.pairs.specs.Pair.{pairTotal}
@@ -17,7 +17,7 @@ use Rattle.columns.specs.Factor.{Column}
 use Rattle.takahashi.specs.Recurrence.{Arithmetic, Entry, run, dot}
 use Rattle.exact.specs.Multiple.{zero-float}
 use Rattle.exact.specs.Exact.{floats}
-pub use Rattle.layout.specs.Position.{positionOf, inverseAt, Reading}
+pub use Rattle.pairs.specs.Positions.{positionAt, inverseAt}
 
 -- the entries at some stored places
 abbrev pub entriesAt : List ℕ → List Float → List ℕ → List (Entry Float)
@@ -37,7 +37,7 @@ Continued rows values j r first e sum x = (s : ℕ) → s ≤ first → sum ≡ 
 
 -- the sum for row i of column j, whose entries are stored from s to e
 abbrev pub entrySum : ℕ → ℕ → ℕ → ℕ → List ℕ → List Float → List ℕ → List Float → ℕ → Float
-entrySum n j s e rows values scratch inverse i = sumBetween rows values j (inverseAt n scratch inverse i) s e
+entrySum n j s e rows values scratch inverse i = sumBetween rows values j (inverseAt nan n scratch inverse i) s e
 
 -- a stored entry whose product can be taken
 pub record Adding (n i j p : ℕ) (rows : List ℕ) (values : List Float) (scratch : List ℕ) (size : ℕ) : Type 0 where
@@ -47,7 +47,7 @@ pub record Adding (n i j p : ℕ) (rows : List ℕ) (values : List Float) (scrat
   pub weighed : p < length values
   pub inside : row rows p < n
   pub room : queueStart n + pairTotal n ≤ length scratch
-  pub known : keptBelow rows (nonzero values) j p ≡ true → positionOf n scratch i (row rows p) < size
+  pub known : keptBelow rows (nonzero values) j p ≡ true → positionAt n scratch i (row rows p) < size
 
 -- stored entries whose products can be taken
 pub record Summing (n i j s e : ℕ) (rows : List ℕ) (values : List Float) (scratch : List ℕ) (size : ℕ) : Type 0 where
@@ -56,7 +56,7 @@ pub record Summing (n i j s e : ℕ) (rows : List ℕ) (values : List Float) (sc
   pub column : Column rows (length values) s e
   pub inside : (p : ℕ) → s ≤ p → p < e → row rows p < n
   pub room : queueStart n + pairTotal n ≤ length scratch
-  pub known : (p : ℕ) → s ≤ p → p < e → keptBelow rows (nonzero values) j p ≡ true → positionOf n scratch i (row rows p) < size
+  pub known : (p : ℕ) → s ≤ p → p < e → keptBelow rows (nonzero values) j p ≡ true → positionAt n scratch i (row rows p) < size
 
 -- ---- the sum
 

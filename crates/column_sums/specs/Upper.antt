@@ -29,7 +29,7 @@ pub record EntryRoom (n j p e q : ℕ) (zero : Bool) (rows : List ℕ) (values :
 pub record RestAdded (n j p e q m : ℕ) (rows : List ℕ) (values : List Float) (entryRows scratch : List ℕ) (z z′ : List Float) : Type 0 where
   pub first : FirstFrom (row entryRows q + 1) rows p e m
   pub long : length z′ ≡ length z
-  pub value : Continued rows values j (inverseAt n scratch z (row entryRows q)) m e (getD z q nan) (getD z′ q nan)
+  pub value : Continued rows values j (inverseAt nan n scratch z (row entryRows q)) m e (getD z q nan) (getD z′ q nan)
   pub others : (i : ℕ) → i ≢ q → getD z′ i nan ≡ getD z i nan
 
 -- the column's sums, and whether one of its stored values is 0.0

@@ -4,7 +4,7 @@ ghost use lib.ListN.{length, getD, set};
 ghost use Rattle.column_sums.specs.Part.{PartSet};
 ghost use Rattle.column_sums.specs.Products.{withTerm, runTerms, rowTerms, columnTerms, RunProductsRoom, WordProductRoom, RowsProductsRoom, ColumnProductsRoom};
 use super::runs::is_run;
-use layout::positions::column_base;
+use pair_places::positions::column_base;
 use words::at;
 
 // Adds to each entry from `from` to last the product of l and an entry, the first at the position, each next one place further.

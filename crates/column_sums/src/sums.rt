@@ -2,6 +2,7 @@
 ghost use mathlib.Core.Path.{_≡_};
 ghost use mathlib.Core.Bool.{true};
 ghost use Prim.Native.Nat.{_+_, _≤_, _<_};
+ghost use lib.Ieee.{nan};
 ghost use lib.ListN.{length};
 ghost use Rattle.lists.specs.Test.{anyIn};
 ghost use Rattle.pairs.specs.Scratch.{queueStart};
@@ -10,10 +11,10 @@ ghost use Rattle.column_sums.specs.Run.{rowPositions};
 ghost use Rattle.column_sums.specs.Sums.{inverseAt, Adding, Summing, withProduct, sumBetween, Continued};
 ghost use Rattle.column_sums.specs.Rest.{zeroAt, Summed, runPositions, RestRunRoom, RestRowsRoom, Rest};
 use super::runs::is_run;
-use layout::positions::column_base;
-use layout::positions::column_shift;
-use layout::positions::pair_entry;
-use scratch::queue_start;
+use pair_places::positions::column_base;
+use pair_places::positions::column_shift;
+use pair_places::positions::pair_position;
+use pair_places::scratch::queue_start;
 use words::at;
 
 // The sum with the product of the stored entry at p, where it is kept below the diagonal of column j; other entries are passed over.
@@ -33,7 +34,7 @@ fn add_product(
 ) -> f64
     requires { ⌜ (positions ≡ queueStart n) × (base + i ≡ queueStart n + colStart n i) ⌝ }
     requires { ⌜ Adding n i j p (now rows) (now values) (now scratch) (length (now inverse)) ⌝ }
-    ensures { λ x. ⌜ x ≡ withProduct (now (rows .entry)) (now (values .entry)) j (inverseAt n (now (scratch .entry)) (now (inverse .entry)) i) p sum ⌝ }
+    ensures { λ x. ⌜ x ≡ withProduct (now (rows .entry)) (now (values .entry)) j (inverseAt nan n (now (scratch .entry)) (now (inverse .entry)) i) p sum ⌝ }
 {
     let k = at(rows, p);
     if k <= j {
@@ -41,7 +42,8 @@ fn add_product(
     }
     let l = values[p];
     if l != 0.0 {
-        return sum + l * pair_entry(n, positions, base, i, k, scratch, inverse);
+        let position = pair_position(n, positions, base, i, k, scratch);
+        return sum + l * inverse[position];
     }
     sum
 }
@@ -60,7 +62,7 @@ fn sum_from(
     inverse: &[f64],
 ) -> f64
     requires { ⌜ Summing n i j first e (now rows) (now values) (now scratch) (length (now inverse)) ⌝ }
-    ensures { λ x. ⌜ Continued (now (rows .entry)) (now (values .entry)) j (inverseAt n (now (scratch .entry)) (now (inverse .entry)) i) first e start x ⌝ }
+    ensures { λ x. ⌜ Continued (now (rows .entry)) (now (values .entry)) j (inverseAt nan n (now (scratch .entry)) (now (inverse .entry)) i) first e start x ⌝ }
 {
     let positions = queue_start(n);
     let base = positions + column_shift(n, i);
@@ -98,7 +100,7 @@ pub fn entry_sum(
     inverse: &[f64],
 ) -> f64
     requires { ⌜ Summing n i j s e (now rows) (now values) (now scratch) (length (now inverse)) ⌝ }
-    ensures { λ x. ⌜ x ≡ sumBetween (now (rows .entry)) (now (values .entry)) j (inverseAt n (now (scratch .entry)) (now (inverse .entry)) i) s e ⌝ }
+    ensures { λ x. ⌜ x ≡ sumBetween (now (rows .entry)) (now (values .entry)) j (inverseAt nan n (now (scratch .entry)) (now (inverse .entry)) i) s e ⌝ }
 {
     sum_from(n, i, j, s, e, 0.0, rows, values, scratch, inverse)
 }
@@ -182,7 +184,7 @@ pub fn sum_rest(
     inverse: &[f64],
 ) -> f64
     requires { ⌜ Rest n i j first e zeros (now rows) (now values) (now scratch) (length (now inverse)) ⌝ }
-    ensures { λ x. ⌜ Continued (now (rows .entry)) (now (values .entry)) j (inverseAt n (now (scratch .entry)) (now (inverse .entry)) i) first e start x ⌝ }
+    ensures { λ x. ⌜ Continued (now (rows .entry)) (now (values .entry)) j (inverseAt nan n (now (scratch .entry)) (now (inverse .entry)) i) first e start x ⌝ }
 {
     if !zeros {
         let base = column_base(n, i);

@@ -6,21 +6,22 @@ use mathlib.Core.Path.{_≡_, ap, _∙_}
 use mathlib.Core.Bool.{true}
 use mathlib.Core.List.{List}
 use lib.ListN.{length}
-use lib.Ieee.{Float}
+use lib.Ieee.{Float, nan}
 use borrow.Author.Tests.{leb-true}
 use Rattle.lists.specs.Overwrite.{overwrite, cleared}
 use Rattle.refusal.specs.Steps.{Step, Passed}
 use Rattle.pairs.specs.Scratch.{scratchWords-room}
+use Rattle.pairs.specs.Positions.{inverseAt}
 use Rattle.columns.specs.Kept.{nonzero, pattern}
 use Rattle.closed_set.specs.ClosedSet.{Holds, member-holds}
 use Rattle.closed_set.specs.Size.{closureSize-most}
 use Rattle.closed_set.specs.FactorPattern.{factor-pattern}
 use Rattle.entries.specs.Entries.{entryValues}
-use Rattle.layout.specs.Position.{Positioned}
+use Rattle.entries.specs.Position.{Positioned}
 use Rattle.selection.specs.Selection.{Selection, Lent, roomOf, scratchWords, selectedSet, selectedSize, selectedComplete, selectedTable, lists, fillingOf}
 use Rattle.selection.specs.Selection.{ResultLists, complete-values}
 use Rattle.quadratic_form.specs.RowValue.{operatorsValues}
-use Rattle.operator_values.specs.Reading.{placed, OperatorsReading}
+use Rattle.operator_values.specs.Reading.{OperatorsReading}
 use Rattle.operator_values.specs.Filled.{filled-pairs-reading, filled-pairs-values}
 use Rattle.covariances.specs.Covariances.{CovarianceCall, covarianceSelection, covarianceSteps, covarianceValues, AcceptedCovariances}
 
@@ -60,9 +61,9 @@ module _ (x : CovarianceCall) (lent : Lent) (output : List Float) where
         (x .a .rowStarts) (x .a .columns) (x .a .weights) (x .b .rowStarts) (x .b .columns) (x .b .weights) (x .aRows) (x .bRows)
         (A .operators) holds (length output) (A .accepted .small) (omega (arith, scratchWords-room (x .factor .n) (A .accepted .scratch-room))) (A .room))
 
-    pub covariance-written : operatorsValues (x .a .rowStarts) (x .a .columns) (x .a .weights) (x .b .rowStarts) (x .b .columns) (x .b .weights) (x .aRows) (x .bRows) (placed (x .factor .n) mid rv) ≡ covarianceValues x
+    pub covariance-written : operatorsValues (x .a .rowStarts) (x .a .columns) (x .a .weights) (x .b .rowStarts) (x .b .columns) (x .b .weights) (x .aRows) (x .bRows) (inverseAt nan (x .factor .n) mid rv) ≡ covarianceValues x
     covariance-written =
-        ap (λ (v : List Float). operatorsValues (x .a .rowStarts) (x .a .columns) (x .a .weights) (x .b .rowStarts) (x .b .columns) (x .b .weights) (x .aRows) (x .bRows) (placed (x .factor .n) mid v)) values-are
+        ap (λ (v : List Float). operatorsValues (x .a .rowStarts) (x .a .columns) (x .a .weights) (x .b .rowStarts) (x .b .columns) (x .b .weights) (x .aRows) (x .bRows) (inverseAt nan (x .factor .n) mid v)) values-are
         ∙ filled-pairs-values (x .factor .n) (selectedSet sel) (selectedTable sel) mid (lent .resultValues) values-fit P
         (x .a .rowStarts) (x .a .columns) (x .a .weights) (x .b .rowStarts) (x .b .columns) (x .b .weights) (x .aRows) (x .bRows)
         (A .operators) holds

@@ -6,9 +6,9 @@ ghost use Rattle.covariances.specs.Covariances.{operator, covarianceCall
 use checks::check_covariances;
 use diagnostics::Selected;
 use diagnostics::SelectedInverseStatus;
-use fill::clear_scratch;
 use fill::fill_lists;
 use operator_values::operators_values;
+use pair_places::scratch::clear_scratch;
 use refusal::Checked;
 use request_marks::cross::mark_cross_pairs;
 use selected_checks::default_limit;

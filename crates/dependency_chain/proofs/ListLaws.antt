@@ -12,6 +12,7 @@ use Rattle.lists.specs.Overwrite.{overwrite, overwrite-none, cleared}
 use Rattle.refusal.specs.Steps.{Step, Reply, refused, answered, verdict, first, after, settle, Passed, first-hit, first-skip, first-end, first-refused, first-passed}
 use Rattle.refusal.specs.Steps.{append-refused, append-passed, after-refused, after-passed}
 use Rattle.pairs.specs.Pair.{pairTotal}
+use Rattle.pairs.specs.Scratch.{chainWords, chainWords-levels}
 use Rattle.pairs.specs.ColumnOrder.{columnPlace}
 use Rattle.columns.specs.Kept.{nonzero, pattern}
 use Rattle.closed_set.specs.ClosedSet.{Pattern, Ranged}
@@ -23,8 +24,8 @@ use Rattle.levels.specs.Levels.{levelWord}
 use Rattle.levels.specs.Closing.{AllLevels}
 use Rattle.levels.specs.Back.{levelsChain, levels-chain, level-most}
 use Rattle.levels.specs.Written.{rowsOf, columnsOf}
-use Rattle.dependency_chain.specs.Laws.{ListInput, SeekInput, chainWords-levels}
-use Rattle.dependency_chain.specs.Chain.{ChainCall, chainTo, chainWords, chainRoomSteps, askedSteps, chainSteps, Listed, ChainListed}
+use Rattle.dependency_chain.specs.Laws.{ListInput, SeekInput}
+use Rattle.dependency_chain.specs.Chain.{ChainCall, chainTo, chainRoomSteps, askedSteps, chainSteps, Listed, ChainListed}
 
 module _ (chain : List (ℕ × ℕ)) (rows columns : List ℕ) where
   abbrev steps : List Step

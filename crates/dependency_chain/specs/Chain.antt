@@ -1,6 +1,6 @@
 -- A call for the chain to a pair: what it is handed, what it refuses in document 02's order, what it answers and leaves.
 -- Assumes nothing.
-use Prim.Native.Nat.{ℕ, _+_, _*_, min, max}
+use Prim.Native.Nat.{ℕ, min, max}
 use mathlib.Core.Path.{_≡_}
 use mathlib.Core.List.{List, [], _∷_, _++_}
 use lib.Dec.{ltb, leb}
@@ -9,8 +9,9 @@ use lib.Ieee.{Float}
 use Rattle.lists.specs.Overwrite.{overwrite, cleared}
 use Rattle.refusal.specs.Steps.{Step, Reply, first, after}
 use Rattle.refusal.specs.Groups.{grouped}
+use Rattle.pairs.specs.Scratch.{chainWords}
+use Rattle.columns.specs.Columns.{boundSteps, FactorLists, factorLists}
 use Rattle.pairs.specs.Pair.{pairTotal}
-use Rattle.columns.specs.Columns.{FactorLists, factorLists, boundSteps}
 use Rattle.columns.specs.Stored.{storedSteps}
 use Rattle.columns.specs.Diagonal.{diagonalSteps}
 use Rattle.columns.specs.Kept.{nonzero, pattern}
@@ -38,10 +39,6 @@ chainCall n starts rows values dimension requestRows requestColumns row column =
   row = row;
   column = column;
 }
-
--- the words of scratch: a level and a place of the queue for each pair, and 4n more
-unfoldable pub chainWords : ℕ → ℕ
-chainWords n = 2 * pairTotal n + 4 * n
 
 -- 7: fewer words of scratch; 5: an index of the pair that is n or more
 unfoldable pub seekSteps : ℕ → ℕ → ℕ → ℕ → List Step

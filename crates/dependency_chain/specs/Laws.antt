@@ -11,7 +11,7 @@ use borrow.Author.Tests.{ltb-false, leb-false}
 use Rattle.refusal.specs.Bounds.{maxDimension}
 use Rattle.refusal.specs.Steps.{Passed, passed-clear, passed-front}
 use Rattle.refusal.specs.Groups.{groups-passed}
-use Rattle.pairs.specs.Pair.{pairTotal}
+use Rattle.pairs.specs.Scratch.{chainWords}
 use Rattle.columns.specs.Columns.{boundSteps}
 use Rattle.columns.specs.Factor.{Factor, boundSteps-sound}
 use Rattle.columns.specs.Stored.{storedSteps-sound}
@@ -24,7 +24,7 @@ use Rattle.chains.specs.ChainOf.{chain-shown, chain-empty}
 use Rattle.selection.specs.RequestSteps.{requestBoundSteps, requestSteps-sound}
 use Rattle.levels.specs.Levels.{levelWord}
 use Rattle.levels.specs.Written.{BackInput}
-use Rattle.dependency_chain.specs.Chain.{ChainCall, chainTo, chainWords, seekSteps, askedGroups, askedSteps}
+use Rattle.dependency_chain.specs.Chain.{ChainCall, chainTo, seekSteps, askedGroups, askedSteps}
 
 -- a pair, its level, and the words of the levels
 pub record ListInput (n : ℕ) (starts rows : List ℕ) (values r c level : ℕ) (s : List ℕ) : Type 0 where
@@ -58,11 +58,6 @@ asked-accepted x s p =
       inside = omega (arith, a, b);
       room = ltb-false _ _ (k .0);
     }
-
--- the levels and their queue stand in the first words of the scratch
-pub chainWords-levels : (n : ℕ) → pairTotal n + pairTotal n ≤ chainWords n
-unfolding chainWords
-chainWords-levels n = omega arith
 
 -- what the answer means, of a call that is not refused before the chain is looked for
 module _ (x : ChainCall) (s : List ℕ) (p : Passed (askedSteps x (length s))) where

@@ -6,23 +6,24 @@ ghost use Rattle.refusal.specs.Bounds.{maxDimension};
 ghost use Rattle.refusal.specs.Steps.{verdict};
 ghost use Rattle.refusal.specs.Refusal.{replyOf};
 ghost use Rattle.lists.specs.Overwrite.{cleared};
+ghost use Rattle.pairs.specs.Scratch.{chainWords};
 ghost use Rattle.columns.specs.Kept.{nonzero, pattern};
 ghost use Rattle.closed_set.specs.Requests.{requested};
 ghost use Rattle.chains.specs.ChainOf.{chainOf};
 ghost use Rattle.levels.specs.Levels.{levelWord};
 ghost use Rattle.levels.specs.Back.{levelsChain};
 ghost use Rattle.dependency_chain.specs.Reply.{chainReply};
-ghost use Rattle.dependency_chain.specs.Chain.{chainCall, chainWords, seekSteps, askedSteps, Listed, ChainListed};
+ghost use Rattle.dependency_chain.specs.Chain.{chainCall, seekSteps, askedSteps, Listed, ChainListed};
 ghost use Rattle.dependency_chain.specs.Laws.{ListInput, SeekInput};
 use factor_check::bounds::check_bounds;
 use factor_check::check_stored;
 use kept_entries::diagonal_check::check_diagonals;
 use levels::chain::write_chain;
 use levels::closing::level_pairs;
-use marked_pairs::column_place;
+use pair_places::column_place;
+use pair_places::scratch::chain_words;
 use refusal::Checked;
 use refusal::Refusal;
-use scratch::pair_total;
 use selected_checks::check_request_bound;
 use selected_checks::requests::check_requests;
 use verdicts::first_of;
@@ -35,14 +36,6 @@ use words::order::smaller;
 pub enum Chain {
     Pairs(usize),
     Refused(Refusal),
-}
-
-// How many words of scratch a chain needs.
-fn chain_words(n: usize) -> usize
-    requires { ⌜ n ≤ maxDimension ⌝ }
-    ensures { λ m. ⌜ m ≡ chainWords n ⌝ }
-{
-    2 * pair_total(n) + 4 * n
 }
 
 // Steps 7 of the scratch and 5 of the pair.

@@ -15,8 +15,13 @@ use Rattle.lists.specs.Select.{select, tally, select-yes, select-next, select-c
 use Rattle.lists.specs.Tabulate.{tabulate-cong}
 use Rattle.lists.specs.Overwrite.{overwrite, overwrite-length, overwrite-at, overwrite-past}
 use Rattle.lists.specs.Cells.{cells, cellCount, cells-next, cells-length, cells-cong, cellCount-next, cellCount-mono, cellCount-cong}
-use Rattle.pairs.specs.ColumnOrder.{byColumn, columnFirst, columnEnd, setSize}
+use Rattle.pairs.specs.Scratch.{queueStart}
+use Rattle.pairs.specs.ColumnOrder.{columnPlace, byColumn, columnFirst, columnEnd, setSize}
 use Rattle.entries.specs.Entries.{columnCount, position, entryStarts, entryRows, entryValues, entryValues-length}
+
+-- the position of each member of a set stands in the scratch, in the word of its place
+abbrev pub Positioned : ℕ → (ℕ → ℕ → Bool) → List ℕ → Type 0
+Positioned n S s = (r c : ℕ) → c ≤ r → r < n → S r c ≡ true → getD s (queueStart n + columnPlace n r c) 0 ≡ position n S r c
 
 -- ---- one column
 

@@ -21,10 +21,9 @@ use Rattle.closed_set.specs.KeptSet.{factorPairs-most, patternPairs-most}
 use Rattle.closed_set.specs.ClosedSet.{Pattern}
 use Rattle.closed_set.specs.Size.{closureSize-most}
 use Rattle.entries.specs.Entries.{entryStarts, entryRows, entryValues, entryStarts-length, entryRows-length}
-use Rattle.entries.specs.Position.{position-cong, entryStarts-cong, entryRows-cong, entryValues-cong}
+use Rattle.entries.specs.Position.{Positioned, position-cong, entryStarts-cong, entryRows-cong, entryValues-cong}
 use Rattle.diagnostics.specs.declared.SelectedInverseDiagnostics.{SelectedInverseDiagnostics}
 use Rattle.diagnostics.specs.declared.SelectedInverseStatus.the-variants.{Complete, ClosureTooLarge}
-use Rattle.layout.specs.Position.{Positioned}
 use Rattle.marked_pairs.specs.MarkedPairs.{ColumnsReached}
 use Rattle.closure.specs.Closure.{Closing}
 use Rattle.closed_set.specs.FactorPattern.{factor-pattern}

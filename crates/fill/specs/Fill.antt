@@ -13,11 +13,11 @@ use Rattle.refusal.specs.Steps.{Step, Passed}
 use Rattle.pairs.specs.Pair.{pairTotal}
 use Rattle.pairs.specs.Scratch.{queueStart, scratchWords-queue}
 use Rattle.marked_pairs.specs.MarkedPairs.{Marked, MarkedPairs}
-use Rattle.layout.specs.Position.{Positioned}
 use Rattle.closure.specs.Closure.{Requested, markedSet, marked-requested}
 use Rattle.columns.specs.Columns.{FactorLists}
 use Rattle.columns.specs.Form.{Form}
-use Rattle.selection.specs.Selection.{selecting, lists, Lent, roomOf, scratchWords, Accepted, selectedSet, selectedComplete, selectedAnswer, fillingOf, ResultLists}
+use Rattle.entries.specs.Position.{Positioned}
+use Rattle.selection.specs.Selection.{selecting, lists, Lent, roomOf, scratchWords, Accepted, selectedSet, selectedComplete, selectedAnswer, ResultLists, fillingOf}
 use Rattle.selection.specs.Selection.{lists-passed, passed-starts, passed-rows, passed-values, passed-scratch, nothing-refused, cleared-same}
 
 -- a call past its checks, with the requested pairs marked in the scratch

@@ -6,17 +6,16 @@ ghost use Rattle.columns.specs.Columns.{factorLists};
 ghost use Rattle.lists.specs.Overwrite.{cleared};
 ghost use Rattle.refusal.specs.Bounds.{maxDimension};
 ghost use Rattle.columns.specs.Form.{cholesky};
-ghost use Rattle.selection.specs.Selection.{lists, scratchWords};
+ghost use Rattle.selection.specs.Selection.{lists};
 ghost use Rattle.fill.specs.Fill.{FillInput, Fills, FillsLists};
 use closure::diagnose;
 use diagnostics::SelectedInverseDiagnostics;
 use diagnostics::SelectedInverseStatus;
 use kept_entries::factor_pairs;
 use layout::lay_out;
+use pair_places::scratch::clear_scratch;
 use refusal::MAX_DIMENSION;
 use routes::takahashi_selected_inverse;
-use scratch::scratch_words;
-use words::clear;
 
 // The diagnosis; where the closed set of the marked pairs is within the limit the result lists are filled, and the scratch ends with the
 // positions of its members.
@@ -73,14 +72,6 @@ pub fn fill_lists(
         }
         SelectedInverseStatus::ClosureTooLarge => diagnosis,
     }
-}
-
-// Sets the words of scratch that a call uses to 0.
-pub fn clear_scratch(n: usize, scratch: &mut [u32])
-    requires { ⌜ (n ≤ maxDimension) × (scratchWords n ≤ length (now scratch)) ⌝ }
-    ensures { λ _. ⌜ now (scratch .exit) ≡ cleared (scratchWords n) (now (scratch .entry)) ⌝ }
-{
-    clear(scratch, scratch_words(n));
 }
 
 // The diagnosis; where the closed set of the marked pairs is within the limit the result lists are filled. The scratch ends cleared.

@@ -13,7 +13,8 @@ use Rattle.pairs.specs.Scratch.{queueStart}
 use Rattle.pairs.specs.ColumnOrder.{colStart, columnPlace}
 use Rattle.pairs.specs.ColumnOrder.{columnMarking, setSize}
 use Rattle.layout.specs.ColumnRows.{columnTest, ColumnRoom, ColumnListed}
-use Rattle.entries.specs.Entries.{position, entryStarts, entryRows}
+use Rattle.entries.specs.Entries.{entryStarts, entryRows}
+use Rattle.entries.specs.Position.{Positioned}
 
 -- ---- the positions of listed rows
 
@@ -67,6 +68,5 @@ pub record LaidOut (n : ℕ) (starts₀ rows₀ s₀ starts rows s : List ℕ) (
   pub rows-are : rows ≡ overwrite (entryRows n (columnMarking n s₀)) rows₀
   pub long : length s ≡ length s₀
   pub marks : (p : ℕ) → p < queueStart n → getD s p 0 ≡ getD s₀ p 0
-  pub positions : (r c : ℕ) → c ≤ r → r < n → columnMarking n s₀ r c ≡ true
-      → getD s (queueStart n + columnPlace n r c) 0 ≡ position n (columnMarking n s₀) r c
+  pub positions : Positioned n (columnMarking n s₀) s
   pub later : drop (queueStart n + pairTotal n) s ≡ drop (queueStart n + pairTotal n) s₀

@@ -1,4 +1,3 @@
--- The result's layout from the marks of a set of pairs, and entries read by position.
+-- The result's layout from the marks of a set of pairs.
 pub mod ColumnRows
-pub mod Position
 pub mod Layout

@@ -1,11 +1,9 @@
 // The result's layout from the marks of a set of pairs: the starts, the rows, and each member's position in them.
-pub mod positions;
-
 ghost use Prim.Native.Nat.{_≤_, _<_};
 ghost use lib.ListN.{length};
 ghost use Rattle.marked_pairs.specs.MarkedPairs.{ColumnsReached};
 ghost use Rattle.layout.specs.Layout.{PositionsRoom, PositionsLaid, LayColumn, ColumnLaid, ReachedColumn, LayOut, LaidOut};
-use scratch::queue_start;
+use pair_places::scratch::queue_start;
 use set_bits::count::count_bits;
 use set_bits::list_bits;
 use words::at;

@@ -17,8 +17,8 @@ use Rattle.lists.specs.Sum.{bit, sumTo-zero, sumTo-one}
 use Rattle.lists.specs.Overwrite.{cleared, filled-at, filled-length, filled-later}
 use Rattle.refusal.specs.Bounds.{maxDimension}
 use Rattle.pairs.specs.Pair.{pairTotal, ordered}
+use Rattle.pairs.specs.Scratch.{packed, rowOf, columnOf}
 use Rattle.pairs.specs.ColumnOrder.{columnPlace, columnPlace-below, columnPlace-same, setSize, setSize-sum, setSize-cong, setSize-most}
-use Rattle.marked_pairs.specs.MarkedPairs.{packed, rowOf, columnOf}
 use Rattle.levels.specs.Levels.{levelWord, levelled, levelQueue, raised, QueuedLevel, Levelled, Raised, raised-stays, raised-in, raised-other, raised-cong}
 
 -- a pair the other way round

@@ -11,6 +11,7 @@ use lib.ListN.{length, getD, drop}
 use Rattle.lists.specs.Test.{any, anyIn, any-hit, any-found, anyIn-hit, anyIn-found, same-truth, and-left, and-right, and-both, not-so}
 use Rattle.refusal.specs.Bounds.{maxDimension}
 use Rattle.pairs.specs.Pair.{pairTotal, ordered, ordered-is, is-ordered}
+use Rattle.pairs.specs.Scratch.{rowOf, columnOf, packed, row-packed, column-packed}
 use Rattle.columns.specs.Columns.{start, row}
 use Rattle.columns.specs.Kept.{keptBelow, pattern}
 use Rattle.columns.specs.Factor.{Factor}
@@ -19,7 +20,6 @@ use Rattle.closed_set.specs.FactorPattern.{entry-descends, descends-entry}
 use Rattle.closed_set.specs.Requests.{Requests}
 use Rattle.chains.specs.Distance.{Leads, distance, reach-distance, distance-request}
 use Rattle.chains.specs.Levels.{levelAt, After, reach-level, level-last, levelAt-own, levelAt-stays, levelAt-new}
-use Rattle.marked_pairs.specs.MarkedPairs.{packing, packed, rowOf, columnOf}
 use Rattle.levels.specs.Levels.{levelWord, levelQueue, Levelled, raised, Raised, raised-stays, raised-in, raised-out}
 
 -- (x, y) is a dependency of (a, b)
@@ -122,13 +122,6 @@ column-depends {n} {starts} {rows} nz F r c h x y =
     (and-both _ _ (g .3) (is-ordered r (row rows (g .0)) x y (w .2 ∙ ap (max r) (sym (g .4))) (w .3 ∙ ap (min r) (sym (g .4))))))
 
 -- ---- from level to level
-
--- the row and the column of a pair's word
-pub row-packed : (r c : ℕ) → c < packing → rowOf (packed r c) ≡ r
-row-packed r c h = omega arith
-
-pub column-packed : (r c : ℕ) → c < packing → columnOf (packed r c) ≡ c
-column-packed r c h = omega arith
 
 module _ (n : ℕ) (desc : ℕ → List ℕ) (req : ℕ → ℕ → Bool) (k r c : ℕ) where
   levelAt-some : reach desc req k r c ≡ true → 0 < levelAt n desc req k r c

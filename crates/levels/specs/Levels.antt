@@ -12,8 +12,8 @@ use borrow.Author.Tests.{lt-ltb, le-ltb}
 use Rattle.lists.specs.Test.{any, anyIn, any-next, anyIn-next}
 use Rattle.refusal.specs.Bounds.{maxDimension}
 use Rattle.pairs.specs.Pair.{pairTotal, ordered}
+use Rattle.pairs.specs.Scratch.{packed, rowOf, columnOf}
 use Rattle.pairs.specs.ColumnOrder.{columnPlace, setSize, setSize-most}
-use Rattle.marked_pairs.specs.MarkedPairs.{packed, rowOf, columnOf}
 
 -- the level of (r, c), 0 for none
 abbrev pub levelWord : ℕ → List ℕ → ℕ → ℕ → ℕ

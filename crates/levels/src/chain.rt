@@ -13,7 +13,7 @@ ghost use Rattle.levels.specs.Back.{backRow, backColumn, levelsBack};
 ghost use Rattle.levels.specs.Written.{rowsOf, columnsOf, BackInput, WriteInput};
 use kept_entries::diagonal::first_from;
 use kept_entries::kept_below;
-use marked_pairs::column_place;
+use pair_places::column_place;
 use words::at;
 
 // A row and a column.

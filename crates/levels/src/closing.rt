@@ -10,8 +10,8 @@ ghost use Rattle.levels.specs.Levels.{levelQueue, Raised};
 ghost use Rattle.levels.specs.Closing.{depends, wordDepends, ClosePair, CloseEntry, CloseLevel, LevelPairs, LevelOne, MarkLevels, AllLevels};
 use super::insert_level;
 use kept_entries::kept_below;
-use marked_pairs::PACKING;
-use scratch::pair_total;
+use pair_places::PACKING;
+use pair_places::pair_total;
 use words::at;
 use words::clear;
 

@@ -5,9 +5,9 @@ pub mod closing;
 ghost use Prim.Native.Nat.{_≤_};
 ghost use Rattle.pairs.specs.Pair.{ordered};
 ghost use Rattle.levels.specs.Levels.{InsertLevel, Raised};
-use marked_pairs::PACKING;
-use marked_pairs::column_place;
-use scratch::pair_total;
+use pair_places::PACKING;
+use pair_places::column_place;
+use pair_places::pair_total;
 
 // Gives the pair (r, c), in order, the level and puts it at the queue's end, unless it has one; returns how many have one.
 fn insert_ordered_level(

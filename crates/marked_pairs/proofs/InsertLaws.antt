@@ -18,9 +18,9 @@ use Rattle.lists.specs.Overwrite.{cleared, filled-at, filled-length, filled-lat
 use Rattle.bits.specs.Bits.{bitAt, bitWords, withBit, bit-clear, bit-same, bit-set, word-below}
 use Rattle.refusal.specs.Bounds.{maxDimension}
 use Rattle.pairs.specs.Pair.{pairTotal, ordered}
-use Rattle.pairs.specs.Scratch.{queueStart, queueStart-words, queueStart-mark}
+use Rattle.pairs.specs.Scratch.{queueStart, queueStart-words, queueStart-mark, packed, rowOf, columnOf}
 use Rattle.pairs.specs.ColumnOrder.{columnPlace, columnMarking, columnPlace-below, columnPlace-same, setSize, setSize-sum, setSize-cong, setSize-most}
-use Rattle.marked_pairs.specs.MarkedPairs.{packed, rowOf, columnOf, queueWord, Queued, Marked, Gained, MarkedPairs, Inserted, also-cong}
+use Rattle.marked_pairs.specs.MarkedPairs.{queueWord, Queued, Marked, Gained, MarkedPairs, Inserted, also-cong}
 
 -- ---- one pair
 

@@ -1,6 +1,6 @@
 -- Marked pairs and a queue of them: words that mark more pairs than before, and words that mark exactly the pairs of a set.
 -- Assumes nothing.
-use Prim.Native.Nat.{ℕ, _+_, _*_, _/_, _%_, _≤_, _<_, min, max}
+use Prim.Native.Nat.{ℕ, _+_, _≤_, _<_, min, max}
 use native.Mathlib.Omega.{arith}
 use mathlib.Core.Path.{_≡_, refl, sym, ap, _∙_}
 use mathlib.Core.Bool.{Bool, true, false, _||_}
@@ -9,21 +9,8 @@ use lib.ListN.{length, getD, drop}
 use Rattle.lists.specs.Test.{any, anyIn, any-next, anyIn-next}
 use Rattle.refusal.specs.Bounds.{maxDimension}
 use Rattle.pairs.specs.Pair.{pairTotal, ordered}
-use Rattle.pairs.specs.Scratch.{queueStart}
+use Rattle.pairs.specs.Scratch.{queueStart, packed, rowOf, columnOf}
 use Rattle.pairs.specs.ColumnOrder.{columnMarking, setSize, setSize-most}
-
--- a pair as one word of the queue, and the row and column of a word
-abbrev pub packing : ℕ
-packing = 4096
-
-abbrev pub packed : ℕ → ℕ → ℕ
-packed r c = r * packing + c
-
-abbrev pub rowOf : ℕ → ℕ
-rowOf w = w / packing
-
-abbrev pub columnOf : ℕ → ℕ
-columnOf w = w % packing
 
 -- word j of the queue
 abbrev pub queueWord : ℕ → List ℕ → ℕ → ℕ

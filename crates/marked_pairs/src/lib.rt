@@ -1,29 +1,18 @@
 // The words that closing uses: marks of pairs, one bit for each, column by column, and behind them a queue of the marked pairs, after `insert_closure_pair` of uncertainty.rs.
-ghost use mathlib.Core.Path.{_≡_};
 ghost use mathlib.Core.Bool.{false};
-ghost use Prim.Native.Nat.{_+_, _<_, _≤_};
+ghost use Prim.Native.Nat.{_+_, _≤_};
 ghost use lib.ListN.{length};
 ghost use Rattle.refusal.specs.Bounds.{maxDimension};
 ghost use Rattle.pairs.specs.Pair.{pairTotal};
 ghost use Rattle.pairs.specs.Scratch.{queueStart};
-ghost use Rattle.pairs.specs.ColumnOrder.{columnPlace};
 ghost use Rattle.marked_pairs.specs.MarkedPairs.{Insert, Inserted, MarkedPairs};
-use scratch::mark_words;
-use scratch::queue_start;
+use pair_places::PACKING;
+use pair_places::column_place;
+use pair_places::scratch::mark_words;
+use pair_places::scratch::queue_start;
 use words::bit_words::bit;
 use words::bit_words::set_bit;
 use words::clear;
-
-// A pair is one word of the queue: row times PACKING, and the column.
-pub const PACKING: usize = 4096;
-
-// The place of (r, c): columns one after the other, each from its diagonal down.
-pub fn column_place(n: usize, r: usize, c: usize) -> usize
-    requires { ⌜ (n ≤ maxDimension) × (c ≤ r) × (r < n) ⌝ }
-    ensures { λ p. ⌜ p ≡ columnPlace n r c ⌝ }
-{
-    c * (2 * n + 1 - c) / 2 + (r - c)
-}
 
 // Marks no pair: clears the words of all pairs' bits.
 pub fn clear_pairs(n: usize, scratch: &mut [u32])

@@ -43,10 +43,7 @@ row-reading R i h =
       weighed₂ = omega (arith, O .weighed);
       inside = λ a la ha. O .inside a (omega arith);
       reads = λ a b la ha lb hb. record {
-        small = R .small;
-        left = O .inside a (omega arith);
-        right = O .inside b (omega arith);
-        room = R .words;
+        pair = record { small = R .small; left = O .inside a (omega arith); right = O .inside b (omega arith); room = R .words };
         known = R .known i a b h la ha lb hb;
       };
     }
@@ -72,10 +69,7 @@ pair-reading {aRows = aRows} {bRows = bRows} R p h =
       weighed₂ = omega (arith, B .weighed);
       inside = λ a la ha. A .inside a (omega arith);
       reads = λ a b la ha lb hb. record {
-        small = R .small;
-        left = A .inside a (omega arith);
-        right = B .inside b (omega arith);
-        room = R .words;
+        pair = record { small = R .small; left = A .inside a (omega arith); right = B .inside b (omega arith); room = R .words };
         known = R .known p a b h la ha lb hb;
       };
     }

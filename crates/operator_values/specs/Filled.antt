@@ -13,20 +13,20 @@ use Rattle.refusal.specs.Bounds.{maxDimension}
 use Rattle.pairs.specs.Pair.{pairTotal}
 use Rattle.pairs.specs.Scratch.{queueStart}
 use Rattle.pairs.specs.ColumnOrder.{setSize}
+use Rattle.pairs.specs.Positions.{positionAt, inverseAt, inverseAt-ordered}
 use Rattle.columns.specs.Columns.{start, value}
 use Rattle.columns.specs.Factor.{starts-end}
 use Rattle.columns.specs.Operator.{operatorRows, OperatorRows}
 use Rattle.closed_set.specs.ClosedSet.{Holds}
 use Rattle.exact.specs.Exact.{floats}
 use Rattle.entries.specs.Entries.{position, entryValues, entryValues-length}
-use Rattle.entries.specs.Position.{position-below, entryValues-at}
+use Rattle.entries.specs.Position.{Positioned, position-below, entryValues-at}
 use Rattle.takahashi.specs.Recurrence.{at}
-use Rattle.layout.specs.Position.{positionOf, Positioned}
 use Rattle.request_marks.specs.OperatorRequests.{operatorRequested, places-requested}
 use Rattle.quadratic_form.specs.CrossValue.{crossValue-cong}
 use Rattle.quadratic_form.specs.RowValue.{columnAt, operatorValues, operatorsValues}
 use Rattle.request_marks.specs.CrossRequests.{crossRequested, cross-requested, OperatorPairs}
-use Rattle.operator_values.specs.Reading.{placed, OperatorReading, OperatorsReading}
+use Rattle.operator_values.specs.Reading.{OperatorReading, OperatorsReading}
 
 -- a set of pairs, its members' positions, and a list with room for their entries
 module _ (n : ℕ) (S : ℕ → ℕ → Bool) (Z : ℕ → ℕ → Float) (scratch : List ℕ) (values : List Float) (fits : setSize n S ≤ length values) (P : Positioned n S scratch) where
@@ -42,15 +42,16 @@ module _ (n : ℕ) (S : ℕ → ℕ → Bool) (Z : ℕ → ℕ → Float) (scrat
   member-inside : (r c : ℕ) → c ≤ r → r < n → S r c ≡ true → position n S r c < setSize n S
   member-inside r c h l t = position-below n S r c n h l (omega arith) t
 
-  placed-is : (r c : ℕ) → MemberPair r c → at (placed n scratch values′) r c ≡ at Z r c
-  placed-is r c M =
-      ap (λ (p : ℕ). getD values′ p nan) (P (max r c) (min r c) (omega arith) (M .inside) (M .member))
+  read-is : (r c : ℕ) → MemberPair r c → at (inverseAt nan n scratch values′) r c ≡ at Z r c
+  read-is r c M =
+      inverseAt-ordered nan n scratch values′ r c
+      ∙ ap (λ (p : ℕ). getD values′ p nan) (P (max r c) (min r c) (omega arith) (M .inside) (M .member))
       ∙ overwrite-at (entryValues n S Z) values (position n S (max r c) (min r c)) nan
       (omega (arith, entryValues-length n S Z, member-inside (max r c) (min r c) (omega arith) (M .inside) (M .member)))
       ∙ entryValues-at n S Z nan (max r c) (min r c) (omega arith) (M .inside) (M .member)
 
-  placed-known : (r c : ℕ) → MemberPair r c → positionOf n scratch r c < length values′
-  placed-known r c M =
+  read-known : (r c : ℕ) → MemberPair r c → positionAt n scratch r c < length values′
+  read-known r c M =
       omega (
         arith,
         P (max r c) (min r c) (omega arith) (M .inside) (M .member),
@@ -76,19 +77,19 @@ module _ (n : ℕ) (S : ℕ → ℕ → Bool) (Z : ℕ → ℕ → Float) (scrat
       small = small;
       operator = O;
       words = words;
-      known = λ i a b l la ha lb hb. placed-known _ _ (row-pair i a b l la ha lb hb);
+      known = λ i a b l la ha lb hb. read-known _ _ (row-pair i a b l la ha lb hb);
       fits = h;
     }
 
     -- so the values of all rows are the table's
-    pub filled-values : operatorValues rowStarts columns weights (placed n scratch values′) ≡ operatorValues rowStarts columns weights Z
+    pub filled-values : operatorValues rowStarts columns weights (inverseAt nan n scratch values′) ≡ operatorValues rowStarts columns weights Z
     unfolding operatorValues
     filled-values =
         tabulate-cong _ _ (operatorRows rowStarts)
         (λ i l.
-        crossValue-cong floats (columnAt columns) (columnAt columns) (value weights) (value weights) (placed n scratch values′) Z
+        crossValue-cong floats (columnAt columns) (columnAt columns) (value weights) (value weights) (inverseAt nan n scratch values′) Z
         (start rowStarts i) (start rowStarts (i + 1)) (start rowStarts i) (start rowStarts (i + 1))
-        (λ a b la ha lb hb. placed-is _ _ (row-pair i a b l la ha lb hb)) (O .starts-rise .rising i l) (O .starts-rise .rising i l))
+        (λ a b la ha lb hb. read-is _ _ (row-pair i a b l la ha lb hb)) (O .starts-rise .rising i l) (O .starts-rise .rising i l))
 
   -- ---- the set holds the pairs of row pairs of two operators past their checks
   module _ (aStarts aColumns : List ℕ) (aWeights : List Float) (bStarts bColumns : List ℕ) (bWeights : List Float) (aRows bRows : List ℕ)
@@ -111,16 +112,16 @@ module _ (n : ℕ) (S : ℕ → ℕ → Bool) (Z : ℕ → ℕ → Float) (scrat
       small = small;
       pairs = O;
       words = words;
-      known = λ p a b l la ha lb hb. placed-known _ _ (cross-pair p a b l la ha lb hb);
+      known = λ p a b l la ha lb hb. read-known _ _ (cross-pair p a b l la ha lb hb);
       fits = h;
     }
 
-    pub filled-pairs-values : operatorsValues aStarts aColumns aWeights bStarts bColumns bWeights aRows bRows (placed n scratch values′)
+    pub filled-pairs-values : operatorsValues aStarts aColumns aWeights bStarts bColumns bWeights aRows bRows (inverseAt nan n scratch values′)
         ≡ operatorsValues aStarts aColumns aWeights bStarts bColumns bWeights aRows bRows Z
     unfolding operatorsValues
     filled-pairs-values =
         tabulate-cong _ _ (length aRows)
         (λ p l.
-        crossValue-cong floats (columnAt aColumns) (columnAt bColumns) (value aWeights) (value bWeights) (placed n scratch values′) Z
+        crossValue-cong floats (columnAt aColumns) (columnAt bColumns) (value aWeights) (value bWeights) (inverseAt nan n scratch values′) Z
         (start aStarts (getD aRows p 0)) (start aStarts (getD aRows p 0 + 1)) (start bStarts (getD bRows p 0)) (start bStarts (getD bRows p 0 + 1))
-        (λ a b la ha lb hb. placed-is _ _ (cross-pair p a b l la ha lb hb)) (O .first .starts-rise .rising _ (O .inside p l)) (O .second .starts-rise .rising _ (O .inside₂ p l)))
+        (λ a b la ha lb hb. read-is _ _ (cross-pair p a b l la ha lb hb)) (O .first .starts-rise .rising _ (O .inside p l)) (O .second .starts-rise .rising _ (O .inside₂ p l)))

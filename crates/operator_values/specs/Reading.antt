@@ -1,22 +1,17 @@
--- The table of entries that are read by position, and what computing an operator's values from it asks.
+-- What computing an operator's values from entries that are read by position asks.
 -- Assumes nothing.
 use Prim.Native.Nat.{ℕ, _+_, _≤_, _<_}
 use mathlib.Core.List.{List}
 use lib.ListN.{length, getD}
-use lib.Ieee.{Float, nan}
 use Rattle.refusal.specs.Bounds.{maxDimension}
 use Rattle.pairs.specs.Pair.{pairTotal}
 use Rattle.pairs.specs.Scratch.{queueStart}
-use Rattle.pairs.specs.ColumnOrder.{columnPlace}
+use Rattle.pairs.specs.Positions.{positionAt}
 use Rattle.columns.specs.Columns.{start}
 use Rattle.columns.specs.Operator.{operatorRows, OperatorRows}
-use Rattle.layout.specs.Position.{positionOf, Reading}
+use Rattle.pair_places.specs.Position.{PairEntryInput}
 use Rattle.request_marks.specs.CrossRequests.{OperatorPairs}
 use Rattle.quadratic_form.specs.RowValue.{columnAt}
-
--- the entry at the position of row r and column c, r at least c
-abbrev pub placed : ℕ → List ℕ → List Float → ℕ → ℕ → Float
-placed n scratch inverse r c = getD inverse (getD scratch (queueStart n + columnPlace n r c) 0) nan
 
 -- places from s to below e of one operator and from t to below f of another, the pairs of whose columns can be read among `size` entries
 pub record RowsReading (n : ℕ) (aColumns : List ℕ) (aWeights : ℕ) (bColumns : List ℕ) (bWeights : ℕ) (scratch : List ℕ) (size s e t f : ℕ) : Type 0 where
@@ -28,7 +23,7 @@ pub record RowsReading (n : ℕ) (aColumns : List ℕ) (aWeights : ℕ) (bColumn
   pub stored₂ : f ≤ length bColumns
   pub weighed₂ : f ≤ bWeights
   pub inside : (a : ℕ) → s ≤ a → a < e → columnAt aColumns a < n
-  pub reads : (a b : ℕ) → s ≤ a → a < e → t ≤ b → b < f → Reading n (columnAt aColumns a) (columnAt bColumns b) scratch size
+  pub reads : (a b : ℕ) → s ≤ a → a < e → t ≤ b → b < f → PairEntryInput n (columnAt aColumns a) (columnAt bColumns b) scratch size
 
 -- an operator past its checks, whose rows' pairs can be read, and an output of `room` places
 pub record OperatorReading (n : ℕ) (rowStarts columns : List ℕ) (weights : ℕ) (scratch : List ℕ) (size room : ℕ) : Type 0 where
@@ -36,7 +31,7 @@ pub record OperatorReading (n : ℕ) (rowStarts columns : List ℕ) (weights : �
   pub operator : OperatorRows n rowStarts columns weights
   pub words : queueStart n + pairTotal n ≤ length scratch
   pub known : (i a b : ℕ) → i < operatorRows rowStarts → start rowStarts i ≤ a → a < start rowStarts (i + 1) → start rowStarts i ≤ b → b < start rowStarts (i + 1)
-      → positionOf n scratch (columnAt columns a) (columnAt columns b) < size
+      → positionAt n scratch (columnAt columns a) (columnAt columns b) < size
   pub fits : operatorRows rowStarts ≤ room
 
 -- two operators past their checks, row pairs inside them, whose columns' pairs can be read, and an output of `room` places
@@ -45,5 +40,5 @@ pub record OperatorsReading (n : ℕ) (aStarts aColumns : List ℕ) (aWeights : 
   pub pairs : OperatorPairs n aStarts aColumns aWeights bStarts bColumns bWeights aRows bRows
   pub words : queueStart n + pairTotal n ≤ length scratch
   pub known : (p a b : ℕ) → p < length aRows → start aStarts (getD aRows p 0) ≤ a → a < start aStarts (getD aRows p 0 + 1)
-      → start bStarts (getD bRows p 0) ≤ b → b < start bStarts (getD bRows p 0 + 1) → positionOf n scratch (columnAt aColumns a) (columnAt bColumns b) < size
+      → start bStarts (getD bRows p 0) ≤ b → b < start bStarts (getD bRows p 0 + 1) → positionAt n scratch (columnAt aColumns a) (columnAt bColumns b) < size
   pub fits : length aRows ≤ room

@@ -2,14 +2,16 @@
 ghost use mathlib.Core.Path.{_≡_};
 ghost use Prim.Native.Nat.{_+_, _<_, _≤_};
 ghost use lib.ListN.{length};
+ghost use lib.Ieee.{nan};
+ghost use Rattle.pairs.specs.Positions.{inverseAt};
 ghost use Rattle.columns.specs.Columns.{value};
 ghost use Rattle.exact.specs.Exact.{floats};
 ghost use Rattle.quadratic_form.specs.CrossValue.{withTerms, crossValue};
 ghost use Rattle.quadratic_form.specs.RowValue.{columnAt};
-ghost use Rattle.operator_values.specs.Reading.{placed, RowsReading};
-use layout::positions::column_shift;
-use layout::positions::pair_entry;
-use scratch::queue_start;
+ghost use Rattle.operator_values.specs.Reading.{RowsReading};
+use pair_places::positions::column_shift;
+use pair_places::positions::pair_position;
+use pair_places::scratch::queue_start;
 use words::at;
 
 // Adds the terms of the place a of the first row with each place from t to f of the second to a sum.
@@ -28,7 +30,7 @@ fn add_terms(
 ) -> f64
     requires { ⌜ RowsReading n (now «a_columns») (length (now «a_weights»)) (now «b_columns») (length (now «b_weights»)) (now scratch) (length (now inverse)) a (a + 1) t f ⌝ }
     ensures { λ sum. ⌜ sum ≡ withTerms floats (columnAt (now («a_columns» .entry))) (columnAt (now («b_columns» .entry))) (value (now («a_weights» .entry))) (value (now («b_weights» .entry)))
-        (placed n (now (scratch .entry)) (now (inverse .entry))) t f a first ⌝ }
+        (inverseAt nan n (now (scratch .entry)) (now (inverse .entry))) t f a first ⌝ }
 {
     let x = a_weights[a];
     let i = at(a_columns, a);
@@ -38,8 +40,8 @@ fn add_terms(
     let mut b = t;
     while b < f {
         let y = b_weights[b];
-        let z = pair_entry(n, positions, base, i, at(b_columns, b), scratch, inverse);
-        sum = sum + x * y * z;
+        let position = pair_position(n, positions, base, i, at(b_columns, b), scratch);
+        sum = sum + x * y * inverse[position];
         b += 1;
     }
     sum
@@ -61,7 +63,7 @@ pub fn cross_value(
 ) -> f64
     requires { ⌜ RowsReading n (now «a_columns») (length (now «a_weights»)) (now «b_columns») (length (now «b_weights»)) (now scratch) (length (now inverse)) s e t f ⌝ }
     ensures { λ v. ⌜ v ≡ crossValue floats (columnAt (now («a_columns» .entry))) (columnAt (now («b_columns» .entry))) (value (now («a_weights» .entry))) (value (now («b_weights» .entry)))
-        (placed n (now (scratch .entry)) (now (inverse .entry))) s e t f ⌝ }
+        (inverseAt nan n (now (scratch .entry)) (now (inverse .entry))) s e t f ⌝ }
 {
     let mut sum = 0.0;
     let mut a = s;

@@ -5,11 +5,13 @@ pub mod cross_value;
 ghost use mathlib.Core.Path.{_≡_};
 ghost use Prim.Native.Nat.{_+_, _<_};
 ghost use lib.ListN.{length};
+ghost use lib.Ieee.{nan};
 ghost use Rattle.lists.specs.Overwrite.{overwrite};
+ghost use Rattle.pairs.specs.Positions.{inverseAt};
 ghost use Rattle.columns.specs.Columns.{start};
 ghost use Rattle.columns.specs.Operator.{operatorRows};
 ghost use Rattle.quadratic_form.specs.RowValue.{operatorValues, operatorsValue, operatorsValues};
-ghost use Rattle.operator_values.specs.Reading.{placed, RowsReading, OperatorReading, OperatorsReading};
+ghost use Rattle.operator_values.specs.Reading.{RowsReading, OperatorReading, OperatorsReading};
 use cross_value::cross_value;
 use operator_check::operator_rows;
 use words::at;
@@ -26,7 +28,7 @@ pub fn operator_values(
 )
     requires { ⌜ OperatorReading n (now «row_starts») (now columns) (length (now weights)) (now scratch) (length (now inverse)) (length (now output)) ⌝ }
     ensures { λ _. ⌜ now (output .exit) ≡ overwrite (operatorValues (now («row_starts» .entry)) (now (columns .entry)) (now (weights .entry))
-        (placed n (now (scratch .entry)) (now (inverse .entry)))) (now (output .entry)) ⌝ }
+        (inverseAt nan n (now (scratch .entry)) (now (inverse .entry)))) (now (output .entry)) ⌝ }
 {
     let last = operator_rows(row_starts);
     let mut i = 0;
@@ -68,7 +70,7 @@ fn pair_value(
     requires { ⌜ RowsReading n (now «a_columns») (length (now «a_weights»)) (now «b_columns») (length (now «b_weights»)) (now scratch) (length (now inverse))
         (start (now «a_row_starts») i) (start (now «a_row_starts») (i + 1)) (start (now «b_row_starts») j) (start (now «b_row_starts») (j + 1)) ⌝ }
     ensures { λ v. ⌜ v ≡ operatorsValue (now («a_row_starts» .entry)) (now («a_columns» .entry)) (now («a_weights» .entry))
-        (now («b_row_starts» .entry)) (now («b_columns» .entry)) (now («b_weights» .entry)) (placed n (now (scratch .entry)) (now (inverse .entry))) i j ⌝ }
+        (now («b_row_starts» .entry)) (now («b_columns» .entry)) (now («b_weights» .entry)) (inverseAt nan n (now (scratch .entry)) (now (inverse .entry))) i j ⌝ }
 {
     let s = at(a_row_starts, i);
     let e = at(a_row_starts, i + 1);
@@ -108,7 +110,7 @@ pub fn operators_values(
         (now «a_rows») (now «b_rows») (now scratch) (length (now inverse)) (length (now output)) ⌝ }
     ensures { λ _. ⌜ now (output .exit) ≡ overwrite (operatorsValues (now («a_row_starts» .entry)) (now («a_columns» .entry)) (now («a_weights» .entry))
         (now («b_row_starts» .entry)) (now («b_columns» .entry)) (now («b_weights» .entry)) (now («a_rows» .entry)) (now («b_rows» .entry))
-        (placed n (now (scratch .entry)) (now (inverse .entry)))) (now (output .entry)) ⌝ }
+        (inverseAt nan n (now (scratch .entry)) (now (inverse .entry)))) (now (output .entry)) ⌝ }
 {
     let mut p = 0;
     while p < a_rows.len() {

@@ -6,22 +6,23 @@ use mathlib.Core.Path.{_≡_, ap, _∙_}
 use mathlib.Core.Bool.{true}
 use mathlib.Core.List.{List}
 use lib.ListN.{length}
-use lib.Ieee.{Float}
+use lib.Ieee.{Float, nan}
 use borrow.Author.Tests.{leb-true}
 use Rattle.lists.specs.Overwrite.{overwrite, cleared}
 use Rattle.refusal.specs.Steps.{Step, Passed}
 use Rattle.pairs.specs.Scratch.{scratchWords-room}
+use Rattle.pairs.specs.Positions.{inverseAt}
 use Rattle.columns.specs.Kept.{nonzero, pattern}
 use Rattle.closed_set.specs.ClosedSet.{Holds, member-holds}
 use Rattle.closed_set.specs.Size.{closureSize-most}
 use Rattle.closed_set.specs.FactorPattern.{factor-pattern}
 use Rattle.entries.specs.Entries.{entryValues}
-use Rattle.layout.specs.Position.{Positioned}
+use Rattle.entries.specs.Position.{Positioned}
 use Rattle.selection.specs.Selection.{Selection, Lent, roomOf, scratchWords, selectedSet, selectedSize, selectedComplete, selectedTable, lists, fillingOf}
 use Rattle.selection.specs.Selection.{ResultLists, complete-values}
 use Rattle.request_marks.specs.OperatorRequests.{operatorRequested}
 use Rattle.quadratic_form.specs.RowValue.{operatorValues}
-use Rattle.operator_values.specs.Reading.{placed, OperatorReading}
+use Rattle.operator_values.specs.Reading.{OperatorReading}
 use Rattle.operator_values.specs.Filled.{filled-reading, filled-values}
 use Rattle.operator_variances.specs.Transformed.{TransformedCall, transformedSelection, transformedSteps, transformedValues, AcceptedTransformed}
 
@@ -59,8 +60,8 @@ module _ (x : TransformedCall) (lent : Lent) (output : List Float) where
         (filled-reading (x .factor .n) (selectedSet sel) (selectedTable sel) mid (lent .resultValues) values-fit P (x .rowStarts) (x .columns) (x .weights)
         (A .operator) holds (length output) (A .accepted .small) (omega (arith, scratchWords-room (x .factor .n) (A .accepted .scratch-room))) (A .room))
 
-    pub transformed-written : operatorValues (x .rowStarts) (x .columns) (x .weights) (placed (x .factor .n) mid rv) ≡ transformedValues x
+    pub transformed-written : operatorValues (x .rowStarts) (x .columns) (x .weights) (inverseAt nan (x .factor .n) mid rv) ≡ transformedValues x
     transformed-written =
-        ap (λ (v : List Float). operatorValues (x .rowStarts) (x .columns) (x .weights) (placed (x .factor .n) mid v)) values-are
+        ap (λ (v : List Float). operatorValues (x .rowStarts) (x .columns) (x .weights) (inverseAt nan (x .factor .n) mid v)) values-are
         ∙ filled-values (x .factor .n) (selectedSet sel) (selectedTable sel) mid (lent .resultValues) values-fit P (x .rowStarts) (x .columns) (x .weights)
         (A .operator) holds

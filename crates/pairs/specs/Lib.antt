@@ -3,3 +3,5 @@ pub mod Pair
 pub mod Marks
 pub mod ColumnOrder
 pub mod Scratch
+pub mod Positions
+pub mod Examples

@@ -8,8 +8,8 @@ ghost use Rattle.pairs.specs.Marks.{marking};
 ghost use Rattle.pattern_lists.specs.ListedMarks.{ListedMarks};
 use super::marks::count_marks;
 use super::marks::list_pairs;
+use pair_places::pair_total;
 use refusal::Refusal;
-use scratch::pair_total;
 use words::clear;
 
 // How many pairs are listed, or why none is.

@@ -15,8 +15,8 @@ use super::listed::PatternPairs;
 use super::listed::list_marked;
 use super::marking::mark_factor;
 use super::marking::mark_operator;
+use pair_places::scratch::mark_words;
 use refusal::Refusal;
-use scratch::mark_words;
 use words::clear;
 
 // The pairs of a factor's kept entries, marked and listed.

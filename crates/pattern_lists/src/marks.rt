@@ -7,24 +7,16 @@ ghost use Rattle.lists.specs.Select.{tally};
 ghost use Rattle.lists.specs.Overwrite.{splice};
 ghost use Rattle.bits.specs.Bits.{bitAt};
 ghost use Rattle.refusal.specs.Bounds.{maxDimension};
-ghost use Rattle.pairs.specs.Pair.{maxPairs, rowPlace};
+ghost use Rattle.pairs.specs.Pair.{maxPairs};
 ghost use Rattle.pairs.specs.Marks.{Added, MarkPairInput, single};
 ghost use Rattle.set_bits.specs.Zeros.{Zeros};
 ghost use Rattle.pattern_lists.specs.Listing.{CountInput, RowRoom, RowReached, RowListed, PairsRoom, PairsListed};
-use scratch::pair_total;
+use pair_places::row_place;
 use set_bits::count::count_bits;
 use set_bits::list_bits;
 use set_bits::zero_words::skip_zeros;
 use words::bit_words::set_bit;
 use words::order::smaller;
-
-// The place of (r, c).
-fn row_place(r: usize, c: usize) -> usize
-    requires { ⌜ (r ≤ maxDimension) × (c ≤ maxDimension) ⌝ }
-    ensures { λ p. ⌜ p ≡ rowPlace r c ⌝ }
-{
-    pair_total(r) + c
-}
 
 // Marks the pair (r, c).
 pub fn mark_pair(r: usize, c: usize, marks: &mut [u32])

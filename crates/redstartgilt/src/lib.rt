@@ -300,7 +300,7 @@ pub extern "C" fn redstartgilt_get(
 ) -> EntryNumbers
     ensures { λ r. ⌜ r ≡ entryNumbers (lookup (now (starts .entry)) (now (rows .entry)) (now (values .entry)) row column) ⌝ }
 {
-    entry_numbers(lookup::get(starts, rows, values, row, column))
+    entry_numbers(lookup::get(starts, rows, values, row, row))
 }
 
 // The same, and how many places the column search looked at.

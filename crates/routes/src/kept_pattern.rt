@@ -9,7 +9,7 @@ ghost use Rattle.pairs.specs.ColumnOrder.{columnMarking};
 ghost use Rattle.columns.specs.Kept.{nonzero, keptPair};
 ghost use Rattle.routes.specs.Agree.{samePairs};
 ghost use Rattle.routes.specs.KeptPattern.{ChoiceInput, ChoiceColumn, unmarkedEntry, unmarkedAt};
-use marked_pairs::column_place;
+use pair_places::column_place;
 use words::at;
 use words::bit_words::bit;
 

@@ -15,12 +15,12 @@ ghost use Rattle.selection.specs.Call.{call, selectedSteps};
 use factor_check::bounds::check_bounds;
 use factor_check::check_stored;
 use kept_entries::diagonal_check::check_diagonals;
+use pair_places::pair_total;
+use pair_places::scratch::scratch_words;
 use refusal::Checked;
 use refusal::MAX_ENTRIES;
 use refusal::Refusal;
 use requests::check_requests;
-use scratch::pair_total;
-use scratch::scratch_words;
 use verdicts::first_of;
 use words::order::smaller;
 

@@ -60,7 +60,7 @@ returns c =
     let a = s .args in
     let z = now (a .inverse) in
     rested-set (from f) z (c .sum-rest .result) (s .pre .fits)
-    (subst (λ (k : ℕ). Continued (now (a .rows)) (now (a .values)) (a .j) (inverseAt (a .n) (now (a .scratch)) z k) (f .first-from .result) (a .e) (getD z (a .q) nan) (c .sum-rest .result))
+    (subst (λ (k : ℕ). Continued (now (a .rows)) (now (a .values)) (a .j) (inverseAt nan (a .n) (now (a .scratch)) z k) (f .first-from .result) (a .e) (getD z (a .q) nan) (c .sum-rest .result))
     (f .before .at .ensures) (c .sum-rest .ensures))
 
 returns-2 : tie.Need-returns-2

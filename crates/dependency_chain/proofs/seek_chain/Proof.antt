@@ -1,8 +1,8 @@
 use borrow.Author.Needs.{needs}
 use native.Mathlib.Omega.{arith}
 use denote.Ref.{now}
+use Rattle.pairs.specs.Scratch.{chainWords-levels}
 use Rattle.pairs.specs.ColumnOrder.{columnPlace-below}
-use Rattle.dependency_chain.specs.Laws.{chainWords-levels}
 use Rattle.dependency_chain.proofs.ListLaws.{seek-level, seek-listed, seek-cleared}
 use Rattle.dependency_chain.proofs.seek_chain.Statement.{statement}
 use Rattle.dependency_chain.proofs.seek_chain.Tie as tie

@@ -7,8 +7,8 @@ use denote.Ref.{now}
 use lib.ListN.{set, length-set}
 use mathlib.Core.Path.{subst₂}
 use Rattle.pairs.specs.Pair.{pairTotal, pairTotal-small, ordered}
+use Rattle.pairs.specs.Scratch.{packed}
 use Rattle.pairs.specs.ColumnOrder.{columnPlace-below}
-use Rattle.marked_pairs.specs.MarkedPairs.{packed}
 use Rattle.levels.specs.Levels.{levelWord, Raised}
 use Rattle.levels.proofs.InsertLaws.{insert-old, insert-new, end-room}
 use Rattle.levels.proofs.insert_ordered_level.Statement.{statement}

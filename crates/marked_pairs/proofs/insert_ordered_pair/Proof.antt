@@ -1,23 +1,17 @@
 use Rattle.pairs.specs.Pair.{pairTotal, pairTotal-small}
-use Rattle.pairs.specs.Scratch.{queueStart-small}
+use Rattle.pairs.specs.Scratch.{queueStart-small, packed}
 use Rattle.bits.specs.Bits.{bitAt}
-use Rattle.marked_pairs.specs.MarkedPairs.{packed, Inserted}
+use Rattle.marked_pairs.specs.MarkedPairs.{Inserted}
 use Rattle.marked_pairs.proofs.InsertLaws.{place-word, insert-old, insert-new, end-room}
 use denote.Ref.{now}
 use mathlib.Core.List.{List}
 use borrow.Author.Needs.{needs}
 use native.Mathlib.Omega.{arith}
-use Prim.Native.Nat.{ℕ, _≤_, _<_, _-_, _+_, _/_}
-use mathlib.Core.Path.{_≡_, refl, ap, sym, subst₂, _∙_}
+use Prim.Native.Nat.{ℕ, _<_, _-_, _+_, _/_}
+use mathlib.Core.Path.{ap, sym, subst₂, _∙_}
 use lib.ListN.{length, set, length-set}
 use Rattle.marked_pairs.proofs.insert_ordered_pair.Statement.{statement}
 use Rattle.marked_pairs.proofs.insert_ordered_pair.Tie as tie
-use Rattle.marked_pairs.proofs.insert_ordered_pair.Reads as reads
-use Rattle.marked_pairs.proofs.insert_ordered_pair.Lts as lts
-use Rattle.words.proofs.bit_words.bit.Reads as bit-reads
-use Rattle.words.proofs.bit_words.set_bit.Reads as set-bit-reads
-use Rattle.scratch.proofs.queue_start.Reads as queue-start-reads
-use Rattle.marked_pairs.proofs.column_place.Reads as column-place-reads
 
 -- the place's word is within the scratch
 in-words : (c : tie.After-column-place) → c .column-place .result / 32 < length (now (c .before .before .args .scratch))

@@ -3,15 +3,16 @@ use native.Mathlib.Omega.{arith}
 use mathlib.Core.Path.{_≡_, refl, ap, ap₂, sym, subst₂, _∙_}
 use mathlib.Core.List.{List}
 use lib.ListN.{length, set, length-set}
-use lib.Ieee.{Float}
+use lib.Ieee.{Float, nan}
 use denote.Ref.{now}
 use borrow.Author.Needs.{needs}
 use Rattle.lists.specs.Overwrite.{filled, filled-none, filled-more}
+use Rattle.pairs.specs.Positions.{inverseAt}
 use Rattle.columns.specs.Columns.{value}
 use Rattle.columns.specs.Operator.{operatorRows}
 use Rattle.exact.specs.Exact.{floats}
 use Rattle.quadratic_form.specs.RowValue.{rowValue, columnAt, operatorValue, operatorValues}
-use Rattle.operator_values.specs.Reading.{placed, RowsReading}
+use Rattle.operator_values.specs.Reading.{RowsReading}
 use Rattle.operator_values.proofs.ReadingLaws.{row-reading}
 use Rattle.operator_values.proofs.operator_values.Statement.{statement}
 use Rattle.operator_values.proofs.operator_values.Tie as tie
@@ -19,7 +20,7 @@ use Rattle.operator_values.proofs.operator_values.Tie as tie
 abbrev Inv-loop : tie.InvT-loop
 Inv-loop n row-starts columns weights scratch inverse output₀ last i₀ output i =
     (i ≤ operatorRows row-starts) × (length output ≡ length output₀)
-    × (output ≡ filled (operatorValue row-starts columns weights (placed n scratch inverse)) i output₀)
+    × (output ≡ filled (operatorValue row-starts columns weights (inverseAt nan n scratch inverse)) i output₀)
 
 abbrev μ-loop : tie.MeasureT-loop
 μ-loop n row-starts columns weights scratch inverse output₀ last i₀ output i = operatorRows row-starts - i
@@ -31,7 +32,7 @@ start q = q .before .before .before .before .before .before .before .before
 abbrev row-value-at : tie.Start Inv-loop μ-loop → ℕ → Float
 row-value-at s =
     let a = s .args in
-    operatorValue (now (a .row-starts)) (now (a .columns)) (now (a .weights)) (placed (a .n) (now (a .scratch)) (now (a .inverse)))
+    operatorValue (now (a .row-starts)) (now (a .columns)) (now (a .weights)) (inverseAt nan (a .n) (now (a .scratch)) (now (a .inverse)))
 
 -- the row's number
 row : (c : tie.In-loop Inv-loop μ-loop) → c .before .loop .i < operatorRows (now (start (c .before) .args .row-starts))
@@ -84,7 +85,7 @@ loop-again c =
     let s = start (t .before) in
     let a = s .args in
     let f = row-value-at s in
-    let Z = placed (a .n) (now (a .scratch)) (now (a .inverse)) in
+    let Z = inverseAt nan (a .n) (now (a .scratch)) (now (a .inverse)) in
     let made : c .cross-value .result ≡ f (l .i) =
     c .cross-value .ensures
     ∙ ap₂ (λ (x y : ℕ). rowValue floats (columnAt (now (a .columns))) (value (now (a .weights))) Z x y) (d .before .at .ensures) (d .at2 .ensures) in (

@@ -3,13 +3,14 @@ use native.Mathlib.Omega.{arith}
 use mathlib.Core.Path.{_≡_, refl, ap, ap₂, sym, _∙_}
 use mathlib.Core.List.{List}
 use lib.ListN.{length, getD, set, length-set}
-use lib.Ieee.{Float}
+use lib.Ieee.{Float, nan}
 use denote.Ref.{now}
 use borrow.Author.Needs.{needs}
 use Rattle.lists.specs.Overwrite.{filled, filled-none, filled-more}
+use Rattle.pairs.specs.Positions.{inverseAt}
 use Rattle.columns.specs.Columns as columns
 use Rattle.quadratic_form.specs.RowValue.{operatorsValue, operatorsValues}
-use Rattle.operator_values.specs.Reading.{placed, RowsReading}
+use Rattle.operator_values.specs.Reading.{RowsReading}
 use Rattle.operator_values.proofs.ReadingLaws.{pair-reading}
 use Rattle.operator_values.proofs.operators_values.Statement.{statement}
 use Rattle.operator_values.proofs.operators_values.Tie as tie
@@ -21,7 +22,7 @@ pairValue ast ac aw bst bc bw ar br Z p = operatorsValue ast ac aw bst bc bw Z (
 abbrev Inv-loop : tie.InvT-loop
 Inv-loop n a-row-starts a-columns a-weights b-row-starts b-columns b-weights a-rows b-rows scratch inverse output₀ p₀ output p =
     (p ≤ length a-rows) × (length output ≡ length output₀)
-    × (output ≡ filled (pairValue a-row-starts a-columns a-weights b-row-starts b-columns b-weights a-rows b-rows (placed n scratch inverse)) p output₀)
+    × (output ≡ filled (pairValue a-row-starts a-columns a-weights b-row-starts b-columns b-weights a-rows b-rows (inverseAt nan n scratch inverse)) p output₀)
 
 abbrev μ-loop : tie.MeasureT-loop
 μ-loop n a-row-starts a-columns a-weights b-row-starts b-columns b-weights a-rows b-rows scratch inverse output₀ p₀ output p = length a-rows - p
@@ -33,7 +34,7 @@ abbrev value-at : tie.Start Inv-loop μ-loop → ℕ → Float
 value-at s =
     let a = s .args in
     pairValue (now (a .a-row-starts)) (now (a .a-columns)) (now (a .a-weights)) (now (a .b-row-starts)) (now (a .b-columns)) (now (a .b-weights)) (now (a .a-rows)) (now (a .b-rows))
-    (placed (a .n) (now (a .scratch)) (now (a .inverse)))
+    (inverseAt nan (a .n) (now (a .scratch)) (now (a .inverse)))
 
 -- there is room for its value
 room : (c : tie.In-loop Inv-loop μ-loop) → c .before .loop .p < length (now (start (c .before) .args .output))
@@ -90,7 +91,7 @@ loop-again c =
     let s = start (t .before) in
     let a = s .args in
     let f = value-at s in
-    let Z = placed (a .n) (now (a .scratch)) (now (a .inverse)) in
+    let Z = inverseAt nan (a .n) (now (a .scratch)) (now (a .inverse)) in
     let made : c .pair-value .result ≡ f (l .p) =
     c .pair-value .ensures
     ∙ ap₂ (operatorsValue (now (a .a-row-starts)) (now (a .a-columns)) (now (a .a-weights)) (now (a .b-row-starts)) (now (a .b-columns)) (now (a .b-weights)) Z) (d .before .at .ensures) (d .at2 .ensures) in (

@@ -3,7 +3,8 @@ use Rattle.closure.proofs.QueueLaws.{QueueLoop, QueueColumn, ready-none
 use Rattle.closure.proofs.QueueLaws.{serving-more, head-words, head-pairs, word-starts, word-inside, word-end, word-most}
 use Rattle.closure.proofs.QueueLaws.{column-none, column-skip, column-more, entry-rows, entry-insert, finished, finished-past, above-dropped, zero-dropped, entry-kept}
 use Rattle.pairs.specs.Pair.{pairTotal}
-use Rattle.marked_pairs.specs.MarkedPairs.{columnOf, queueWord}
+use Rattle.pairs.specs.Scratch.{columnOf}
+use Rattle.marked_pairs.specs.MarkedPairs.{queueWord}
 use Rattle.columns.specs.Kept.{keptBelow}
 use Rattle.kept_entries.specs.KeptBy.{keptAt, lent-within}
 use Rattle.columns.specs.Columns.{start}

@@ -1,12 +1,14 @@
 use Prim.Native.Nat.{ℕ, _<_}
 use native.Mathlib.Omega.{arith}
-use mathlib.Core.Path.{_≡_, ap, _∙_}
+use mathlib.Core.Path.{_≡_, sym, ap, subst, _∙_}
 use mathlib.Core.Bool.{true}
-use lib.Ieee.{Float, binary64, add, mul}
+use lib.ListN.{length, getD}
+use lib.Ieee.{Float, binary64, nan, add, mul}
 use denote.Ref.{now}
 use borrow.Author.Needs.{needs}
 use Rattle.columns.specs.Columns.{row, value}
 use Rattle.columns.specs.Kept.{nonzero, keptBelow}
+use Rattle.pair_places.specs.Position.{PairEntryInput}
 use Rattle.column_sums.specs.Sums.{inverseAt}
 use Rattle.column_sums.proofs.SumLaws.{adding-read, withProduct-above, withProduct-zero, withProduct-kept, kept-below}
 use Rattle.column_sums.proofs.sums.add_product.Statement.{statement}
@@ -17,7 +19,7 @@ start c = c .before .before .before .before .before
 
 -- the inverse's row i
 abbrev inverse-row : tie.Start → ℕ → Float
-inverse-row s = inverseAt (s .args .n) (now (s .args .scratch)) (now (s .args .inverse)) (s .args .i)
+inverse-row s = inverseAt nan (s .args .n) (now (s .args .scratch)) (now (s .args .inverse)) (s .args .i)
 
 -- the entry is below the diagonal, and kept
 under : (c : tie.Else1) → start (c .before) .args .j < row (now (start (c .before) .args .rows)) (start (c .before) .args .p)
@@ -46,19 +48,40 @@ kept c =
     let s = start (t .before) in
     kept-below (now (s .args .rows)) (now (s .args .values)) (s .args .j) (s .args .p) (inverse-row s) (s .args .sum) (under t) (c .if2 .taken)
 
-pair-entry-requires : tie.Need-pair-entry-requires
-pair-entry-requires c κs =
-    let t = c .before .before in
-    let s = start (t .before) in
-    (s .pre .0 .0, s .pre .0 .1, rw (t .before .at .ensures) (adding-read (s .pre .1) (kept c)))
+-- what reading the inverse's entry asks
+reads : (c : tie.Then2) →
+    let t = c .before .before .before in
+    let a = start t .args in
+    PairEntryInput (a .n) (a .i) (t .at .result) (now (a .scratch)) (length (now (a .inverse)))
+reads c =
+    let t = c .before .before .before in
+    let s = start t in
+    subst (λ (k : ℕ). PairEntryInput (s .args .n) (s .args .i) k (now (s .args .scratch)) (length (now (s .args .inverse)))) (sym (t .at .ensures))
+    (adding-read (s .pre .1) (kept c))
+
+pair-position-requires : tie.Need-pair-position-requires
+pair-position-requires c κs =
+    let s = start (c .before .before .before) in
+    (s .pre .0 .0, s .pre .0 .1, reads c .pair)
+
+-- its position is within the list
+within : (c : tie.After-pair-position) → c .pair-position .result < length (now (start (c .before .before .before .before) .args .inverse))
+within c = omega (arith, c .pair-position .ensures, reads (c .before) .known)
+
+mul-result : tie.Need-mul-result
+mul-result c = omega (arith, within c)
+
+shared-slice-read-result : tie.Need-shared-slice-read-result
+shared-slice-read-result c = within (c .before)
 
 returns-2 : tie.Need-returns-2
 returns-2 c =
-    let t = c .before .before .before in
+    let d = c .before in
+    let t = d .before .before .before in
     let s = start (t .before) in
     ap (λ (x : Float). add binary64 (s .args .sum) (mul binary64 (value (now (s .args .values)) (s .args .p)) x))
-    (c .pair-entry .ensures ∙ ap (inverse-row s) (t .before .at .ensures))
-    ∙ withProduct-kept (now (s .args .rows)) (now (s .args .values)) (s .args .j) (s .args .p) (inverse-row s) (s .args .sum) (kept (c .before))
+    (ap (λ (q : ℕ). getD (now (s .args .inverse)) q nan) (d .pair-position .ensures) ∙ ap (inverse-row s) (t .before .at .ensures))
+    ∙ withProduct-kept (now (s .args .rows)) (now (s .args .values)) (s .args .j) (s .args .p) (inverse-row s) (s .args .sum) (kept (d .before))
 
 returns-3 : tie.Need-returns-3
 returns-3 c =
@@ -74,6 +97,8 @@ add-product-spec =
     returns
     mul-l
     shared-slice-read-l
-    pair-entry-requires
+    pair-position-requires
+    mul-result
+    shared-slice-read-result
     returns-2
     returns-3)

@@ -1,10 +1,10 @@
 use Prim.Native.Nat.{ℕ, _≤_, _-_}
 use native.Mathlib.Omega.{arith}
 use mathlib.Core.Path.{_≡_, sym, ap, subst, _∙_}
-use lib.Ieee.{Float}
+use lib.Ieee.{Float, nan}
 use denote.Ref.{now}
 use borrow.Author.Needs.{needs}
-use Rattle.layout.specs.Position.{shift-fits}
+use Rattle.pair_places.specs.Position.{shift-fits}
 use Rattle.column_sums.specs.Sums.{inverseAt, Continued, withProduct, sumBetween-next}
 use Rattle.column_sums.proofs.SumLaws.{summing-entry}
 use Rattle.column_sums.proofs.sums.sum_from.Statement.{statement}
@@ -12,7 +12,7 @@ use Rattle.column_sums.proofs.sums.sum_from.Tie as tie
 
 abbrev Inv-loop : tie.InvT-loop
 Inv-loop n i j first e start rows values scratch inverse positions base sum₀ p₀ sum p =
-    (first ≤ p) × (p ≤ e) × Continued rows values j (inverseAt n scratch inverse i) first p start sum
+    (first ≤ p) × (p ≤ e) × Continued rows values j (inverseAt nan n scratch inverse i) first p start sum
 
 abbrev μ-loop : tie.MeasureT-loop
 μ-loop n i j first e start rows values scratch inverse positions base sum₀ p₀ sum p = e - p
@@ -56,7 +56,7 @@ loop-again c =
     let t = c .before in
     let l = t .before .loop in
     let a = begin (t .before) .args in
-    let r = inverseAt (a .n) (now (a .scratch)) (now (a .inverse)) (a .i) in (
+    let r = inverseAt nan (a .n) (now (a .scratch)) (now (a .inverse)) (a .i) in (
       omega (arith, l .inv .0),
       omega (arith, t .loop-test .taken),
       λ s h q.
@@ -69,7 +69,7 @@ returns c =
     let l = c .before .loop in
     let a = begin (c .before) .args in
     let e : l .p ≡ a .e = omega (arith, c .loop-test .left, l .inv .1) in
-    subst (λ (k : ℕ). Continued (now (a .rows)) (now (a .values)) (a .j) (inverseAt (a .n) (now (a .scratch)) (now (a .inverse)) (a .i)) (a .first) k (a .start) (l .sum)) e
+    subst (λ (k : ℕ). Continued (now (a .rows)) (now (a .values)) (a .j) (inverseAt nan (a .n) (now (a .scratch)) (now (a .inverse)) (a .i)) (a .first) k (a .start) (l .sum)) e
     (l .inv .2)
 
 pub sum-from-spec : {M : Type 1} → statement M

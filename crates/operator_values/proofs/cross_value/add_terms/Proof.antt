@@ -1,23 +1,22 @@
-use Prim.Native.Nat.{ℕ, _≤_, _<_, _-_, _+_}
+use Prim.Native.Nat.{ℕ, _≤_, _<_, _-_}
 use native.Mathlib.Omega.{arith}
-use mathlib.Core.Path.{_≡_, ap, ap₂, sym, _∙_}
-use lib.ListN.{length}
-use lib.Ieee.{Float, binary64, add, mul}
+use mathlib.Core.Path.{_≡_, ap, ap₂, sym, subst₂, _∙_}
+use lib.ListN.{length, getD}
+use lib.Ieee.{Float, binary64, nan, add, mul}
 use denote.Ref.{now}
 use borrow.Author.Needs.{needs}
+use Rattle.pairs.specs.Positions.{inverseAt, inverseAt-ordered}
 use Rattle.columns.specs.Columns.{value}
-use Rattle.takahashi.specs.Recurrence as recurrence
 use Rattle.exact.specs.Exact.{floats}
-use Rattle.layout.specs.Position.{shift-fits}
+use Rattle.pair_places.specs.Position.{PairEntryInput, shift-fits}
 use Rattle.quadratic_form.specs.CrossValue.{withTerms, withTerms-none, withTerms-next}
 use Rattle.quadratic_form.specs.RowValue.{columnAt}
-use Rattle.operator_values.specs.Reading.{placed}
 use Rattle.operator_values.proofs.cross_value.add_terms.Statement.{statement}
 use Rattle.operator_values.proofs.cross_value.add_terms.Tie as tie
 
 abbrev Inv-loop : tie.InvT-loop
 Inv-loop n a-columns a-weights a b-columns b-weights t f scratch inverse first x i positions base sum₀ b₀ sum b =
-    (t ≤ b) × (b ≤ f) × (sum ≡ withTerms floats (columnAt a-columns) (columnAt b-columns) (value a-weights) (value b-weights) (placed n scratch inverse) t b a first)
+    (t ≤ b) × (b ≤ f) × (sum ≡ withTerms floats (columnAt a-columns) (columnAt b-columns) (value a-weights) (value b-weights) (inverseAt nan n scratch inverse) t b a first)
 
 abbrev μ-loop : tie.MeasureT-loop
 μ-loop n a-columns a-weights a b-columns b-weights t f scratch inverse first x i positions base sum₀ b₀ sum b = f - b
@@ -71,15 +70,36 @@ shared-slice-read-y c = search needs
 at-requires-2 : tie.Need-at-requires-2 Inv-loop μ-loop
 at-requires-2 c κs = search needs
 
-pair-entry-requires : tie.Need-pair-entry-requires Inv-loop μ-loop
-pair-entry-requires c κs =
+-- what reading the inverse's entry asks
+reads : (c : tie.After-at2 Inv-loop μ-loop) →
+    let d = c .before .before .before .before in
+    let a = start d .args in
+    PairEntryInput (a .n) (d .before .before .at .result) (c .at2 .result) (now (a .scratch)) (length (now (a .inverse)))
+reads c =
     let t = c .before .before in
     let q = t .before in
     let d = q .before in
     let s = start d in
-    let R = s .pre .reads (s .args .a) (q .loop .b) (omega arith) (omega arith) (q .loop .inv .0) (place t) in
+    let a = s .args in
+    subst₂ (λ (i k : ℕ). PairEntryInput (a .n) i k (now (a .scratch)) (length (now (a .inverse)))) (sym (d .before .before .at .ensures)) (sym (c .at2 .ensures))
+    (s .pre .reads (a .a) (q .loop .b) (omega arith) (omega arith) (q .loop .inv .0) (place t))
+
+pair-position-requires : tie.Need-pair-position-requires Inv-loop μ-loop
+pair-position-requires c κs =
+    let d = c .before .before .before .before in
     let u = d .before in
-    (u .queue-start .ensures .0, omega (arith, u .queue-start .ensures .0, d .column-shift .ensures), rw (u .before .at .ensures, c .at2 .ensures) R)
+    (u .queue-start .ensures .0, omega (arith, u .queue-start .ensures .0, d .column-shift .ensures), reads c .pair)
+
+-- its position is within the list
+within : (c : tie.After-pair-position Inv-loop μ-loop) →
+    c .pair-position .result < length (now (start (c .before .before .before .before .before) .args .inverse))
+within c = omega (arith, c .pair-position .ensures, reads (c .before) .known)
+
+mul-sum : tie.Need-mul-sum Inv-loop μ-loop
+mul-sum c = omega (arith, within c)
+
+shared-slice-read-sum : tie.Need-shared-slice-read-sum Inv-loop μ-loop
+shared-slice-read-sum c = within (c .before)
 
 add-b : tie.Need-add-b Inv-loop μ-loop
 add-b c = search needs
@@ -89,15 +109,21 @@ loop-less c = search needs
 
 loop-again : tie.Need-loop-again Inv-loop μ-loop
 loop-again c =
-    let d = c .before in
+    let r = c .before in
+    let d = r .before in
     let t = d .before .before in
     let q = t .before in
     let l = q .loop in
     let a = start (q .before) .args in
-    let Z = placed (a .n) (now (a .scratch)) (now (a .inverse)) in
+    let i = columnAt (now (a .a-columns)) (a .a) in
+    let k = columnAt (now (a .b-columns)) (l .b) in
+    let Z = inverseAt nan (a .n) (now (a .scratch)) (now (a .inverse)) in
     let w = value (now (a .a-weights)) in
     let v = value (now (a .b-weights)) in
-    let entry = c .pair-entry .ensures ∙ ap₂ (recurrence.at Z) (q .before .before .before .at .ensures) (d .at2 .ensures) in (
+    let entry =
+    ap (λ (p : ℕ). getD (now (a .inverse)) p nan) (r .pair-position .ensures)
+    ∙ ap₂ Z (q .before .before .before .at .ensures) (d .at2 .ensures)
+    ∙ sym (inverseAt-ordered nan (a .n) (now (a .scratch)) (now (a .inverse)) i k) in (
       omega (arith, l .inv .0),
       omega (arith, place t),
       ap₂ (λ (x y : Float). add binary64 x (mul binary64 (mul binary64 (w (a .a)) (v (l .b))) y)) (l .inv .2) entry
@@ -109,7 +135,7 @@ returns c =
     let l = c .before .loop in
     let a = start (c .before .before) .args in
     let e : l .b ≡ a .f = omega (arith, c .loop-test .left, l .inv .1) in
-    let Z = placed (a .n) (now (a .scratch)) (now (a .inverse)) in
+    let Z = inverseAt nan (a .n) (now (a .scratch)) (now (a .inverse)) in
     l .inv .2 ∙ ap (λ (k : ℕ). withTerms floats (columnAt (now (a .a-columns))) (columnAt (now (a .b-columns))) (value (now (a .a-weights))) (value (now (a .b-weights))) Z (a .t) k (a .a) (a .first)) e
 
 pub add-terms-spec : {M : Type 1} → statement M
@@ -128,7 +154,9 @@ add-terms-spec =
     mul-y
     shared-slice-read-y
     at-requires-2
-    pair-entry-requires
+    pair-position-requires
+    mul-sum
+    shared-slice-read-sum
     add-b
     loop-less
     loop-again

@@ -1,0 +1,2 @@
+-- What reading a pair's position asks.
+pub mod Position
