@@ -10,8 +10,8 @@ ghost use Rattle.column_sums.specs.Part.{putIf};
 ghost use Rattle.column_sums.specs.Sums.{entrySum};
 ghost use Rattle.closure_route.specs.Finish.{Finished, PartFinished, DiagonalRoom};
 use column_sums::sums::entry_sum;
-use entry_steps::entry_below;
-use entry_steps::entry_on_diagonal;
+use last_steps::entry_below;
+use last_steps::entry_on_diagonal;
 use words::at;
 
 // Divides the sum at q of a column's own part, where its row i is below j.
