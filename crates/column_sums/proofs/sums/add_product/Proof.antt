@@ -8,7 +8,7 @@ use borrow.Author.Needs.{needs}
 use Rattle.columns.specs.Columns.{row, value}
 use Rattle.columns.specs.Kept.{nonzero, keptBelow}
 use Rattle.column_sums.specs.Sums.{inverseAt}
-use Rattle.column_sums.proofs.SumLaws.{adding-read, withProduct-above, withProduct-zero, withProduct-kept, kept-below}
+use Rattle.column_sums.proofs.SumLaws.{product-read, withProduct-above, withProduct-zero, withProduct-kept, kept-below}
 use Rattle.column_sums.proofs.sums.add_product.Statement.{statement}
 use Rattle.column_sums.proofs.sums.add_product.Tie as tie
 
@@ -50,7 +50,7 @@ pair-entry-requires : tie.Need-pair-entry-requires
 pair-entry-requires c κs =
     let t = c .before .before in
     let s = start (t .before) in
-    (s .pre .0 .0, s .pre .0 .1, rw (t .before .at .ensures) (adding-read (s .pre .1) (kept c)))
+    (s .pre .0 .0, s .pre .0 .1, rw (t .before .at .ensures) (product-read (s .pre .1) (kept c)))
 
 returns-2 : tie.Need-returns-2
 returns-2 c =
