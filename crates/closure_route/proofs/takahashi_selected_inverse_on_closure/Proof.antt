@@ -42,7 +42,7 @@ takahashi-column-requires c κs =
     let q = t .before in
     let l = q .loop in
     let P = start q .pre in
-    (column-next (P .0) (l .inv .2) (t .loop-test .taken) (l .inv .1), P .1)
+    (column-next (P .0) (l .inv .2) (omega (arith, t .loop-test .taken)) (l .inv .1), P .1)
 
 loop-less : tie.Need-loop-less Inv-loop μ-loop
 loop-less c = search needs

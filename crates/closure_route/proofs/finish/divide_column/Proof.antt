@@ -58,7 +58,7 @@ loop-again c =
     let l = t .before .loop in
     let d = begin (t .before) .args .d in
     let h = t .loop-test .taken in (
-      length-set (l .part) (l .q) (c .entry-below .result) ∙ l .inv .0,
+      length-set (l .part) (l .q) _ ∙ l .inv .0,
       omega (arith, l .inv .1),
       omega (arith, l .inv .0),
       part-more (l .inv .3) (l .inv .1) (omega (arith, l .inv .0)) (c .entry-below .ensures ∙ ap (float-off d) (l .inv .3 .after (l .q) (omega arith))),
