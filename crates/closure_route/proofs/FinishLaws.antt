@@ -2,45 +2,28 @@
 -- Assumes nothing.
 use Prim.Native.Nat.{ℕ, _+_, _-_, _≤_, _<_}
 use native.Mathlib.Omega.{arith}
-use native.Mathlib.Nat.{not-suc-le-zero, eq-or-lt-of-le, le-of-suc-le-suc}
-use native.Mathlib.Numerals.{add-one}
-use mathlib.Core.Path.{_≡_, refl, sym, ap, subst, _∙_}
-use mathlib.Core.Bool.{Bool}
-use mathlib.Core.Logic.{⊎-elim}
+use native.Mathlib.Decide.{decLe}
+use mathlib.Core.Path.{_≡_, sym, ap, subst, _∙_}
 use mathlib.Core.List.{List, _++_}
-use lib.Dec.{ltb}
 use lib.ListN.{length, getD, take, drop, length-append, length-take, length-drop, List·getD-append}
-use lib.Seq.{getD-set-same, getD-append-add, getD-take, getD-drop, length-take-le}
+use lib.Seq.{getD-append-add, getD-take, getD-drop, length-take-le}
 use lib.Ieee.{Float, nan}
-use borrow.Author.Tests.{lt-ltb}
 use Rattle.columns.specs.Columns.{row}
-use Rattle.column_sums.specs.Part.{putIf, putIf-length, putIf-other}
-use Rattle.closure_route.specs.Finish.{Finished, PartFinished}
+use Rattle.columns.specs.Factor.{FirstFrom}
+use Rattle.column_sums.specs.Part.{PartSet}
+use Rattle.column_sums.proofs.StoredLaws.{first-less}
+use Rattle.closure_route.specs.Finish.{SumsFinished}
 
 -- ---- the last step
 
-pub finished-none : (j : ℕ) (step : Float → Float) (rows : List ℕ) (part : List Float) → Finished j step rows 0 part part
-finished-none j step rows part = record { long = refl; below = λ q l. absurd (not-suc-le-zero l); after = λ q l. refl }
-
-module _ {j : ℕ} {step : Float → Float} {rows : List ℕ} {k : ℕ} {part₀ part : List Float} (D : Finished j step rows k part₀ part) (l : k < length part₀) where
-  abbrev part′ : List Float
-  part′ = putIf (ltb j (row rows k)) part k (step (getD part k nan))
-
-  here : j < row rows k → getD part′ k nan ≡ step (getD part₀ k nan)
-  here h =
-      ap (λ (b : Bool). getD (putIf b part k (step (getD part k nan))) k nan) (lt-ltb j (row rows k) h)
-      ∙ getD-set-same part k (step (getD part k nan)) nan (omega (arith, D .long)) ∙ ap step (D .after k (omega arith))
-
-  pub finished-more : Finished j step rows (k + 1) part₀ part′
-  finished-more = record {
-    long = putIf-length (ltb j (row rows k)) part k _ ∙ D .long;
-    below = λ q b h.
-        ⊎-elim
-        (λ w. subst (λ (x : ℕ). j < row rows x → getD part′ x nan ≡ step (getD part₀ x nan)) (sym w) here h)
-        (λ w. putIf-other (ltb j (row rows k)) part k q _ (omega arith) ∙ D .below q w h)
-        (eq-or-lt-of-le (le-of-suc-le-suc (rw add-one at b)));
-    after = λ q b. putIf-other (ltb j (row rows k)) part k q _ (omega arith) ∙ D .after q (omega arith);
-  }
+-- it is taken at all places from the first row below j on
+pub sums-finished : {j : ℕ} {step : Float → Float} {rows : List ℕ} {first last from : ℕ} {z₀ z : List Float} → FirstFrom (j + 1) rows first last from
+    → PartSet from last (λ q. step (getD z₀ q nan)) z₀ z → SumsFinished j step rows first last z₀ z
+sums-finished {from = from} F D = record {
+  long = D .long;
+  below = λ q lo hi b. elim (decLe from q) [ yes h ↦ D .holds q h hi | no h ↦ absurd (omega (arith, first-less F q lo (omega arith))) ];
+  after = D .after;
+}
 
 -- ---- the part put back
 
@@ -69,8 +52,8 @@ module _ (z new : List Float) (a m : ℕ) (fits : a + m ≤ length z) (size : le
 
 -- a finished part, put back
 pub part-finished : (j : ℕ) (step : Float → Float) (rows : List ℕ) (first last : ℕ) (z part : List Float) → first ≤ last → last ≤ length z
-    → Finished j step (take (last - first) (drop first rows)) (last - first) (take (last - first) (drop first z)) part
-    → PartFinished j step rows first last z (putBack z first (last - first) part)
+    → SumsFinished j step (take (last - first) (drop first rows)) 0 (last - first) (take (last - first) (drop first z)) part
+    → SumsFinished j step rows first last z (putBack z first (last - first) part)
 part-finished j step rows first last z part h fits D = record {
   long = putBack-length z part first m room size;
   below = λ q lo hi b. here (q - first) q (omega arith) (omega arith) b;
@@ -97,4 +80,4 @@ part-finished j step rows first last z part h fits D = record {
     here : (x q : ℕ) → first + x ≡ q → x < m → j < row rows q → getD (putBack z first m part) q nan ≡ step (getD z q nan)
     here x q e b h =
         subst (λ (y : ℕ). j < row rows y → getD (putBack z first m part) y nan ≡ step (getD z y nan)) e
-        (λ g. putBack-in z part first m room size x b ∙ D .below x b (omega (arith, at rows x 0 b)) ∙ ap step (at z x nan b)) h
+        (λ g. putBack-in z part first m room size x b ∙ D .below x (omega arith) b (omega (arith, at rows x 0 b)) ∙ ap step (at z x nan b)) h

@@ -1,3 +1,4 @@
 pub mod FinishLaws
 pub mod RouteLaws
 pub mod ColumnLaws
+pub mod LastStepLaws

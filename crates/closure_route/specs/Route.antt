@@ -21,34 +21,60 @@ use Rattle.entries.specs.Entries.{columnCount, position, entryStarts, entryRows
 use Rattle.entries.specs.Position.{Positioned, entryRows-at, position-below, columnCount-cong, position-cong}
 use Rattle.layout.specs.Layout.{LayOut, LaidOut}
 
+-- a factor, the starts and rows of the result, and the scratch with the marks of a set and its members' positions
+pub record RouteLists : Type 0 where
+  pub n : ℕ
+  pub starts : List ℕ
+  pub rows : List ℕ
+  pub values : List Float
+  pub entryStarts : List ℕ
+  pub entryRows : List ℕ
+  pub scratch : List ℕ
+
+-- from a function's parameters in their order
+abbrev pub routeLists : ℕ → List ℕ → List ℕ → List Float → List ℕ → List ℕ → List ℕ → RouteLists
+routeLists n starts rows values entryStarts entryRows scratch = record {
+  n = n;
+  starts = starts;
+  rows = rows;
+  values = values;
+  entryStarts = entryStarts;
+  entryRows = entryRows;
+  scratch = scratch;
+}
+
+-- the set that the marks say
+abbrev pub routeSet : RouteLists → ℕ → ℕ → Bool
+routeSet g = columnMarking (g .n) (g .scratch)
+
 -- a factor past its checks, the marks of a closed set with its members' positions, its starts and rows, and room for its entries
-pub record ClosureRoute (n : ℕ) (starts rows : List ℕ) (values : List Float) (firsts listed scratch : List ℕ) (size : ℕ) : Type 0 where
-  pub small : n ≤ maxDimension
-  pub factor : Factor n starts rows (length values)
-  pub closed : Closed n (pattern starts rows (nonzero values)) (columnMarking n scratch)
-  pub room : queueStart n + pairTotal n ≤ length scratch
-  pub positions : Positioned n (columnMarking n scratch) scratch
-  pub starts-fit : n + 1 ≤ length firsts
-  pub starts-are : (c : ℕ) → c ≤ n → getD firsts c 0 ≡ columnCount n (columnMarking n scratch) c
-  pub rows-fit : setSize n (columnMarking n scratch) ≤ length listed
-  pub rows-are : (r c : ℕ) → c ≤ r → r < n → columnMarking n scratch r c ≡ true → getD listed (position n (columnMarking n scratch) r c) 0 ≡ r
-  pub values-fit : setSize n (columnMarking n scratch) ≤ size
+pub record ClosureRouteInput (g : RouteLists) (size : ℕ) : Type 0 where
+  pub small : g .n ≤ maxDimension
+  pub factor : Factor (g .n) (g .starts) (g .rows) (length (g .values))
+  pub closed : Closed (g .n) (pattern (g .starts) (g .rows) (nonzero (g .values))) (routeSet g)
+  pub room : queueStart (g .n) + pairTotal (g .n) ≤ length (g .scratch)
+  pub positions : Positioned (g .n) (routeSet g) (g .scratch)
+  pub starts-fit : g .n + 1 ≤ length (g .entryStarts)
+  pub starts-are : (c : ℕ) → c ≤ g .n → getD (g .entryStarts) c 0 ≡ columnCount (g .n) (routeSet g) c
+  pub rows-fit : setSize (g .n) (routeSet g) ≤ length (g .entryRows)
+  pub rows-are : (r c : ℕ) → c ≤ r → r < g .n → routeSet g r c ≡ true → getD (g .entryRows) (position (g .n) (routeSet g) r c) 0 ≡ r
+  pub values-fit : setSize (g .n) (routeSet g) ≤ size
 
 -- the entries of the columns from m on are those of the table
 abbrev pub SolvedFrom : ℕ → (ℕ → ℕ → Bool) → (ℕ → ℕ → Float) → ℕ → List Float → Type 0
 SolvedFrom n S Z m z = (r c : ℕ) → m ≤ c → c ≤ r → r < n → S r c ≡ true → getD z (position n S r c) nan ≡ Z r c
 
 -- and behind the set's entries the list is as it was
-pub record Solved (n : ℕ) (S : ℕ → ℕ → Bool) (Z : ℕ → ℕ → Float) (m : ℕ) (z₀ z : List Float) : Type 0 where
+pub record ColumnsSolved (n : ℕ) (S : ℕ → ℕ → Bool) (Z : ℕ → ℕ → Float) (m : ℕ) (z₀ z : List Float) : Type 0 where
   pub long : length z ≡ length z₀
   pub rest : (q : ℕ) → setSize n S ≤ q → getD z q nan ≡ getD z₀ q nan
   pub entries : SolvedFrom n S Z m z
 
 -- column j, once the later columns are those of the table
-pub record ColumnStep (n j : ℕ) (starts rows : List ℕ) (values : List Float) (firsts listed scratch : List ℕ) (Z : ℕ → ℕ → Float) (z : List Float) : Type 0 where
-  pub route : ClosureRoute n starts rows values firsts listed scratch (length z)
-  pub inside : j < n
-  pub later : SolvedFrom n (columnMarking n scratch) Z (j + 1) z
+pub record ColumnInput (g : RouteLists) (j : ℕ) (Z : ℕ → ℕ → Float) (z : List Float) : Type 0 where
+  pub route : ClosureRouteInput g (length z)
+  pub inside : j < g .n
+  pub later : SolvedFrom (g .n) (routeSet g) Z (j + 1) z
 
 -- ---- what the layout leaves is what the route asks
 
@@ -73,7 +99,7 @@ module _ {n : ℕ} {firsts₀ listed₀ scratch₀ firsts listed scratch : List 
     same-position : (r c : ℕ) → r < n → position n (columnMarking n scratch) r c ≡ position n S₀ r c
     same-position = position-cong n (columnMarking n scratch) S₀ laid-same
 
-    pub laid-route : ClosureRoute n starts rows values firsts listed scratch size
+    pub laid-route : ClosureRouteInput (routeLists n starts rows values firsts listed scratch) size
     laid-route = record {
       small = M .small;
       factor = F;

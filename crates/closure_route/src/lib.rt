@@ -9,7 +9,7 @@ ghost use Rattle.lists.specs.Overwrite.{overwrite};
 ghost use Rattle.pairs.specs.ColumnOrder.{columnMarking};
 ghost use Rattle.columns.specs.Diagonal.{Diagonals};
 ghost use Rattle.entries.specs.Entries.{entryValues, floatTable};
-ghost use Rattle.closure_route.specs.Route.{ClosureRoute, ColumnStep, Solved};
+ghost use Rattle.closure_route.specs.Route.{routeLists, ClosureRouteInput, ColumnInput, ColumnsSolved};
 use column_sums::store_sums;
 use finish::divide_part;
 use finish::store_diagonal;
@@ -29,10 +29,10 @@ fn takahashi_column(
     entry_values: &mut [f64],
     scratch: &[u32],
 )
-    requires { ⌜ ColumnStep n j (now starts) (now rows) (now values) (now «entry_starts») (now «entry_rows») (now scratch)
+    requires { ⌜ ColumnInput (routeLists n (now starts) (now rows) (now values) (now «entry_starts») (now «entry_rows») (now scratch)) j
         (floatTable n (now starts) (now rows) (now values)) (now «entry_values») ⌝ }
     requires { ⌜ Diagonals n (now starts) (now rows) (now values) ⌝ }
-    ensures { λ _. ⌜ Solved n (columnMarking n (now (scratch .entry))) (floatTable n (now (starts .entry)) (now (rows .entry)) (now (values .entry))) j
+    ensures { λ _. ⌜ ColumnsSolved n (columnMarking n (now (scratch .entry))) (floatTable n (now (starts .entry)) (now (rows .entry)) (now (values .entry))) j
         (now («entry_values» .entry)) (now («entry_values» .exit)) ⌝ }
 {
     let first = at(entry_starts, j);
@@ -83,7 +83,8 @@ pub fn takahashi_selected_inverse_on_closure(
     entry_values: &mut [f64],
     scratch: &[u32],
 )
-    requires { ⌜ ClosureRoute n (now starts) (now rows) (now values) (now «entry_starts») (now «entry_rows») (now scratch) (length (now «entry_values»)) ⌝ }
+    requires { ⌜ ClosureRouteInput (routeLists n (now starts) (now rows) (now values) (now «entry_starts») (now «entry_rows») (now scratch))
+        (length (now «entry_values»)) ⌝ }
     requires { ⌜ Diagonals n (now starts) (now rows) (now values) ⌝ }
     ensures { λ _. ⌜ now («entry_values» .exit) ≡ overwrite (entryValues n (columnMarking n (now (scratch .entry)))
         (floatTable n (now (starts .entry)) (now (rows .entry)) (now (values .entry)))) (now («entry_values» .entry)) ⌝ }

@@ -13,8 +13,8 @@ use Rattle.columns.specs.Columns.{row}
 use Rattle.pair_places.specs.Position.{word-inside, word-right}
 use Rattle.column_sums.specs.Part.{PartSet}
 use Rattle.column_sums.proofs.PartLaws.{part-more, part-same}
-use Rattle.column_sums.specs.Run.{rowPositions, RunRoom, Follows}
-use Rattle.column_sums.specs.Products.{withTerm, runTerms, rowTerms, columnTerms, RunProductsRoom, WordProductRoom, RowsProductsRoom, ColumnProductsRoom}
+use Rattle.column_sums.specs.Run.{rowPositions, IsRunInput, Follows}
+use Rattle.column_sums.specs.Products.{withTerm, runTerms, rowTerms, columnTerms, AddRunInput, AddAtInput, AddRowsInput, AddColumnInput}
 
 -- one product more, of an entry at r: neither the sum nor that entry was changed
 pub product-more : {from q : ℕ} (position : ℕ → ℕ) (l : Float) {z₀ z : List Float} {r : ℕ}
@@ -26,7 +26,7 @@ product-more {from} {q} position l {z₀} {z} {r} D lo fits e behind =
     (D .after r behind ∙ ap (λ (x : ℕ). getD z₀ x nan) e))
 
 -- the words of the rows, from the base of column k
-module _ {n k from last : ℕ} {entryRows scratch : List ℕ} {size : ℕ} (R : ColumnProductsRoom n k from last entryRows scratch size)
+module _ {n k from last : ℕ} {entryRows scratch : List ℕ} {size : ℕ} (R : AddColumnInput n k from last entryRows scratch size)
     (base : ℕ) (based : base + k ≡ queueStart n + colStart n k) where
   module _ (q : ℕ) (lo : from ≤ q) (hi : q < last) where
     word-is : base + row entryRows q ≡ positionWord n (row entryRows q) k
@@ -35,7 +35,7 @@ module _ {n k from last : ℕ} {entryRows scratch : List ℕ} {size : ℕ} (R : 
     word-holds : rowPositions base entryRows scratch q ≡ positionAt n scratch (row entryRows q) k
     word-holds = ap (λ (x : ℕ). getD scratch x 0) word-is
 
-    word-room : WordProductRoom q (base + row entryRows q) scratch size
+    word-room : AddAtInput q (base + row entryRows q) scratch size
     word-room = record {
       fits = omega (arith, R .fits);
       inside = omega (arith, word-is, word-inside (R .reads q lo hi .pair));
@@ -43,7 +43,7 @@ module _ {n k from last : ℕ} {entryRows scratch : List ℕ} {size : ℕ} (R : 
     }
 
   -- the products by words
-  pub column-rows : RowsProductsRoom base from last entryRows scratch size
+  pub column-rows : AddRowsInput base from last entryRows scratch size
   column-rows = record {
     ordered = omega (arith, R .some);
     listed = R .listed;
@@ -56,7 +56,7 @@ module _ {n k from last : ℕ} {entryRows scratch : List ℕ} {size : ℕ} (R : 
   rows-column l {z₀} D = part-same D (λ p lo hi. ap (withTerm z₀ p l) (word-holds p lo hi))
 
   -- the positions rise
-  pub column-rises : RunRoom base from last entryRows scratch
+  pub column-rises : IsRunInput base from last entryRows scratch
   column-rises = record {
     some = R .some;
     listed = R .listed;
@@ -66,7 +66,7 @@ module _ {n k from last : ℕ} {entryRows scratch : List ℕ} {size : ℕ} (R : 
 
   -- the products of a run, whose first position is a
   module _ (F : Follows (rowPositions base entryRows scratch) from last) (a : ℕ) (first : a ≡ rowPositions base entryRows scratch from) where
-    pub column-run : RunProductsRoom from last a size
+    pub column-run : AddRunInput from last a size
     column-run =
         let s = R .some in
         record {

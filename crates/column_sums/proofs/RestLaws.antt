@@ -1,6 +1,6 @@
 -- The end of a sum, by the positions of the rows and by a run of them.
 -- Assumes nothing.
-use Prim.Native.Nat.{ℕ, _+_, _-_, _≤_, _<_}
+use Prim.Native.Nat.{ℕ, _+_, _-_, _≤_, _<_, min, max}
 use native.Mathlib.Omega.{arith}
 use mathlib.Core.Path.{_≡_, sym, ap, _∙_}
 use mathlib.Core.Bool.{Bool, true, false}
@@ -14,85 +14,89 @@ use Rattle.pairs.specs.Scratch.{queueStart}
 use Rattle.pairs.specs.ColumnOrder.{colStart}
 use Rattle.pairs.specs.Positions.{positionWord}
 use Rattle.columns.specs.Columns.{row, value}
-use Rattle.columns.specs.Kept.{nonzero, nonzero-not, keptBelow}
+use Rattle.columns.specs.Kept.{nonzero, nonzero-not}
 use Rattle.pair_places.specs.Position.{PairEntryInput, word-left, word-position, word-reads}
-use Rattle.column_sums.specs.Run.{rowPositions, RunRoom, Follows}
-use Rattle.column_sums.specs.Sums.{positionAt, inverseAt, Continued, sumBetween, sumBetween-next}
-use Rattle.column_sums.proofs.SumLaws.{summing-entry, adding-read, withProduct-kept}
-use Rattle.column_sums.specs.Rest.{zeroAt, RestRunRoom, RestRowsRoom, runPositions, Summed, Rest}
+use Rattle.column_sums.specs.Run.{rowPositions, IsRunInput, Follows}
+use Rattle.column_sums.specs.Column.{SumTerms, keptTerm, termPosition}
+use Rattle.column_sums.specs.Sums.{inverseAt, SumContinued, rowSum, sumBetween-next}
+use Rattle.column_sums.proofs.SumLaws.{term-input, product-read, withProduct-kept}
+use Rattle.column_sums.specs.Rest.{zeroAt, SumRunInput, SumRowsInput, runPositions, ProductsSummed, SumRestInput}
 
 -- none from s to below e is
 pub none-zero : (values : List Float) (s e : ℕ) → anyIn (zeroAt values) s e ≡ false → (p : ℕ) → s ≤ p → p < e → nonzero values p ≡ true
 none-zero values s e h p lo hi = nonzero-not values p (anyIn-below (zeroAt values) s e p h lo hi)
 
 -- none is 0.0, and the words of the rows are read from the base of column i
-module _ {n i j first e : ℕ} {zeros : Bool} {rows : List ℕ} {values : List Float} {scratch : List ℕ} {size : ℕ}
-    (R : Rest n i j first e zeros rows values scratch size) (none : zeros ≡ false) (base : ℕ) (based : base + i ≡ queueStart n + colStart n i) where
-  rest-kept : (p : ℕ) → first ≤ p → p < e → keptBelow rows (nonzero values) j p ≡ true
+module _ {t : SumTerms} {i : ℕ} {zeros : Bool} {size : ℕ} (R : SumRestInput t i zeros size) (none : zeros ≡ false) (base : ℕ)
+    (based : base + i ≡ queueStart (t .n) + colStart (t .n) i) where
+  rest-kept : (p : ℕ) → t .s ≤ p → p < t .e → keptTerm t p ≡ true
   rest-kept p lo hi =
-      and-both (ltb j (row rows p)) (nonzero values p) (lt-ltb j (row rows p) (omega (arith, R .below, R .above p lo hi))) (R .whole none p lo hi)
+      let k = row (t .rows) p in
+      and-both (ltb (t .j) k) (nonzero (t .values) p) (lt-ltb (t .j) k (omega (arith, R .below, R .above p lo hi))) (R .nonzeros none p lo hi)
 
   -- an entry of the inverse can be read
-  rest-read : (p : ℕ) → first ≤ p → p < e → PairEntryInput n i (row rows p) scratch size
-  rest-read p lo hi = adding-read (summing-entry (R .summing) p lo hi) (rest-kept p lo hi)
+  rest-read : (p : ℕ) → t .s ≤ p → p < t .e → PairEntryInput (t .n) i (row (t .rows) p) (t .scratch) size
+  rest-read p lo hi = product-read (term-input (R .sum) p lo hi) (rest-kept p lo hi)
 
-  word-is : (p : ℕ) → first ≤ p → p < e → base + row rows p ≡ positionWord n i (row rows p)
-  word-is p lo hi = word-left n base i (row rows p) based (omega (arith, R .above p lo hi))
+  word-is : (p : ℕ) → t .s ≤ p → p < t .e
+      → base + row (t .rows) p ≡ positionWord (t .n) i (row (t .rows) p)
+  word-is p lo hi = word-left (t .n) base i (row (t .rows) p) based (omega (arith, R .above p lo hi))
 
-  rest-word : (p : ℕ) → first ≤ p → p < e → (base + row rows p < length scratch) × (rowPositions base rows scratch p < size)
+  rest-word : (p : ℕ) → t .s ≤ p → p < t .e → (base + row (t .rows) p < length (t .scratch)) × (rowPositions base (t .rows) (t .scratch) p < size)
   rest-word p lo hi = word-reads (rest-read p lo hi) (word-is p lo hi)
 
-  rest-position : (p : ℕ) → first ≤ p → p < e → rowPositions base rows scratch p ≡ positionAt n scratch i (row rows p)
+  rest-position : (p : ℕ) → t .s ≤ p → p < t .e → rowPositions base (t .rows) (t .scratch) p ≡ termPosition t i p
   rest-position p lo hi = word-position (rest-read p lo hi) (word-is p lo hi)
 
   -- read from the words
-  pub rows-room : RestRowsRoom base first e rows (length values) scratch size
-  rows-room = record {
+  pub rows-input : SumRowsInput base (t .s) (t .e) (t .rows) (length (t .values)) (t .scratch) size
+  rows-input = record {
     ordered = omega (arith, R .some);
-    stored = R .summing .column .stored;
-    weighed = R .summing .column .weighed;
+    stored = R .sum .column .stored;
+    weighed = R .sum .column .weighed;
     words = rest-word;
   }
 
-  pub rows-summed : (z : List Float) (sum x : Float) → Summed values z first e (rowPositions base rows scratch) sum x
-      → Continued rows values j (inverseAt nan n scratch z i) first e sum x
+  pub rows-summed : (z : List Float) (sum x : Float) → ProductsSummed (t .values) z (t .s) (t .e) (rowPositions base (t .rows) (t .scratch)) sum x
+      → SumContinued t z i sum x
   rows-summed z sum x S s h q =
-      let r = inverseAt nan n scratch z i in
-      S (λ p. sumBetween rows values j r s p) q
+      let r = inverseAt nan (t .n) (t .scratch) z i in
+      S (λ p. rowSum t z i s p) q
       (λ p lo hi.
-      ap (λ (k : ℕ). add binary64 (sumBetween rows values j r s p) (mul binary64 (value values p) (getD z k nan))) (rest-position p lo hi)
-      ∙ withProduct-kept rows values j p r (sumBetween rows values j r s p) (rest-kept p lo hi)
-      ∙ sym (sumBetween-next rows values j r s p (omega arith)))
+      ap (λ (k : ℕ). add binary64 (rowSum t z i s p) (mul binary64 (value (t .values) p) (getD z k nan))) (rest-position p lo hi)
+      ∙ withProduct-kept (t .rows) (t .values) (t .j) p r (rowSum t z i s p) (rest-kept p lo hi)
+      ∙ sym (sumBetween-next (t .rows) (t .values) (t .j) r s p (omega arith)))
 
   -- the positions rise
-  pub rest-rises : RunRoom base first e rows scratch
+  pub rest-rises : IsRunInput base (t .s) (t .e) (t .rows) (t .scratch)
   rest-rises = record {
     some = R .some;
-    listed = R .summing .column .stored;
+    listed = R .sum .column .stored;
     inside = λ p lo hi. rest-word p lo hi .0;
     rises = λ p q lo l hi.
-        let h : p < e = omega arith in
-        let k : first ≤ q = omega arith in
-        omega (arith, rest-position p lo h, rest-position q k hi, R .rises p q lo l hi (rest-kept p lo h) (rest-kept q k hi));
+        let h : p < t .e = omega arith in
+        let k : t .s ≤ q = omega arith in
+        omega (arith, rest-position p lo h, rest-position q k hi, R .rises p q (lo, h, rest-kept p lo h) l (k, hi, rest-kept q k hi));
   }
 
   -- read from a run, whose first position is known
-  module _ (F : Follows (rowPositions base rows scratch) first e) (position : ℕ) (at : position ≡ rowPositions base rows scratch first) where
-    pub run-room : RestRunRoom first e position (length values) size
-    run-room =
-        let s = R .some in
+  module _ (F : Follows (rowPositions base (t .rows) (t .scratch)) (t .s) (t .e)) (position : ℕ)
+      (at : position ≡ rowPositions base (t .rows) (t .scratch) (t .s)) where
+    pub run-input : SumRunInput (t .s) (t .e) position (length (t .values)) size
+    run-input =
+        let l = R .some in
         record {
           ordered = omega arith;
-          weighed = R .summing .column .weighed;
-          fits = omega (arith, F (e - 1) (omega arith) (omega arith), rest-word (e - 1) (omega arith) (omega arith) .1);
+          weighed = R .sum .column .weighed;
+          fits = omega (arith, F (t .e - 1) (omega arith) (omega arith), rest-word (t .e - 1) (omega arith) (omega arith) .1);
         }
 
-    pub run-summed : (z : List Float) (sum x : Float) → Summed values z first e (runPositions first position) sum x
-        → Continued rows values j (inverseAt nan n scratch z i) first e sum x
+    pub run-summed : (z : List Float) (sum x : Float) → ProductsSummed (t .values) z (t .s) (t .e) (runPositions (t .s) position) sum x
+        → SumContinued t z i sum x
     run-summed z sum x S =
         rows-summed z sum x
         (λ f b s.
         S f b
         (λ p lo hi.
-        let same : position + (p - first) ≡ rowPositions base rows scratch p = omega (arith, F p lo hi) in
-        ap (λ (k : ℕ). add binary64 (f p) (mul binary64 (value values p) (getD z k nan))) same ∙ s p lo hi))
+        let same : position + (p - t .s) ≡ rowPositions base (t .rows) (t .scratch) p = omega (arith, F p lo hi) in
+        ap (λ (k : ℕ). add binary64 (f p) (mul binary64 (value (t .values) p) (getD z k nan))) same ∙ s p lo hi))

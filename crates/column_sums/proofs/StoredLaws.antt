@@ -13,8 +13,9 @@ use borrow.Author.Tests.{leb-true, leb-false, le-leb, ltb-true, lt-ltb}
 use Rattle.lists.specs.Test.{anyIn, anyIn-below, anyIn-all, anyIn-hit, anyIn-found, same-truth}
 use Rattle.columns.specs.Columns.{row, outsideAt}
 use Rattle.columns.specs.Factor.{Ascends, Column, FirstFrom}
-use Rattle.column_sums.specs.Sums.{inverseAt, entrySum, sumBetween-cong}
-use Rattle.column_sums.specs.Stored.{Storing, SumsStored, Sums}
+use Rattle.column_sums.specs.Column.{SumColumn, sumColumn, termsOf, sumRow, SumAt}
+use Rattle.column_sums.specs.Sums.{inverseAt, rowSum, sumBetween-cong}
+use Rattle.column_sums.specs.Stored.{StoreSumsInput, SumsStored, SumsInput}
 
 -- ---- rows that ascend
 
@@ -62,20 +63,25 @@ module _ {rows : List ℕ} {s e : ℕ} (C : Column rows e s e) (i : ℕ) where
 
 -- ---- what is written is not read
 
-module _ {n j first last s e : ℕ} {rows : List ℕ} {values : List Float} {entryRows scratch : List ℕ} {size : ℕ}
-    (R : Sums n j first last s e rows values entryRows scratch size) where
-  pub unread : (z₀ z : List Float) (p q : ℕ) → s ≤ p → p ≤ e → first ≤ q → q < last → ((i : ℕ) → last ≤ i → getD z i nan ≡ getD z₀ i nan)
-      → entrySum n j s p rows values scratch z (row entryRows q) ≡ entrySum n j s p rows values scratch z₀ (row entryRows q)
-  unread z₀ z p q lo hi a b after =
-      sumBetween-cong rows values j (inverseAt nan n scratch z (row entryRows q)) (inverseAt nan n scratch z₀ (row entryRows q)) s p lo
-      (λ i c d k. after _ (R .storing .behind q i a b (R .below q a b) c (omega arith) k))
+pub unread : {x : SumColumn} {size : ℕ} → SumsInput x size → (z₀ z : List Float) (p q : ℕ) → x .s ≤ p → p ≤ x .e → x .first ≤ q → q < x .last
+    → ((i : ℕ) → x .last ≤ i → getD z i nan ≡ getD z₀ i nan)
+    → rowSum (termsOf x) z (sumRow x q) (x .s) p ≡ rowSum (termsOf x) z₀ (sumRow x q) (x .s) p
+unread {x} R z₀ z p q lo hi a b after =
+    let i = sumRow x q in
+    sumBetween-cong (x .rows) (x .values) (x .j) (inverseAt nan (x .n) (x .scratch) z i) (inverseAt nan (x .n) (x .scratch) z₀ i) (x .s) p lo
+    (λ t c d k. after _ (R .storing .behind q t (a, b, R .below q a b) (c, omega arith, k)))
 
 -- ---- from the first entry below the diagonal on
 
-module _ {n j first last s e : ℕ} {rows : List ℕ} {values : List Float} {entryRows scratch : List ℕ} {from : ℕ}
-    (F : FirstFrom (j + 1) entryRows first last from) where
-  pub from-sums : {size : ℕ} → Storing n j first last s e rows values entryRows scratch size → from < last
-      → Sums n j from last s e rows values entryRows scratch size
+-- the sums from a place on
+abbrev pub columnFrom : SumColumn → ℕ → SumColumn
+columnFrom x from = sumColumn (x .n) (x .j) from (x .last) (x .s) (x .e) (x .rows) (x .values) (x .entryRows) (x .scratch)
+
+module _ (x : SumColumn) {from : ℕ} (F : FirstFrom (x .j + 1) (x .entryRows) (x .first) (x .last) from) where
+  within : (q : ℕ) → SumAt (columnFrom x from) q → SumAt x q
+  within q a = (omega (arith, F .from, a .0), a .1, a .2)
+
+  pub from-sums : {size : ℕ} → StoreSumsInput x size → from < x .last → SumsInput (columnFrom x from) size
   from-sums R h = record {
     storing = record {
       small = R .small;
@@ -85,25 +91,24 @@ module _ {n j first last s e : ℕ} {rows : List ℕ} {values : List Float} {ent
       listed = R .listed;
       column = R .column;
       ascends = λ q q′ lo. R .ascends q q′ (omega (arith, F .from));
-      sums = λ q lo. R .sums q (omega (arith, F .from));
-      behind = λ q p lo. R .behind q p (omega (arith, F .from));
-      rises = λ q q′ p lo. R .rises q q′ p (omega (arith, F .from));
-      follows = λ q p p′ lo. R .follows q p p′ (omega (arith, F .from));
+      sums = λ q a. R .sums q (within q a);
+      behind = λ q p a. R .behind q p (within q a);
+      rises = λ q q′ p a. R .rises q q′ p (within q a);
+      follows = λ q p p′ a. R .follows q p p′ (within q a);
     };
-    below = λ q lo hi. omega (arith, F .stops h, later-row entryRows first last (R .ascends) from q (F .from) lo hi);
+    below = λ q lo hi. omega (arith, F .stops h, later-row (x .entryRows) (x .first) (x .last) (R .ascends) from q (F .from) lo hi);
   }
 
-  pub from-stored : {z₀ z : List Float} → SumsStored n j from last s e rows values entryRows scratch z₀ z
-      → SumsStored n j first last s e rows values entryRows scratch z₀ z
+  pub from-stored : {z₀ z : List Float} → SumsStored (columnFrom x from) z₀ z → SumsStored x z₀ z
   from-stored D = record {
     long = D .long;
-    sums = λ q lo hi h. elim (decLe from q) [ yes p ↦ D .sums q p hi h | no p ↦ absurd (omega (arith, first-less F q lo (omega arith))) ];
+    sums = λ q a. elim (decLe from q) [ yes p ↦ D .sums q (p, a .1, a .2) | no p ↦ absurd (omega (arith, a .2, first-less F q (a .0) (omega arith))) ];
     after = D .after;
   }
 
-  pub none-stored : (z : List Float) → last ≤ from → SumsStored n j first last s e rows values entryRows scratch z z
+  pub none-stored : (z : List Float) → x .last ≤ from → SumsStored x z z
   none-stored z l = record {
     long = refl;
-    sums = λ q lo hi h. absurd (omega (arith, first-less F q lo (omega arith)));
+    sums = λ q a. absurd (omega (arith, a .2, first-less F q (a .0) (omega (arith, a .1))));
     after = λ q h. refl;
   }

@@ -13,25 +13,25 @@ use Rattle.columns.specs.Kept.{f0, nonzero, keptBelow}
 use Rattle.takahashi.specs.Recurrence.{run}
 use Rattle.exact.specs.Exact.{floats}
 use Rattle.pair_places.specs.Position.{PairEntryInput}
-use Rattle.column_sums.specs.Sums.{entriesAt, withProduct, Adding, Summing}
+use Rattle.column_sums.specs.Column.{SumTerms, termsFrom}
+use Rattle.column_sums.specs.Sums.{entriesAt, withProduct, AddProductInput, SumInput}
 
 -- one of them
-pub summing-entry : {n i j s e : ℕ} {rows : List ℕ} {values : List Float} {scratch : List ℕ} {size : ℕ}
-    → Summing n i j s e rows values scratch size → (p : ℕ) → s ≤ p → p < e → Adding n i j p rows values scratch size
-summing-entry S p lo hi = record {
+pub term-input : {t : SumTerms} {i size : ℕ} → SumInput t i size → (p : ℕ) → t .s ≤ p → p < t .e
+    → AddProductInput (t .n) i (t .j) p (t .rows) (t .values) (t .scratch) size
+term-input S p lo hi = record {
   small = S .small;
   left = S .left;
   stored = omega (arith, S .column .stored);
   weighed = omega (arith, S .column .weighed);
   inside = S .inside p lo hi;
   room = S .room;
-  known = S .known p lo hi;
+  known = λ k. S .known p (lo, hi, k);
 }
 
 -- those from m on
-pub summing-from : {n i j s e : ℕ} {rows : List ℕ} {values : List Float} {scratch : List ℕ} {size : ℕ}
-    → Summing n i j s e rows values scratch size → (m : ℕ) → s ≤ m → m ≤ e → Summing n i j m e rows values scratch size
-summing-from S m lo hi = record {
+pub input-from : {t : SumTerms} {i size : ℕ} → SumInput t i size → (m : ℕ) → t .s ≤ m → m ≤ t .e → SumInput (termsFrom t m) i size
+input-from S m lo hi = record {
   small = S .small;
   left = S .left;
   column = record {
@@ -42,13 +42,13 @@ summing-from S m lo hi = record {
   };
   inside = λ p a. S .inside p (omega arith);
   room = S .room;
-  known = λ p a. S .known p (omega arith);
+  known = λ p a. S .known p (omega (arith, a .0), a .1, a .2);
 }
 
 -- the inverse's entry for it
-pub adding-read : {n i j p : ℕ} {rows : List ℕ} {values : List Float} {scratch : List ℕ} {size : ℕ}
-    → Adding n i j p rows values scratch size → keptBelow rows (nonzero values) j p ≡ true → PairEntryInput n i (row rows p) scratch size
-adding-read A k = record { pair = record { small = A .small; left = A .left; right = A .inside; room = A .room }; known = A .known k }
+pub product-read : {n i j p : ℕ} {rows : List ℕ} {values : List Float} {scratch : List ℕ} {size : ℕ}
+    → AddProductInput n i j p rows values scratch size → keptBelow rows (nonzero values) j p ≡ true → PairEntryInput n i (row rows p) scratch size
+product-read A k = record { pair = record { small = A .small; left = A .left; right = A .inside; room = A .room }; known = A .known k }
 
 -- ---- one product
 

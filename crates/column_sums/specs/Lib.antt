@@ -2,6 +2,7 @@
 pub mod Part
 pub mod Run
 pub mod Products
+pub mod Column
 pub mod Sums
 pub mod Rest
 pub mod Stored

@@ -7,42 +7,45 @@ use mathlib.Core.List.{List}
 use lib.ListN.{length, getD}
 use lib.Ieee.{Float, nan}
 use Rattle.columns.specs.Columns.{row}
-use Rattle.columns.specs.Kept.{f0, nonzero, keptBelow}
+use Rattle.columns.specs.Kept.{f0}
 use Rattle.columns.specs.Factor.{Ascends, FirstFrom}
-use Rattle.column_sums.specs.Products.{ColumnProductsRoom}
-use Rattle.column_sums.specs.Sums.{inverseAt, entrySum, withProduct}
-use Rattle.column_sums.specs.Stored.{Sums}
+use Rattle.column_sums.specs.Products.{AddColumnInput}
+use Rattle.column_sums.specs.Column.{SumColumn, termsOf, keptTerm, sumRow}
+use Rattle.column_sums.specs.Sums.{inverseAt, rowSum, withProduct}
+use Rattle.column_sums.specs.Stored.{SumsInput}
 
--- the stored entry at p, and the sums from q to below last, to which its product can be added
-pub record StoredRoom (n j p q last : ℕ) (rows : List ℕ) (values : List Float) (entryRows scratch : List ℕ) (size : ℕ) : Type 0 where
-  pub stored : p < length rows
-  pub weighed : p < length values
-  pub ordered : q ≤ last
-  pub listed : last ≤ length entryRows
-  pub below : (i : ℕ) → q ≤ i → i < last → j < row entryRows i
-  pub ascends : Ascends entryRows q last
-  pub column : (from : ℕ) → q ≤ from → from < last → row rows p ≤ row entryRows from → keptBelow rows (nonzero values) j p ≡ true
-      → ColumnProductsRoom n (row rows p) from last entryRows scratch size
+-- a column's stored entry at s, and its sums from first to below last, to which the product can be added
+pub record AddStoredInput (x : SumColumn) (size : ℕ) : Type 0 where
+  pub stored : x .s < length (x .rows)
+  pub weighed : x .s < length (x .values)
+  pub ordered : x .first ≤ x .last
+  pub listed : x .last ≤ length (x .entryRows)
+  pub below : (i : ℕ) → x .first ≤ i → i < x .last → x .j < sumRow x i
+  pub ascends : Ascends (x .entryRows) (x .first) (x .last)
+  pub column : (from : ℕ) → x .first ≤ from → from < x .last → row (x .rows) (x .s) ≤ sumRow x from → keptTerm (termsOf x) (x .s) ≡ true
+      → AddColumnInput (x .n) (row (x .rows) (x .s)) from (x .last) (x .entryRows) (x .scratch) size
 
--- the sums from m to below last, whose rows are not less than p's, have the product of the stored entry at p; all others are as they were
-pub record Stepped (n j p q m last : ℕ) (rows : List ℕ) (values : List Float) (entryRows scratch : List ℕ) (z z′ : List Float) : Type 0 where
-  pub from : q ≤ m
-  pub upto : m ≤ last
-  pub passed : (i : ℕ) → q ≤ i → i < m → row entryRows i < row rows p
-  pub reached : (i : ℕ) → m ≤ i → i < last → row rows p ≤ row entryRows i
+-- the sums from m on, whose rows are not less than that of the stored entry at s, have its product; all others are as they were
+pub record ProductAdded (x : SumColumn) (m : ℕ) (z z′ : List Float) : Type 0 where
+  pub from : x .first ≤ m
+  pub upto : m ≤ x .last
+  pub passed : (i : ℕ) → x .first ≤ i → i < m → sumRow x i < row (x .rows) (x .s)
+  pub reached : (i : ℕ) → m ≤ i → i < x .last → row (x .rows) (x .s) ≤ sumRow x i
   pub long : length z′ ≡ length z
-  pub added : (i : ℕ) → m ≤ i → i < last → getD z′ i nan ≡ withProduct rows values j (inverseAt nan n scratch z (row entryRows i)) p (getD z i nan)
+  pub added : (i : ℕ) → m ≤ i → i < x .last
+      → getD z′ i nan ≡ withProduct (x .rows) (x .values) (x .j) (inverseAt nan (x .n) (x .scratch) z (sumRow x i)) (x .s) (getD z i nan)
   pub before : (i : ℕ) → i < m → getD z′ i nan ≡ getD z i nan
-  pub after : (i : ℕ) → last ≤ i → getD z′ i nan ≡ getD z i nan
+  pub after : (i : ℕ) → x .last ≤ i → getD z′ i nan ≡ getD z i nan
 
 -- the column's sums, cleared
-pub record SumsRoom (n j first last s e : ℕ) (rows : List ℕ) (values : List Float) (entryRows scratch : List ℕ) (z : List Float) : Type 0 where
-  pub sums : Sums n j first last s e rows values entryRows scratch (length z)
-  pub cleared : (q : ℕ) → first ≤ q → q < last → getD z q nan ≡ f0
+pub record AddProductsInput (x : SumColumn) (z : List Float) : Type 0 where
+  pub sums : SumsInput x (length z)
+  pub cleared : (q : ℕ) → x .first ≤ q → q < x .last → getD z q nan ≡ f0
 
--- each entry from first to below last is its sum over the stored entries up to its row, of those from s to below p
-pub record ProductsAdded (n j first last s p : ℕ) (rows : List ℕ) (values : List Float) (entryRows scratch : List ℕ) (z₀ z : List Float) : Type 0 where
+-- each sum has the products of the stored entries up to its row, of those from s to below p
+pub record ProductsAdded (x : SumColumn) (p : ℕ) (z₀ z : List Float) : Type 0 where
   pub long : length z ≡ length z₀
-  pub sums : (q : ℕ) → first ≤ q → q < last
-      → (f : ℕ) × FirstFrom (row entryRows q + 1) rows s p f × (getD z q nan ≡ entrySum n j s f rows values scratch z₀ (row entryRows q))
-  pub after : (q : ℕ) → last ≤ q → getD z q nan ≡ getD z₀ q nan
+  pub sums : (q : ℕ) → x .first ≤ q → q < x .last
+      → (f : ℕ) × FirstFrom (sumRow x q + 1) (x .rows) (x .s) p f
+      × (getD z q nan ≡ rowSum (termsOf x) z₀ (sumRow x q) (x .s) f)
+  pub after : (q : ℕ) → x .last ≤ q → getD z q nan ≡ getD z₀ q nan

@@ -27,26 +27,26 @@ abbrev pub columnTerms : ℕ → ℕ → Float → List ℕ → List ℕ → Lis
 columnTerms n k l entryRows scratch z q = withTerm z q l (positionAt n scratch (row entryRows q) k)
 
 -- the entries from `from` to below last, and as many from a position behind them
-pub record RunProductsRoom (from last position size : ℕ) : Type 0 where
+pub record AddRunInput (from last position size : ℕ) : Type 0 where
   pub ordered : from ≤ last
   pub behind : last ≤ position
   pub fits : position + (last - from) ≤ size
 
 -- the entry at q and the one whose position is the word
-pub record WordProductRoom (q word : ℕ) (scratch : List ℕ) (size : ℕ) : Type 0 where
+pub record AddAtInput (q word : ℕ) (scratch : List ℕ) (size : ℕ) : Type 0 where
   pub fits : q < size
   pub inside : word < length scratch
   pub known : getD scratch word 0 < size
 
 -- the entries from `from` to below last, and for the row of each a word with a position behind them
-pub record RowsProductsRoom (base from last : ℕ) (entryRows scratch : List ℕ) (size : ℕ) : Type 0 where
+pub record AddRowsInput (base from last : ℕ) (entryRows scratch : List ℕ) (size : ℕ) : Type 0 where
   pub ordered : from ≤ last
   pub listed : last ≤ length entryRows
-  pub words : (q : ℕ) → from ≤ q → q < last → WordProductRoom q (base + row entryRows q) scratch size
+  pub words : (q : ℕ) → from ≤ q → q < last → AddAtInput q (base + row entryRows q) scratch size
   pub behind : (q : ℕ) → from ≤ q → q < last → last ≤ rowPositions base entryRows scratch q
 
 -- the entries from `from` to below last, to which the products of the descendant k can be added, made of entries behind them that rise with the row
-pub record ColumnProductsRoom (n k from last : ℕ) (entryRows scratch : List ℕ) (size : ℕ) : Type 0 where
+pub record AddColumnInput (n k from last : ℕ) (entryRows scratch : List ℕ) (size : ℕ) : Type 0 where
   pub small : n ≤ maxDimension
   pub right : k < n
   pub some : from < last

@@ -7,22 +7,23 @@ use mathlib.Core.List.{List}
 use lib.ListN.{length, getD}
 use lib.Ieee.{Float, binary64, nan, eq, add, mul}
 use Rattle.columns.specs.Columns.{row, value}
-use Rattle.columns.specs.Kept.{f0, nonzero, keptBelow}
+use Rattle.columns.specs.Kept.{f0, nonzero}
 use Rattle.column_sums.specs.Run.{rowPositions}
-use Rattle.column_sums.specs.Sums.{positionAt, Summing}
+use Rattle.column_sums.specs.Column.{SumTerms, TermAt, termPosition}
+use Rattle.column_sums.specs.Sums.{SumInput}
 
 -- the value at p is 0.0
 abbrev pub zeroAt : List Float → ℕ → Bool
 zeroAt values p = eq (value values p) f0
 
 -- as many entries of the inverse, from `position` on, as values from `first` to below e
-pub record RestRunRoom (first e position values size : ℕ) : Type 0 where
+pub record SumRunInput (first e position values size : ℕ) : Type 0 where
   pub ordered : first ≤ e
   pub weighed : e ≤ values
   pub fits : position + (e - first) ≤ size
 
 -- a word for the row of each value from `first` to below e, `base` words past it, with a position of the inverse
-pub record RestRowsRoom (base first e : ℕ) (rows : List ℕ) (values : ℕ) (scratch : List ℕ) (size : ℕ) : Type 0 where
+pub record SumRowsInput (base first e : ℕ) (rows : List ℕ) (values : ℕ) (scratch : List ℕ) (size : ℕ) : Type 0 where
   pub ordered : first ≤ e
   pub stored : e ≤ length rows
   pub weighed : e ≤ values
@@ -34,18 +35,17 @@ runPositions first position p = position + (p - first)
 
 -- x is the sum after the products of the values from `first` to below e and the entries at their positions: whatever numbers f start with `sum`
 -- and go on by one product each, x is the last
-abbrev pub Summed : List Float → List Float → ℕ → ℕ → (ℕ → ℕ) → Float → Float → Type 0
-Summed values z first e position sum x =
+abbrev pub ProductsSummed : List Float → List Float → ℕ → ℕ → (ℕ → ℕ) → Float → Float → Type 0
+ProductsSummed values z first e position sum x =
     (f : ℕ → Float) → sum ≡ f first
     → ((p : ℕ) → first ≤ p → p < e → add binary64 (f p) (mul binary64 (value values p) (getD z (position p) nan)) ≡ f (p + 1))
     → x ≡ f e
 
--- the entries from `first` to below e of column j, whose rows are all greater than i; where `zeros` is false none is 0.0
-pub record Rest (n i j first e : ℕ) (zeros : Bool) (rows : List ℕ) (values : List Float) (scratch : List ℕ) (size : ℕ) : Type 0 where
-  pub some : first < e
-  pub summing : Summing n i j first e rows values scratch size
-  pub below : j ≤ i
-  pub above : (p : ℕ) → first ≤ p → p < e → i < row rows p
-  pub whole : zeros ≡ false → (p : ℕ) → first ≤ p → p < e → nonzero values p ≡ true
-  pub rises : (p q : ℕ) → first ≤ p → p < q → q < e → keptBelow rows (nonzero values) j p ≡ true → keptBelow rows (nonzero values) j q ≡ true
-      → positionAt n scratch i (row rows p) < positionAt n scratch i (row rows q)
+-- terms whose rows are all greater than i, so that positions rise with them; where `zeros` is false no value is 0.0
+pub record SumRestInput (t : SumTerms) (i : ℕ) (zeros : Bool) (size : ℕ) : Type 0 where
+  pub some : t .s < t .e
+  pub sum : SumInput t i size
+  pub below : t .j ≤ i
+  pub above : (p : ℕ) → t .s ≤ p → p < t .e → i < row (t .rows) p
+  pub nonzeros : zeros ≡ false → (p : ℕ) → t .s ≤ p → p < t .e → nonzero (t .values) p ≡ true
+  pub rises : (p q : ℕ) → TermAt t p → p < q → TermAt t q → termPosition t i p < termPosition t i q

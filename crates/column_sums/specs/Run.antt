@@ -19,7 +19,7 @@ abbrev pub rowPositions : ℕ → List ℕ → List ℕ → ℕ → ℕ
 rowPositions base rows scratch p = getD scratch (base + row rows p) 0
 
 -- the rows from `from` to below last, whose positions rise
-pub record RunRoom (base from last : ℕ) (rows scratch : List ℕ) : Type 0 where
+pub record IsRunInput (base from last : ℕ) (rows scratch : List ℕ) : Type 0 where
   pub some : from < last
   pub listed : last ≤ length rows
   pub inside : (p : ℕ) → from ≤ p → p < last → base + row rows p < length scratch

@@ -2,42 +2,38 @@
 -- Assumes nothing.
 use Prim.Native.Nat.{ℕ, _≤_, _<_}
 use mathlib.Core.Path.{_≡_}
-use mathlib.Core.Bool.{true}
 use mathlib.Core.List.{List}
 use lib.ListN.{length, getD}
 use lib.Ieee.{Float, nan}
 use Rattle.refusal.specs.Bounds.{maxDimension}
 use Rattle.columns.specs.Columns.{row}
-use Rattle.columns.specs.Kept.{nonzero, keptBelow}
 use Rattle.columns.specs.Factor.{Ascends, Column}
-use Rattle.column_sums.specs.Sums.{positionAt, entrySum, Summing}
+use Rattle.column_sums.specs.Column.{SumColumn, termsOf, TermAt, termPosition, sumRow, SumAt}
+use Rattle.column_sums.specs.Sums.{entrySum, SumInput}
 
--- the result's entries from first to below last of column j, whose factor entries are stored from s to below e: their sums can be taken from
--- entries behind them, whose positions rise with either row of a pair along a column
-pub record Storing (n j first last s e : ℕ) (rows : List ℕ) (values : List Float) (entryRows scratch : List ℕ) (size : ℕ) : Type 0 where
-  pub small : n ≤ maxDimension
-  pub inside : j < n
-  pub ordered : first ≤ last
-  pub fits : last ≤ size
-  pub listed : last ≤ length entryRows
-  pub column : Column rows (length values) s e
-  pub ascends : Ascends entryRows first last
-  pub sums : (q : ℕ) → first ≤ q → q < last → j < row entryRows q → Summing n (row entryRows q) j s e rows values scratch size
-  pub behind : (q p : ℕ) → first ≤ q → q < last → j < row entryRows q → s ≤ p → p < e → keptBelow rows (nonzero values) j p ≡ true
-      → last ≤ positionAt n scratch (row entryRows q) (row rows p)
-  pub rises : (q q′ p : ℕ) → first ≤ q → q < q′ → q′ < last → j < row entryRows q → s ≤ p → p < e → keptBelow rows (nonzero values) j p ≡ true
-      → row rows p ≤ row entryRows q → positionAt n scratch (row entryRows q) (row rows p) < positionAt n scratch (row entryRows q′) (row rows p)
-  pub follows : (q p p′ : ℕ) → first ≤ q → q < last → j < row entryRows q → s ≤ p → p < p′ → p′ < e → keptBelow rows (nonzero values) j p ≡ true
-      → keptBelow rows (nonzero values) j p′ ≡ true → row entryRows q < row rows p
-      → positionAt n scratch (row entryRows q) (row rows p) < positionAt n scratch (row entryRows q) (row rows p′)
+-- the sums of a column can be taken for its rows below j, from entries behind them, whose positions rise with either row of a pair along a column
+pub record StoreSumsInput (x : SumColumn) (size : ℕ) : Type 0 where
+  pub small : x .n ≤ maxDimension
+  pub inside : x .j < x .n
+  pub ordered : x .first ≤ x .last
+  pub fits : x .last ≤ size
+  pub listed : x .last ≤ length (x .entryRows)
+  pub column : Column (x .rows) (length (x .values)) (x .s) (x .e)
+  pub ascends : Ascends (x .entryRows) (x .first) (x .last)
+  pub sums : (q : ℕ) → SumAt x q → SumInput (termsOf x) (sumRow x q) size
+  pub behind : (q p : ℕ) → SumAt x q → TermAt (termsOf x) p → x .last ≤ termPosition (termsOf x) (sumRow x q) p
+  pub rises : (q q′ p : ℕ) → SumAt x q → q < q′ → q′ < x .last → TermAt (termsOf x) p → row (x .rows) p ≤ sumRow x q
+      → termPosition (termsOf x) (sumRow x q) p < termPosition (termsOf x) (sumRow x q′) p
+  pub follows : (q p p′ : ℕ) → SumAt x q → TermAt (termsOf x) p → p < p′ → TermAt (termsOf x) p′ → sumRow x q < row (x .rows) p
+      → termPosition (termsOf x) (sumRow x q) p < termPosition (termsOf x) (sumRow x q) p′
 
--- the sums of the entries from first to below q are stored, and the entries from q on are as they were
-pub record SumsStored (n j first q s e : ℕ) (rows : List ℕ) (values : List Float) (entryRows scratch : List ℕ) (z₀ z : List Float) : Type 0 where
+-- the sums of the rows below j are stored, and the entries from last on are as they were
+pub record SumsStored (x : SumColumn) (z₀ z : List Float) : Type 0 where
   pub long : length z ≡ length z₀
-  pub sums : (p : ℕ) → first ≤ p → p < q → j < row entryRows p → getD z p nan ≡ entrySum n j s e rows values scratch z₀ (row entryRows p)
-  pub after : (p : ℕ) → q ≤ p → getD z p nan ≡ getD z₀ p nan
+  pub sums : (q : ℕ) → SumAt x q → getD z q nan ≡ entrySum (termsOf x) z₀ (sumRow x q)
+  pub after : (q : ℕ) → x .last ≤ q → getD z q nan ≡ getD z₀ q nan
 
--- the same entries, where every row is below j
-pub record Sums (n j first last s e : ℕ) (rows : List ℕ) (values : List Float) (entryRows scratch : List ℕ) (size : ℕ) : Type 0 where
-  pub storing : Storing n j first last s e rows values entryRows scratch size
-  pub below : (q : ℕ) → first ≤ q → q < last → j < row entryRows q
+-- the same sums, where every row is below j
+pub record SumsInput (x : SumColumn) (size : ℕ) : Type 0 where
+  pub storing : StoreSumsInput x size
+  pub below : (q : ℕ) → x .first ≤ q → q < x .last → x .j < sumRow x q

@@ -18,6 +18,7 @@ use Rattle.takahashi.specs.Recurrence.{Arithmetic, Entry, run, dot}
 use Rattle.exact.specs.Multiple.{zero-float}
 use Rattle.exact.specs.Exact.{floats}
 pub use Rattle.pairs.specs.Positions.{positionAt, inverseAt}
+use Rattle.column_sums.specs.Column.{SumTerms, TermAt, termPosition}
 
 -- the entries at some stored places
 abbrev pub entriesAt : List ℕ → List Float → List ℕ → List (Entry Float)
@@ -31,16 +32,20 @@ withProduct rows values j r p sum = run floats r sum (entriesAt rows values (one
 unfoldable pub sumBetween : List ℕ → List Float → ℕ → (ℕ → Float) → ℕ → ℕ → Float
 sumBetween rows values j r s e = dot floats r (entriesAt rows values (select (keptBelow rows (nonzero values) j) s e))
 
--- x is the sum up to e, where `sum` is that up to `first`
-abbrev pub Continued : List ℕ → List Float → ℕ → (ℕ → Float) → ℕ → ℕ → Float → Float → Type 0
-Continued rows values j r first e sum x = (s : ℕ) → s ≤ first → sum ≡ sumBetween rows values j r s first → x ≡ sumBetween rows values j r s e
+-- the sum for row i, from s to below e
+abbrev pub rowSum : SumTerms → List Float → ℕ → ℕ → ℕ → Float
+rowSum t inverse i s e = sumBetween (t .rows) (t .values) (t .j) (inverseAt nan (t .n) (t .scratch) inverse i) s e
 
--- the sum for row i of column j, whose entries are stored from s to e
-abbrev pub entrySum : ℕ → ℕ → ℕ → ℕ → List ℕ → List Float → List ℕ → List Float → ℕ → Float
-entrySum n j s e rows values scratch inverse i = sumBetween rows values j (inverseAt nan n scratch inverse i) s e
+-- over all the terms
+abbrev pub entrySum : SumTerms → List Float → ℕ → Float
+entrySum t inverse i = rowSum t inverse i (t .s) (t .e)
+
+-- x is the sum for row i up to the last term, where `sum` is that up to the first
+abbrev pub SumContinued : SumTerms → List Float → ℕ → Float → Float → Type 0
+SumContinued t inverse i sum x = (s : ℕ) → s ≤ t .s → sum ≡ rowSum t inverse i s (t .s) → x ≡ rowSum t inverse i s (t .e)
 
 -- a stored entry whose product can be taken
-pub record Adding (n i j p : ℕ) (rows : List ℕ) (values : List Float) (scratch : List ℕ) (size : ℕ) : Type 0 where
+pub record AddProductInput (n i j p : ℕ) (rows : List ℕ) (values : List Float) (scratch : List ℕ) (size : ℕ) : Type 0 where
   pub small : n ≤ maxDimension
   pub left : i < n
   pub stored : p < length rows
@@ -49,14 +54,14 @@ pub record Adding (n i j p : ℕ) (rows : List ℕ) (values : List Float) (scrat
   pub room : queueStart n + pairTotal n ≤ length scratch
   pub known : keptBelow rows (nonzero values) j p ≡ true → positionAt n scratch i (row rows p) < size
 
--- stored entries whose products can be taken
-pub record Summing (n i j s e : ℕ) (rows : List ℕ) (values : List Float) (scratch : List ℕ) (size : ℕ) : Type 0 where
-  pub small : n ≤ maxDimension
-  pub left : i < n
-  pub column : Column rows (length values) s e
-  pub inside : (p : ℕ) → s ≤ p → p < e → row rows p < n
-  pub room : queueStart n + pairTotal n ≤ length scratch
-  pub known : (p : ℕ) → s ≤ p → p < e → keptBelow rows (nonzero values) j p ≡ true → positionAt n scratch i (row rows p) < size
+-- terms whose sum for row i can be taken
+pub record SumInput (t : SumTerms) (i size : ℕ) : Type 0 where
+  pub small : t .n ≤ maxDimension
+  pub left : i < t .n
+  pub column : Column (t .rows) (length (t .values)) (t .s) (t .e)
+  pub inside : (p : ℕ) → t .s ≤ p → p < t .e → row (t .rows) p < t .n
+  pub room : queueStart (t .n) + pairTotal (t .n) ≤ length (t .scratch)
+  pub known : (p : ℕ) → TermAt t p → termPosition t i p < size
 
 -- ---- the sum
 

@@ -11,9 +11,10 @@ ghost use Rattle.lists.specs.Test.{anyIn};
 ghost use Rattle.columns.specs.Columns.{outsideAt};
 ghost use Rattle.columns.specs.Factor.{Column};
 ghost use Rattle.column_sums.specs.Part.{PartSet, zeros};
-ghost use Rattle.column_sums.specs.Stored.{Storing, SumsStored};
-ghost use Rattle.column_sums.specs.Lower.{StoredRoom, Stepped, SumsRoom, ProductsAdded};
-ghost use Rattle.column_sums.specs.Upper.{EntryRoom, RestAdded, RestsRoom, RestsAdded};
+ghost use Rattle.column_sums.specs.Column.{sumColumn};
+ghost use Rattle.column_sums.specs.Stored.{StoreSumsInput, SumsStored};
+ghost use Rattle.column_sums.specs.Lower.{AddStoredInput, ProductAdded, AddProductsInput, ProductsAdded};
+ghost use Rattle.column_sums.specs.Upper.{AddRestInput, RestAdded, AddRestsInput, RestsAdded};
 use kept_entries::diagonal::first_from;
 use products::add_column;
 use sums::has_zero;
@@ -46,8 +47,8 @@ fn add_stored(
     scratch: &[u32],
     inverse: &mut [f64],
 ) -> usize
-    requires { ⌜ StoredRoom n j p q last (now rows) (now values) (now «entry_rows») (now scratch) (length (now inverse)) ⌝ }
-    ensures { λ m. ⌜ Stepped n j p q m last (now (rows .entry)) (now (values .entry)) (now («entry_rows» .entry)) (now (scratch .entry))
+    requires { ⌜ AddStoredInput (sumColumn n j q last p (p + 1) (now rows) (now values) (now «entry_rows») (now scratch)) (length (now inverse)) ⌝ }
+    ensures { λ m. ⌜ ProductAdded (sumColumn n j q last p (p + 1) (now (rows .entry)) (now (values .entry)) (now («entry_rows» .entry)) (now (scratch .entry))) m
         (now (inverse .entry)) (now (inverse .exit)) ⌝ }
 {
     let k = at(rows, p);
@@ -79,8 +80,8 @@ fn add_products(
     scratch: &[u32],
     inverse: &mut [f64],
 )
-    requires { ⌜ SumsRoom n j first last s e (now rows) (now values) (now «entry_rows») (now scratch) (now inverse) ⌝ }
-    ensures { λ _. ⌜ ProductsAdded n j first last s e (now (rows .entry)) (now (values .entry)) (now («entry_rows» .entry)) (now (scratch .entry))
+    requires { ⌜ AddProductsInput (sumColumn n j first last s e (now rows) (now values) (now «entry_rows») (now scratch)) (now inverse) ⌝ }
+    ensures { λ _. ⌜ ProductsAdded (sumColumn n j first last s e (now (rows .entry)) (now (values .entry)) (now («entry_rows» .entry)) (now (scratch .entry))) e
         (now (inverse .entry)) (now (inverse .exit)) ⌝ }
 {
     let mut q = first;
@@ -105,8 +106,8 @@ fn add_rest(
     scratch: &[u32],
     inverse: &mut [f64],
 ) -> usize
-    requires { ⌜ EntryRoom n j p e q zeros (now rows) (now values) (now «entry_rows») (now scratch) (length (now inverse)) ⌝ }
-    ensures { λ m. ⌜ RestAdded n j p e q m (now (rows .entry)) (now (values .entry)) (now («entry_rows» .entry)) (now (scratch .entry))
+    requires { ⌜ AddRestInput (sumColumn n j q (q + 1) p e (now rows) (now values) (now «entry_rows») (now scratch)) zeros (length (now inverse)) ⌝ }
+    ensures { λ m. ⌜ RestAdded (sumColumn n j q (q + 1) p e (now (rows .entry)) (now (values .entry)) (now («entry_rows» .entry)) (now (scratch .entry))) m
         (now (inverse .entry)) (now (inverse .exit)) ⌝ }
 {
     let i = at(entry_rows, q);
@@ -146,8 +147,8 @@ fn add_rests(
     scratch: &[u32],
     inverse: &mut [f64],
 )
-    requires { ⌜ RestsRoom n j first last s e zeros (now rows) (now values) (now «entry_rows») (now scratch) (length (now inverse)) ⌝ }
-    ensures { λ _. ⌜ RestsAdded n j first last s e (now (rows .entry)) (now (values .entry)) (now («entry_rows» .entry)) (now (scratch .entry))
+    requires { ⌜ AddRestsInput (sumColumn n j first last s e (now rows) (now values) (now «entry_rows») (now scratch)) zeros (length (now inverse)) ⌝ }
+    ensures { λ _. ⌜ RestsAdded (sumColumn n j first last s e (now (rows .entry)) (now (values .entry)) (now («entry_rows» .entry)) (now (scratch .entry))) last
         (now (inverse .entry)) (now (inverse .exit)) ⌝ }
 {
     let mut p = s;
@@ -195,8 +196,8 @@ pub fn store_sums(
     scratch: &[u32],
     inverse: &mut [f64],
 )
-    requires { ⌜ Storing n j first last s e (now rows) (now values) (now «entry_rows») (now scratch) (length (now inverse)) ⌝ }
-    ensures { λ _. ⌜ SumsStored n j first last s e (now (rows .entry)) (now (values .entry)) (now («entry_rows» .entry)) (now (scratch .entry))
+    requires { ⌜ StoreSumsInput (sumColumn n j first last s e (now rows) (now values) (now «entry_rows») (now scratch)) (length (now inverse)) ⌝ }
+    ensures { λ _. ⌜ SumsStored (sumColumn n j first last s e (now (rows .entry)) (now (values .entry)) (now («entry_rows» .entry)) (now (scratch .entry)))
         (now (inverse .entry)) (now (inverse .exit)) ⌝ }
 {
     let from = first_from(j + 1, entry_rows, first, last);

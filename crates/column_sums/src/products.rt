@@ -2,14 +2,14 @@
 ghost use mathlib.Core.Path.{_≡_};
 ghost use lib.ListN.{length, getD, set};
 ghost use Rattle.column_sums.specs.Part.{PartSet};
-ghost use Rattle.column_sums.specs.Products.{withTerm, runTerms, rowTerms, columnTerms, RunProductsRoom, WordProductRoom, RowsProductsRoom, ColumnProductsRoom};
+ghost use Rattle.column_sums.specs.Products.{withTerm, runTerms, rowTerms, columnTerms, AddRunInput, AddAtInput, AddRowsInput, AddColumnInput};
 use super::runs::is_run;
 use pair_places::positions::column_base;
 use words::at;
 
 // Adds to each entry from `from` to last the product of l and an entry, the first at the position, each next one place further.
 fn add_run(from: usize, last: usize, position: usize, l: f64, inverse: &mut [f64])
-    requires { ⌜ RunProductsRoom from last position (length (now inverse)) ⌝ }
+    requires { ⌜ AddRunInput from last position (length (now inverse)) ⌝ }
     ensures { λ _. ⌜ PartSet from last (runTerms from position l (now (inverse .entry))) (now (inverse .entry)) (now (inverse .exit)) ⌝ }
 {
     let mut q = from;
@@ -23,7 +23,7 @@ fn add_run(from: usize, last: usize, position: usize, l: f64, inverse: &mut [f64
 
 // Adds to the entry at q the product of l and the entry whose position is the word.
 fn add_at(q: usize, word: usize, l: f64, scratch: &[u32], inverse: &mut [f64])
-    requires { ⌜ WordProductRoom q word (now scratch) (length (now inverse)) ⌝ }
+    requires { ⌜ AddAtInput q word (now scratch) (length (now inverse)) ⌝ }
     ensures { λ _. ⌜ now (inverse .exit) ≡ set (now (inverse .entry)) q (withTerm (now (inverse .entry)) q l (getD (now (scratch .entry)) word 0)) ⌝ }
 {
     let position = at(scratch, word);
@@ -41,7 +41,7 @@ fn add_rows(
     scratch: &[u32],
     inverse: &mut [f64],
 )
-    requires { ⌜ RowsProductsRoom base from last (now «entry_rows») (now scratch) (length (now inverse)) ⌝ }
+    requires { ⌜ AddRowsInput base from last (now «entry_rows») (now scratch) (length (now inverse)) ⌝ }
     ensures { λ _. ⌜ PartSet from last (rowTerms base l (now («entry_rows» .entry)) (now (scratch .entry)) (now (inverse .entry)))
         (now (inverse .entry)) (now (inverse .exit)) ⌝ }
 {
@@ -67,7 +67,7 @@ pub fn add_column(
     scratch: &[u32],
     inverse: &mut [f64],
 )
-    requires { ⌜ ColumnProductsRoom n k from last (now «entry_rows») (now scratch) (length (now inverse)) ⌝ }
+    requires { ⌜ AddColumnInput n k from last (now «entry_rows») (now scratch) (length (now inverse)) ⌝ }
     ensures { λ _. ⌜ PartSet from last (columnTerms n k l (now («entry_rows» .entry)) (now (scratch .entry)) (now (inverse .entry)))
         (now (inverse .entry)) (now (inverse .exit)) ⌝ }
 {

@@ -8,8 +8,9 @@ ghost use Rattle.lists.specs.Test.{anyIn};
 ghost use Rattle.pairs.specs.Scratch.{queueStart};
 ghost use Rattle.pairs.specs.ColumnOrder.{colStart};
 ghost use Rattle.column_sums.specs.Run.{rowPositions};
-ghost use Rattle.column_sums.specs.Sums.{inverseAt, Adding, Summing, withProduct, sumBetween, Continued};
-ghost use Rattle.column_sums.specs.Rest.{zeroAt, Summed, runPositions, RestRunRoom, RestRowsRoom, Rest};
+ghost use Rattle.column_sums.specs.Column.{sumTerms};
+ghost use Rattle.column_sums.specs.Sums.{inverseAt, AddProductInput, SumInput, withProduct, entrySum, SumContinued};
+ghost use Rattle.column_sums.specs.Rest.{zeroAt, ProductsSummed, runPositions, SumRunInput, SumRowsInput, SumRestInput};
 use super::runs::is_run;
 use pair_places::positions::column_base;
 use pair_places::positions::column_shift;
@@ -33,7 +34,7 @@ fn add_product(
     inverse: &[f64],
 ) -> f64
     requires { ⌜ (positions ≡ queueStart n) × (base + i ≡ queueStart n + colStart n i) ⌝ }
-    requires { ⌜ Adding n i j p (now rows) (now values) (now scratch) (length (now inverse)) ⌝ }
+    requires { ⌜ AddProductInput n i j p (now rows) (now values) (now scratch) (length (now inverse)) ⌝ }
     ensures { λ x. ⌜ x ≡ withProduct (now (rows .entry)) (now (values .entry)) j (inverseAt nan n (now (scratch .entry)) (now (inverse .entry)) i) p sum ⌝ }
 {
     let k = at(rows, p);
@@ -61,8 +62,8 @@ fn sum_from(
     scratch: &[u32],
     inverse: &[f64],
 ) -> f64
-    requires { ⌜ Summing n i j first e (now rows) (now values) (now scratch) (length (now inverse)) ⌝ }
-    ensures { λ x. ⌜ Continued (now (rows .entry)) (now (values .entry)) j (inverseAt nan n (now (scratch .entry)) (now (inverse .entry)) i) first e start x ⌝ }
+    requires { ⌜ SumInput (sumTerms n j first e (now rows) (now values) (now scratch)) i (length (now inverse)) ⌝ }
+    ensures { λ x. ⌜ SumContinued (sumTerms n j first e (now (rows .entry)) (now (values .entry)) (now (scratch .entry))) (now (inverse .entry)) i start x ⌝ }
 {
     let positions = queue_start(n);
     let base = positions + column_shift(n, i);
@@ -99,8 +100,8 @@ pub fn entry_sum(
     scratch: &[u32],
     inverse: &[f64],
 ) -> f64
-    requires { ⌜ Summing n i j s e (now rows) (now values) (now scratch) (length (now inverse)) ⌝ }
-    ensures { λ x. ⌜ x ≡ sumBetween (now (rows .entry)) (now (values .entry)) j (inverseAt nan n (now (scratch .entry)) (now (inverse .entry)) i) s e ⌝ }
+    requires { ⌜ SumInput (sumTerms n j s e (now rows) (now values) (now scratch)) i (length (now inverse)) ⌝ }
+    ensures { λ x. ⌜ x ≡ entrySum (sumTerms n j s e (now (rows .entry)) (now (values .entry)) (now (scratch .entry))) (now (inverse .entry)) i ⌝ }
 {
     sum_from(n, i, j, s, e, 0.0, rows, values, scratch, inverse)
 }
@@ -130,8 +131,8 @@ fn sum_run(
     values: &[f64],
     inverse: &[f64],
 ) -> f64
-    requires { ⌜ RestRunRoom first e position (length (now values)) (length (now inverse)) ⌝ }
-    ensures { λ x. ⌜ Summed (now (values .entry)) (now (inverse .entry)) first e (runPositions first position) start x ⌝ }
+    requires { ⌜ SumRunInput first e position (length (now values)) (length (now inverse)) ⌝ }
+    ensures { λ x. ⌜ ProductsSummed (now (values .entry)) (now (inverse .entry)) first e (runPositions first position) start x ⌝ }
 {
     let mut sum = start;
     let mut p = first;
@@ -155,8 +156,8 @@ fn sum_rows(
     scratch: &[u32],
     inverse: &[f64],
 ) -> f64
-    requires { ⌜ RestRowsRoom base first e (now rows) (length (now values)) (now scratch) (length (now inverse)) ⌝ }
-    ensures { λ x. ⌜ Summed (now (values .entry)) (now (inverse .entry)) first e (rowPositions base (now (rows .entry)) (now (scratch .entry))) start x ⌝ }
+    requires { ⌜ SumRowsInput base first e (now rows) (length (now values)) (now scratch) (length (now inverse)) ⌝ }
+    ensures { λ x. ⌜ ProductsSummed (now (values .entry)) (now (inverse .entry)) first e (rowPositions base (now (rows .entry)) (now (scratch .entry))) start x ⌝ }
 {
     let mut sum = start;
     let mut p = first;
@@ -183,8 +184,8 @@ pub fn sum_rest(
     scratch: &[u32],
     inverse: &[f64],
 ) -> f64
-    requires { ⌜ Rest n i j first e zeros (now rows) (now values) (now scratch) (length (now inverse)) ⌝ }
-    ensures { λ x. ⌜ Continued (now (rows .entry)) (now (values .entry)) j (inverseAt nan n (now (scratch .entry)) (now (inverse .entry)) i) first e start x ⌝ }
+    requires { ⌜ SumRestInput (sumTerms n j first e (now rows) (now values) (now scratch)) i zeros (length (now inverse)) ⌝ }
+    ensures { λ x. ⌜ SumContinued (sumTerms n j first e (now (rows .entry)) (now (values .entry)) (now (scratch .entry))) (now (inverse .entry)) i start x ⌝ }
 {
     if !zeros {
         let base = column_base(n, i);

@@ -7,8 +7,8 @@ ghost use Rattle.refusal.specs.Bounds.{maxDimension};
 ghost use Rattle.lists.specs.Overwrite.{splice};
 ghost use Rattle.exact.specs.Exact.{floats, float-off, float-on};
 ghost use Rattle.scatter.specs.Scatter.{steps, stepSum, stepped};
-use entry_steps::entry_below;
-use entry_steps::entry_on_diagonal;
+use last_steps::entry_below;
+use last_steps::entry_on_diagonal;
 use refusal::MAX_DIMENSION;
 
 // The m values below the diagonal; returns the diagonal's sum.

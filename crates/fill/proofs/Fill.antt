@@ -28,7 +28,7 @@ use Rattle.marked_pairs.specs.MarkedPairs.{ColumnsReached}
 use Rattle.closure.specs.Closure.{Closing}
 use Rattle.closed_set.specs.FactorPattern.{factor-pattern}
 use Rattle.layout.specs.Layout.{LayOut, LaidOut}
-use Rattle.closure_route.specs.Route.{ClosureRoute, laid-same, laid-route}
+use Rattle.closure_route.specs.Route.{routeLists, ClosureRouteInput, laid-same, laid-route}
 use Rattle.closure_route.specs.Members.{marked-size, marked-closed}
 use Rattle.routes.specs.Routes.{RoutesInput}
 use Rattle.diagnostics.specs.Diagnosis.{maxCount}
@@ -84,7 +84,7 @@ module _ (x : Selection) (lent : Lent) (A : Accepted x (roomOf lent)) where
         marked = setSize-cong (x .factor .n) (columnMarking (x .factor .n) s₁) (columnMarking (x .factor .n) s₂) laid
 
         -- what the closure route asks
-        pub fill-closure : ClosureRoute (x .factor .n) (x .factor .starts) (x .factor .rows) (x .factor .values) rs rr s₂ (length (lent .resultValues))
+        pub fill-closure : ClosureRouteInput (routeLists (x .factor .n) (x .factor .starts) (x .factor .rows) (x .factor .values) rs rr s₂) (length (lent .resultValues))
         fill-closure =
             laid-route fill-layout L (x .factor .values) (A .factor) P (marked-closed (x .factor .n) (pat x) (x .requests) s₁ same P (A .requests))
             (omega (arith, size, most, A .values-room))

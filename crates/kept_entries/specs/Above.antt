@@ -25,8 +25,8 @@ hasAbove starts rows c = anyIn (aboveAt rows c) (start starts c) (start starts (
 
 module _ {n : ℕ} {starts rows : List ℕ} (S : Starts n starts rows) (none : any (hasAbove starts rows) n ≡ false) (nz : ℕ → Bool) where
   -- a column without one keeps its entries that are not 0
-  keptCount-whole : (c : ℕ) → c < n → keptCount starts rows nz c ≡ tally nz (start starts c) (start starts (c + 1))
-  keptCount-whole c h =
+  keptCount-all : (c : ℕ) → c < n → keptCount starts rows nz c ≡ tally nz (start starts c) (start starts (c + 1))
+  keptCount-all c h =
       let e = any-below (hasAbove starts rows) n c none h in
       ap length (select-cong (kept rows nz c) nz _ _ (λ k lo hi. rw (le-leb _ _ (ltb-false _ _ (anyIn-below (aboveAt rows c) _ _ k e lo hi)))))
 
@@ -38,10 +38,10 @@ module _ {n : ℕ} {starts rows : List ℕ} (S : Starts n starts rows) (none : a
         arith,
         factorPairs-next starts rows nz m,
         first-columns m (omega arith),
-        keptCount-whole m h,
+        keptCount-all m h,
         tally-join nz 0 (start starts m) (start starts (m + 1)) (omega arith) (S .rising m h),
       ))
 
   -- where no column has one, the kept entries are those that are not 0
-  pub factorPairs-whole : factorPairs starts rows nz n ≡ tally nz 0 (start starts n)
-  factorPairs-whole = first-columns n (omega arith)
+  pub factorPairs-all : factorPairs starts rows nz n ≡ tally nz 0 (start starts n)
+  factorPairs-all = first-columns n (omega arith)

@@ -90,7 +90,7 @@ fn has_above(n: usize, starts: &[u32], rows: &[u32]) -> bool
     false
 }
 
-// How many entries are kept. Where none is above the diagonal, these are all whose value is not 0.0, counted over the whole list.
+// How many entries are kept. Where none is above the diagonal, these are all whose value is not 0.0, counted over all of the list.
 pub fn factor_pairs(n: usize, starts: &[u32], rows: &[u32], values: &[f64]) -> usize
     requires { ⌜ Factor n (now starts) (now rows) (length (now values)) ⌝ }
     ensures { λ r. ⌜ r ≡ factorPairs (now (starts .entry)) (now (rows .entry)) (nonzero (now (values .entry))) n ⌝ }

@@ -9,11 +9,11 @@ use Rattle.pairs.specs.ColumnOrder.{columnMarking, setSize}
 use Rattle.columns.specs.Kept.{nonzero, factorPairs}
 use Rattle.columns.specs.Diagonal.{Diagonals}
 use Rattle.entries.specs.Entries.{entryStarts, entryRows}
-use Rattle.closure_route.specs.Route.{ClosureRoute}
+use Rattle.closure_route.specs.Route.{routeLists, ClosureRouteInput}
 
 -- the closure route's input with the counts of kept and of marked pairs, and the result laid out over the marked set
 pub record RoutesInput (n : ℕ) (starts rows : List ℕ) (values : List Float) (kept closed : ℕ) (firsts listed scratch : List ℕ) (size : ℕ) : Type 0 where
-  pub route : ClosureRoute n starts rows values firsts listed scratch size
+  pub route : ClosureRouteInput (routeLists n starts rows values firsts listed scratch) size
   pub diagonals : Diagonals n starts rows values
   pub kept-is : kept ≡ factorPairs starts rows (nonzero values) n
   pub closed-is : closed ≡ setSize n (columnMarking n scratch)

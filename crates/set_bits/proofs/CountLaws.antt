@@ -91,23 +91,23 @@ rest-some s p d {m} e =
     let n : p / 32 * 32 + 32 ≡ bitWords p * 32 = omega (arith, d) in
     e ∙ word-bits s (p / 32) (p % 32) (omega arith) ∙ ap₂ (tally (bitAt s)) q n
 
--- the bits from p to below e: `left` are those of what is left of the word of p, `whole` those of the words behind it up to that of e, `past` those from e on
-module _ (s : List ℕ) (p e : ℕ) (l : p ≤ e) {left whole : ℕ} (is-left : left ≡ tally (bitAt s) p (bitWords p * 32))
-    (is-whole : whole ≡ tally (bitAt s) ((p + 31) / 32 * 32) ((e + 31) / 32 * 32)) where
-  all : left + whole ≡ tally (bitAt s) p e + tally (bitAt s) e (bitWords e * 32)
+-- the bits from p to below e: `left` are those of what is left of the word of p, `full` those of the words behind it up to that of e, `past` those from e on
+module _ (s : List ℕ) (p e : ℕ) (l : p ≤ e) {left full : ℕ} (is-left : left ≡ tally (bitAt s) p (bitWords p * 32))
+    (is-full : full ≡ tally (bitAt s) ((p + 31) / 32 * 32) ((e + 31) / 32 * 32)) where
+  all : left + full ≡ tally (bitAt s) p e + tally (bitAt s) e (bitWords e * 32)
   unfolding bitWords
   all =
-      ap₂ _+_ is-left is-whole ∙ sym (tally-join (bitAt s) p (bitWords p * 32) (bitWords e * 32) (omega arith) (omega arith))
+      ap₂ _+_ is-left is-full ∙ sym (tally-join (bitAt s) p (bitWords p * 32) (bitWords e * 32) (omega arith) (omega arith))
       ∙ tally-join (bitAt s) p e (bitWords e * 32) l (omega arith)
 
   -- there are not too many
-  pub count-most : left + whole ≤ e + 31
+  pub count-most : left + full ≤ e + 31
   unfolding bitWords
   count-most = omega (arith, all, tally-most (bitAt s) p e, tally-most (bitAt s) e (bitWords e * 32))
 
   module _ {past : ℕ} (is-past : past ≡ tally (bitAt s) e (bitWords e * 32)) where
-    pub count-past : past ≤ left + whole
+    pub count-past : past ≤ left + full
     count-past = omega (arith, all)
 
-    pub count-is : left + whole - past ≡ tally (bitAt s) p e
+    pub count-is : left + full - past ≡ tally (bitAt s) p e
     count-is = omega (arith, all)

@@ -15,7 +15,7 @@ fn ones_from(w: u32, k: usize) -> usize
 }
 
 // How many bits of the words from `first` to below `end` are set.
-fn whole_ones(words: &[u32], first: usize, end: usize) -> usize
+fn ones_between(words: &[u32], first: usize, end: usize) -> usize
     requires { ⌜ (first ≤ end) × (end ≤ length (now words)) × (end ≤ maxBits) ⌝ }
     ensures { λ r. ⌜ r ≡ tally (bitAt (now (words .entry))) (first * 32) (end * 32) ⌝ }
 {
@@ -44,6 +44,6 @@ pub fn count_bits(words: &[u32], place: usize, end: usize) -> usize
     requires { ⌜ (place ≤ end) × (end ≤ maxBits) × (bitWords end ≤ length (now words)) ⌝ }
     ensures { λ r. ⌜ r ≡ tally (bitAt (now (words .entry))) place end ⌝ }
 {
-    let whole = whole_ones(words, (place + 31) / 32, (end + 31) / 32);
-    rest_ones(words, place) + whole - rest_ones(words, end)
+    let full = ones_between(words, (place + 31) / 32, (end + 31) / 32);
+    rest_ones(words, place) + full - rest_ones(words, end)
 }

@@ -1,12 +1,11 @@
-use Prim.Native.Nat.{_+_}
-use native.Mathlib.Omega.{arith}
 use mathlib.Core.Path.{_≡_, refl, _∙_}
-use Rattle.pairs.specs.ColumnOrder.{columnMarking}
-use Rattle.entries.specs.Entries.{columnCount}
-use Rattle.columns.specs.Form.{cholesky}
 use denote.Ref.{now}
 use borrow.Author.Needs.{needs}
-use Rattle.closure_route.proofs.ColumnLaws.{Ends, storing-at, part-at, diagonal-at, solved-empty, solved-at}
+use Rattle.columns.specs.Kept.{diag}
+use Rattle.exact.specs.Exact.{float-off, float-on}
+use Rattle.entries.specs.Descendants.{float-solves}
+use Rattle.closure_route.specs.Route.{RouteLists, routeLists}
+use Rattle.closure_route.proofs.LastStepLaws.{Ends, ends-read, sums-at, part-at, diagonal-at, solved-empty, solved-at}
 use Rattle.closure_route.proofs.takahashi_column.Statement.{statement}
 use Rattle.closure_route.proofs.takahashi_column.Tie as tie
 
@@ -19,23 +18,20 @@ bounds d = d .before .before .before .before
 abbrev start : tie.After-diagonal → tie.Start
 start d = begin (bounds d)
 
+-- the lists
+abbrev lists : tie.Start → RouteLists
+lists s =
+    let a = s .args in
+    routeLists (a .n) (now (a .starts)) (now (a .rows)) (now (a .values)) (now (a .entry-starts)) (now (a .entry-rows)) (now (a .scratch))
+
 -- where the column starts and ends
-first-is : (f : tie.After-at2) → let a = begin f .args in f .before .at .result ≡ columnCount (a .n) (columnMarking (a .n) (now (a .scratch))) (a .j)
-first-is f = let s = begin f in f .before .at .ensures ∙ s .pre .0 .route .starts-are (s .args .j) (omega (arith, s .pre .0 .inside))
-
-last-is : (f : tie.After-at2) → let a = begin f .args in f .at2 .result ≡ columnCount (a .n) (columnMarking (a .n) (now (a .scratch))) (a .j + 1)
-last-is f = let s = begin f in f .at2 .ensures ∙ s .pre .0 .route .starts-are (s .args .j + 1) (omega (arith, s .pre .0 .inside))
-
 ends : (d : tie.After-diagonal) →
-    let a = start d .args in
-    Ends (a .n) (now (a .starts)) (now (a .scratch)) (a .j) (bounds d .before .at .result) (bounds d .at2 .result)
-    (d .before .before .at3 .result) (d .before .at4 .result)
-ends d = record {
-  first-is = first-is (bounds d);
-  last-is = last-is (bounds d);
-  start-is = d .before .before .at3 .ensures;
-  end-is = d .before .at4 .ensures;
-}
+    let s = start d in
+    Ends (lists s) (s .args .j) (bounds d .before .at .result) (bounds d .at2 .result) (d .before .before .at3 .result) (d .before .at4 .result)
+ends d =
+    let f = bounds d in
+    let p = begin f .pre .0 in
+    ends-read (p .route) (p .inside) (f .before .at .ensures) (f .at2 .ensures) (d .before .before .at3 .ensures) (d .before .at4 .ensures)
 
 -- the column has entries
 some : (d : tie.After-diagonal) → bounds d .before .at .result ≡ bounds d .at2 .result → ⊥
@@ -54,8 +50,9 @@ returns : tie.Need-returns
 returns c =
     let f = c .before in
     let s = begin f in
-    solved-empty (s .pre .0 .route) (s .pre .0 .inside) (record { first-is = first-is f; last-is = last-is f; start-is = refl; end-is = refl })
-    _ (now (s .args .entry-values)) (c .if1 .taken) (s .pre .0 .later)
+    let p = s .pre .0 in
+    solved-empty (p .route) (p .inside) (ends-read (p .route) (p .inside) (f .before .at .ensures) (f .at2 .ensures) refl refl)
+    _ (now (s .args .entry-values)) (c .if1 .taken) (p .later)
 
 at-requires-3 : tie.Need-at-requires-3
 at-requires-3 c κs = search needs
@@ -70,7 +67,7 @@ diagonal-requires : tie.Need-diagonal-requires
 diagonal-requires c κs = search needs
 
 store-sums-requires : tie.Need-store-sums-requires
-store-sums-requires c κs = let d = c .before in let p = start d .pre .0 in storing-at (p .route) (p .inside) (ends d)
+store-sums-requires c κs = let d = c .before in let p = start d .pre .0 in sums-at (p .route) (p .inside) (ends d)
 
 divide-part-requires : tie.Need-divide-part-requires
 divide-part-requires c κs =
@@ -97,7 +94,9 @@ returns-2 c =
     let v = w .before .before .before .before in
     let d = v .before .before in
     let p = start d .pre .0 in
-    solved-at (p .route) (p .inside) (ends d) cholesky (some d) (d .diagonal .ensures) refl (p .later)
+    let a = start d .args in
+    solved-at (p .route) (p .inside) (ends d) float-off float-on (diag (now (a .starts)) (now (a .rows)) (now (a .values)))
+    (float-solves (now (a .values)) (p .route .factor)) (some d) (d .diagonal .ensures) refl (p .later)
     (v .store-sums .ensures) (w .divide-part .ensures) (x .store-diagonal .ensures)
 
 pub takahashi-column-spec : {M : Type 1} → statement M

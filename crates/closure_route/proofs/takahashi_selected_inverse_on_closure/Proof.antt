@@ -1,6 +1,6 @@
-use Prim.Native.Nat.{ℕ, _≤_, _-_, _+_}
+use Prim.Native.Nat.{ℕ, _≤_, _-_}
 use native.Mathlib.Omega.{arith}
-use mathlib.Core.Path.{_≡_, refl, sym, subst, _∙_}
+use mathlib.Core.Path.{_≡_, refl, subst, _∙_}
 use mathlib.Core.Bool.{Bool}
 use lib.Ieee.{Float}
 use lib.ListN.{length}
@@ -8,14 +8,14 @@ use denote.Ref.{now}
 use borrow.Author.Needs.{needs}
 use Rattle.pairs.specs.ColumnOrder.{columnMarking}
 use Rattle.entries.specs.Entries.{floatTable}
-use Rattle.closure_route.specs.Route.{ClosureRoute, SolvedFrom, Solved}
-use Rattle.closure_route.proofs.RouteLaws.{solved-none, solved-next, solved-all}
+use Rattle.closure_route.specs.Route.{ColumnsSolved}
+use Rattle.closure_route.proofs.RouteLaws.{solved-none, solved-next, solved-all, column-next}
 use Rattle.closure_route.proofs.takahashi_selected_inverse_on_closure.Statement.{statement}
 use Rattle.closure_route.proofs.takahashi_selected_inverse_on_closure.Tie as tie
 
 abbrev Inv-loop : tie.InvT-loop
 Inv-loop n starts rows values entry-starts entry-rows entry-values₀ scratch j₀ entry-values j =
-    (length entry-values ≡ length entry-values₀) × (j ≤ n) × Solved n (columnMarking n scratch) (floatTable n starts rows values) j entry-values₀ entry-values
+    (length entry-values ≡ length entry-values₀) × (j ≤ n) × ColumnsSolved n (columnMarking n scratch) (floatTable n starts rows values) j entry-values₀ entry-values
 
 abbrev μ-loop : tie.MeasureT-loop
 μ-loop n starts rows values entry-starts entry-rows entry-values₀ scratch j₀ entry-values j = j
@@ -41,18 +41,8 @@ takahashi-column-requires c κs =
     let t = c .before in
     let q = t .before in
     let l = q .loop in
-    let s = start q in
-    let a = s .args in
-    let e : l .j ≡ l .j - 1 + 1 = omega (arith, t .loop-test .taken) in (
-      record {
-        route =
-            subst (ClosureRoute (a .n) (now (a .starts)) (now (a .rows)) (now (a .values)) (now (a .entry-starts)) (now (a .entry-rows)) (now (a .scratch)))
-            (sym (l .inv .0)) (s .pre .0);
-        inside = omega (arith, l .inv .1, t .loop-test .taken);
-        later = subst (λ (m : ℕ). SolvedFrom (a .n) (set-of s) (table-of s) m (l .entry-values)) e (l .inv .2 .entries);
-      },
-      s .pre .1,
-    )
+    let P = start q .pre in
+    (column-next (P .0) (l .inv .2) (omega (arith, t .loop-test .taken)) (l .inv .1), P .1)
 
 loop-less : tie.Need-loop-less Inv-loop μ-loop
 loop-less c = search needs
@@ -73,7 +63,7 @@ returns c =
     let s = start q in
     let e : l .j ≡ 0 = omega (arith, c .loop-test .left) in
     solved-all (s .pre .0 .values-fit)
-    (subst (λ (m : ℕ). Solved (s .args .n) (set-of s) (table-of s) m (now (s .args .entry-values)) (l .entry-values)) e (l .inv .2))
+    (subst (λ (m : ℕ). ColumnsSolved (s .args .n) (set-of s) (table-of s) m (now (s .args .entry-values)) (l .entry-values)) e (l .inv .2))
 
 pub takahashi-selected-inverse-on-closure-spec : {M : Type 1} → statement M
 takahashi-selected-inverse-on-closure-spec =

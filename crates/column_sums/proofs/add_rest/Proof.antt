@@ -7,13 +7,20 @@ use denote.Ref.{now}
 use borrow.Author.Needs.{needs}
 use Rattle.columns.specs.Columns.{row}
 use Rattle.columns.specs.Factor.{FirstFrom}
-use Rattle.column_sums.specs.Sums.{inverseAt, Continued}
-use Rattle.column_sums.proofs.UpperLaws.{rested-none, rested-set}
+use Rattle.column_sums.specs.Column.{SumColumn, sumColumn, sumTerms}
+use Rattle.column_sums.specs.Sums.{SumContinued}
+use Rattle.column_sums.proofs.UpperLaws.{rest-none, rest-set}
 use Rattle.column_sums.proofs.add_rest.Statement.{statement}
 use Rattle.column_sums.proofs.add_rest.Tie as tie
 
 abbrev begin : tie.After-at → tie.Start
 begin c = c .before .before .before .before .before .before
+
+-- the column, at the sum
+abbrev column : tie.Start → SumColumn
+column s =
+    let a = s .args in
+    sumColumn (a .n) (a .j) (a .q) (a .q + 1) (a .p) (a .e) (now (a .rows)) (now (a .values)) (now (a .entry-rows)) (now (a .scratch))
 
 -- where the greater rows start
 from : (c : tie.After-first-from) →
@@ -59,14 +66,15 @@ returns c =
     let s = begin (f .before) in
     let a = s .args in
     let z = now (a .inverse) in
-    rested-set (from f) z (c .sum-rest .result) (s .pre .fits)
-    (subst (λ (k : ℕ). Continued (now (a .rows)) (now (a .values)) (a .j) (inverseAt nan (a .n) (now (a .scratch)) z k) (f .first-from .result) (a .e) (getD z (a .q) nan) (c .sum-rest .result))
-    (f .before .at .ensures) (c .sum-rest .ensures))
+    let t = sumTerms (a .n) (a .j) (f .first-from .result) (a .e) (now (a .rows)) (now (a .values)) (now (a .scratch)) in
+    rest-set (column s) (from f) z (c .sum-rest .result) (s .pre .fits)
+    (subst (λ (k : ℕ). SumContinued t z k (getD z (a .q) nan) (c .sum-rest .result)) (f .before .at .ensures) (c .sum-rest .ensures))
 
 returns-2 : tie.Need-returns-2
 returns-2 c =
     let f = c .before in
-    rested-none (from f) (now (begin (f .before) .args .inverse)) (c .if1 .left)
+    let s = begin (f .before) in
+    rest-none (column s) (from f) (now (s .args .inverse)) (c .if1 .left)
 
 pub add-rest-spec : {M : Type 1} → statement M
 add-rest-spec =

@@ -4,8 +4,9 @@ use mathlib.Core.Path.{_≡_, refl, subst, _∙_}
 use lib.ListN.{length}
 use denote.Ref.{now}
 use borrow.Author.Needs.{needs}
+use Rattle.column_sums.specs.Column.{SumColumn, sumColumn}
 use Rattle.column_sums.specs.Upper.{RestsAdded}
-use Rattle.column_sums.proofs.UpperLaws.{Reached, rest-entry, rests-none, reached-more, rests-more}
+use Rattle.column_sums.proofs.UpperLaws.{RowsReached, rest-input, rests-none, reached-more, rests-more}
 use Rattle.column_sums.proofs.add_rests.Statement.{statement}
 use Rattle.column_sums.proofs.add_rests.Tie as tie
 
@@ -16,14 +17,20 @@ Inv-loop n j first last s e zeros rows values entry-rows scratch inverse₀ p₀
     × (q ≤ last)
     × (s ≤ p)
     × (p ≤ e)
-    × Reached s p q last rows entry-rows
-    × RestsAdded n j first q s e rows values entry-rows scratch inverse₀ inverse
+    × RowsReached (sumColumn n j first last s e rows values entry-rows scratch) p q
+    × RestsAdded (sumColumn n j first last s e rows values entry-rows scratch) q inverse₀ inverse
 
 abbrev μ-loop : tie.MeasureT-loop
 μ-loop n j first last s e zeros rows values entry-rows scratch inverse₀ p₀ q₀ inverse p q = last - q
 
 abbrev begin : tie.At-loop Inv-loop μ-loop → tie.Start Inv-loop μ-loop
 begin c = c .before .before .before .before .before .before
+
+-- the column
+abbrev column : tie.Start Inv-loop μ-loop → SumColumn
+column s =
+    let a = s .args in
+    sumColumn (a .n) (a .j) (a .first) (a .last) (a .s) (a .e) (now (a .rows)) (now (a .values)) (now (a .entry-rows)) (now (a .scratch))
 
 loop-holds : tie.Need-loop-holds Inv-loop μ-loop
 loop-holds c =
@@ -35,7 +42,7 @@ add-rest-requires : tie.Need-add-rest-requires Inv-loop μ-loop
 add-rest-requires c κs =
     let t = c .before in
     let l = t .before .loop in
-    rw (l .inv .0) (rest-entry (begin (t .before) .pre) (l .p) (l .q) (l .inv .3) (l .inv .4) (l .inv .1) (t .loop-test .taken))
+    rw (l .inv .0) (rest-input (begin (t .before) .pre) (l .p) (l .q) (l .inv .3) (l .inv .4) (l .inv .1) (t .loop-test .taken))
 
 add-q : tie.Need-add-q Inv-loop μ-loop
 add-q c = search needs
@@ -66,10 +73,9 @@ same-length c = c .before .loop .inv .0
 returns : tie.Need-returns Inv-loop μ-loop
 returns c =
     let l = c .before .loop in
-    let a = begin (c .before) .args in
-    let e : l .q ≡ a .last = omega (arith, c .loop-test .left, l .inv .2) in
-    subst (λ (k : ℕ). RestsAdded (a .n) (a .j) (a .first) k (a .s) (a .e) (now (a .rows)) (now (a .values)) (now (a .entry-rows)) (now (a .scratch)) (now (a .inverse)) (l .inverse)) e
-    (l .inv .6)
+    let s = begin (c .before) in
+    let e : l .q ≡ s .args .last = omega (arith, c .loop-test .left, l .inv .2) in
+    subst (λ (k : ℕ). RestsAdded (column s) k (now (s .args .inverse)) (l .inverse)) e (l .inv .6)
 
 pub add-rests-spec : {M : Type 1} → statement M
 add-rests-spec =

@@ -10,7 +10,7 @@ use Rattle.lists.specs.Test.{and-both}
 use Rattle.columns.specs.Columns.{row}
 use Rattle.columns.specs.Kept.{nonzero, nonzero-not, keptBelow}
 use Rattle.columns.specs.Factor.{FirstFrom}
-use Rattle.column_sums.proofs.LowerLaws.{step-above, step-zero, step-none, step-added, step-room}
+use Rattle.column_sums.proofs.LowerLaws.{product-above, product-zero, product-none, product-added, product-input}
 use Rattle.column_sums.proofs.add_stored.Statement.{statement}
 use Rattle.column_sums.proofs.add_stored.Tie as tie
 
@@ -46,7 +46,7 @@ at-requires c κs = search needs
 returns : tie.Need-returns
 returns c =
     let s = begin (c .before) in
-    step-above (s .pre) (now (s .args .inverse)) (omega (arith, c .before .at .ensures, c .if1 .taken))
+    product-above (s .pre) (now (s .args .inverse)) (omega (arith, c .before .at .ensures, c .if1 .taken))
 
 first-from-requires : tie.Need-first-from-requires
 first-from-requires c κs = search needs
@@ -61,14 +61,14 @@ returns-2 : tie.Need-returns-2
 returns-2 c =
     let f = c .before .before in
     let s = begin (f .before .before) in
-    step-zero (s .pre) (from f) (now (s .args .inverse)) (under (f .before)) (nonzero-not (now (s .args .values)) (s .args .p) (c .if2 .taken))
+    product-zero (s .pre) (from f) (now (s .args .inverse)) (under (f .before)) (nonzero-not (now (s .args .values)) (s .args .p) (c .if2 .taken))
 
 add-column-requires : tie.Need-add-column-requires
 add-column-requires c κs =
     let t = c .before in
     let f = t .before .before .before in
     let s = begin (f .before .before) in
-    rw (f .before .before .at .ensures) (step-room (s .pre) (from f) (t .if3 .taken) (kept (t .before)))
+    rw (f .before .before .at .ensures) (product-input (s .pre) (from f) (t .if3 .taken) (kept (t .before)))
 
 same-length : tie.Need-same-length
 same-length c = search needs
@@ -79,13 +79,13 @@ returns-3 c =
     let t = d .before .before in
     let f = t .before .before .before in
     let s = begin (f .before .before) in
-    step-added (s .pre) (from f) (kept (t .before)) (rw (f .before .before .at .ensures) at (d .add-column .ensures))
+    product-added (s .pre) (from f) (kept (t .before)) (rw (f .before .before .at .ensures) at (d .add-column .ensures))
 
 returns-4 : tie.Need-returns-4
 returns-4 c =
     let f = c .before .before .before in
     let s = begin (f .before .before) in
-    step-none (s .pre) (from f) (now (s .args .inverse)) (c .if3 .left)
+    product-none (s .pre) (from f) (now (s .args .inverse)) (c .if3 .left)
 
 pub add-stored-spec : {M : Type 1} → statement M
 add-stored-spec =

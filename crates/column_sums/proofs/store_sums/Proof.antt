@@ -6,8 +6,9 @@ use Rattle.columns.specs.Columns.{outsideAt}
 use lib.ListN.{length}
 use denote.Ref.{now}
 use borrow.Author.Needs.{needs}
-use Rattle.column_sums.specs.Stored.{Sums}
-use Rattle.column_sums.proofs.StoredLaws.{from-sums, from-stored, none-stored}
+use Rattle.column_sums.specs.Column.{SumColumn, sumColumn}
+use Rattle.column_sums.specs.Stored.{SumsInput}
+use Rattle.column_sums.proofs.StoredLaws.{columnFrom, from-sums, from-stored, none-stored}
 use Rattle.column_sums.proofs.UpperLaws.{rests-idle, sums-stored}
 use Rattle.column_sums.proofs.store_sums.Statement.{statement}
 use Rattle.column_sums.proofs.store_sums.Tie as tie
@@ -15,13 +16,15 @@ use Rattle.column_sums.proofs.store_sums.Tie as tie
 abbrev begin : tie.After-first-from → tie.Start
 begin f = f .before .before .before .before .before .before
 
--- the sums from the first row below the diagonal on
-sums : (t : tie.Then1) →
-    let f = t .before in
+-- the column
+abbrev column : tie.After-first-from → SumColumn
+column f =
     let a = begin f .args in
-    Sums (a .n) (a .j) (f .first-from .result) (a .last) (a .s) (a .e) (now (a .rows)) (now (a .values)) (now (a .entry-rows)) (now (a .scratch))
-    (length (now (a .inverse)))
-sums t = let f = t .before in from-sums (f .first-from .ensures) (begin f .pre) (t .if1 .taken)
+    sumColumn (a .n) (a .j) (a .first) (a .last) (a .s) (a .e) (now (a .rows)) (now (a .values)) (now (a .entry-rows)) (now (a .scratch))
+
+-- the sums from the first row below the diagonal on
+sums : (t : tie.Then1) → let f = t .before in SumsInput (columnFrom (column f) (f .first-from .result)) (length (now (begin f .args .inverse)))
+sums t = let f = t .before in from-sums (column f) (f .first-from .ensures) (begin f .pre) (t .if1 .taken)
 
 add-first-from : tie.Need-add-first-from
 add-first-from c = let P = c .before .before .before .before .before .pre in omega (arith, P .inside, P .small)
@@ -67,7 +70,7 @@ add-rests-requires c κs =
     let h = c .before in
     let p = lowered (h .before .before) in
     let d = cleared p in
-    record { sums = rw (p .add-products .ensures .long ∙ d .clear-part .ensures .long) (sums (d .before .before)); zero-is = h .has-zero .ensures }
+    record { sums = rw (p .add-products .ensures .long ∙ d .clear-part .ensures .long) (sums (d .before .before)); zeros-are = h .has-zero .ensures }
 
 same-length : tie.Need-same-length
 same-length c =
@@ -81,7 +84,7 @@ returns c =
     let p = lowered (r .before .before .before .before) in
     let d = cleared p in
     let t = d .before .before in
-    from-stored (t .before .first-from .ensures) (sums-stored (sums t) (d .clear-part .ensures) (p .add-products .ensures) (r .add-rests .ensures))
+    from-stored (column (t .before)) (t .before .first-from .ensures) (sums-stored (sums t) (d .clear-part .ensures) (p .add-products .ensures) (r .add-rests .ensures))
 
 same-length-2 : tie.Need-same-length-2
 same-length-2 c = let p = lowered (c .before) in p .add-products .ensures .long ∙ cleared p .clear-part .ensures .long
@@ -93,12 +96,12 @@ returns-2 c =
     let d = cleared p in
     let t = d .before .before in
     let a = begin (t .before) .args in
-    from-stored (t .before .first-from .ensures)
+    from-stored (column (t .before)) (t .before .first-from .ensures)
     (sums-stored (sums t) (d .clear-part .ensures) (p .add-products .ensures)
     (rests-idle (sums t) _ (ap (λ (i : ℕ). anyIn (outsideAt (i + 1) (now (a .rows))) (a .s) (a .e)) (sym (g .before .at .ensures)) ∙ sym (g .has-greater .ensures) ∙ c .if2 .left)))
 
 returns-3 : tie.Need-returns-3
-returns-3 c = let f = c .before in none-stored (f .first-from .ensures) (now (begin f .args .inverse)) (c .if1 .left)
+returns-3 c = let f = c .before in none-stored (column f) (f .first-from .ensures) (now (begin f .args .inverse)) (c .if1 .left)
 
 pub store-sums-spec : {M : Type 1} → statement M
 store-sums-spec =

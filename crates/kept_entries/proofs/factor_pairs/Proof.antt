@@ -1,7 +1,7 @@
 use mathlib.Core.Path.{sym, _∙_}
 use borrow.Author.Needs.{needs}
 use Rattle.columns.specs.Kept.{nonzero}
-use Rattle.kept_entries.specs.Above.{factorPairs-whole}
+use Rattle.kept_entries.specs.Above.{factorPairs-all}
 use Rattle.kept_entries.proofs.factor_pairs.Statement.{statement}
 use Rattle.kept_entries.proofs.factor_pairs.Tie as tie
 
@@ -25,7 +25,7 @@ returns-2 c =
     let a = c .before .before .before in
     let s = a .before .before .before .before in
     let none = sym (a .has-above .ensures) ∙ c .before .before .if1 .left in
-    c .nonzero-between .ensures ∙ rw (c .before .at .ensures) (sym (factorPairs-whole (s .pre .starts-rise) none (nonzero (s .args .values .now))))
+    c .nonzero-between .ensures ∙ rw (c .before .at .ensures) (sym (factorPairs-all (s .pre .starts-rise) none (nonzero (s .args .values .now))))
 
 pub factor-pairs-spec : {M : Type 1} → statement M
 factor-pairs-spec =

@@ -9,6 +9,7 @@ use borrow.Author.Tests.{eq-eqb, ne-eqb}
 use Rattle.columns.specs.Columns.{row}
 use Rattle.exact.specs.Exact.{float-on}
 use Rattle.column_sums.specs.Part.{putIf}
+use Rattle.column_sums.specs.Column.{sumTerms}
 use Rattle.column_sums.specs.Sums.{entrySum}
 use Rattle.closure_route.proofs.finish.store_diagonal.Statement.{statement}
 use Rattle.closure_route.proofs.finish.store_diagonal.Tie as tie
@@ -24,7 +25,7 @@ own c = omega (arith, c .before .at .ensures, c .if1 .left)
 abbrev entry-of : tie.Start → Float
 entry-of s =
     let a = s .args in
-    float-on (a .d) (entrySum (a .n) (a .j) (a .s) (a .e) (now (a .rows)) (now (a .values)) (now (a .scratch)) (now (a .inverse)) (a .j))
+    float-on (a .d) (entrySum (sumTerms (a .n) (a .j) (a .s) (a .e) (now (a .rows)) (now (a .values)) (now (a .scratch))) (now (a .inverse)) (a .j))
 
 at-requires : tie.Need-at-requires
 at-requires c κs = search needs
@@ -37,7 +38,7 @@ returns c =
     (sym (ne-eqb (row (now (a .entry-rows)) (a .q)) (a .j) (λ e. c .if1 .taken (c .before .at .ensures ∙ e))))
 
 entry-sum-requires : tie.Need-entry-sum-requires
-entry-sum-requires c κs = let t = c .before in start (t .before) .pre .sums (own t)
+entry-sum-requires c κs = let t = c .before in start (t .before) .pre .sum (own t)
 
 entry-on-diagonal-requires : tie.Need-entry-on-diagonal-requires
 entry-on-diagonal-requires c κs = search needs

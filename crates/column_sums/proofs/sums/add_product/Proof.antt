@@ -10,7 +10,7 @@ use Rattle.columns.specs.Columns.{row, value}
 use Rattle.columns.specs.Kept.{nonzero, keptBelow}
 use Rattle.pair_places.specs.Position.{PairEntryInput}
 use Rattle.column_sums.specs.Sums.{inverseAt}
-use Rattle.column_sums.proofs.SumLaws.{adding-read, withProduct-above, withProduct-zero, withProduct-kept, kept-below}
+use Rattle.column_sums.proofs.SumLaws.{product-read, withProduct-above, withProduct-zero, withProduct-kept, kept-below}
 use Rattle.column_sums.proofs.sums.add_product.Statement.{statement}
 use Rattle.column_sums.proofs.sums.add_product.Tie as tie
 
@@ -57,7 +57,7 @@ reads c =
     let t = c .before .before .before in
     let s = start t in
     subst (λ (k : ℕ). PairEntryInput (s .args .n) (s .args .i) k (now (s .args .scratch)) (length (now (s .args .inverse)))) (sym (t .at .ensures))
-    (adding-read (s .pre .1) (kept c))
+    (product-read (s .pre .1) (kept c))
 
 pair-position-requires : tie.Need-pair-position-requires
 pair-position-requires c κs =

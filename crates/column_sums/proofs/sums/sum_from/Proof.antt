@@ -5,14 +5,15 @@ use lib.Ieee.{Float, nan}
 use denote.Ref.{now}
 use borrow.Author.Needs.{needs}
 use Rattle.pair_places.specs.Position.{shift-fits}
-use Rattle.column_sums.specs.Sums.{inverseAt, Continued, withProduct, sumBetween-next}
-use Rattle.column_sums.proofs.SumLaws.{summing-entry}
+use Rattle.column_sums.specs.Column.{sumTerms}
+use Rattle.column_sums.specs.Sums.{inverseAt, SumContinued, withProduct, sumBetween-next}
+use Rattle.column_sums.proofs.SumLaws.{term-input}
 use Rattle.column_sums.proofs.sums.sum_from.Statement.{statement}
 use Rattle.column_sums.proofs.sums.sum_from.Tie as tie
 
 abbrev Inv-loop : tie.InvT-loop
 Inv-loop n i j first e start rows values scratch inverse positions base sum₀ p₀ sum p =
-    (first ≤ p) × (p ≤ e) × Continued rows values j (inverseAt nan n scratch inverse i) first p start sum
+    (first ≤ p) × (p ≤ e) × SumContinued (sumTerms n j first p rows values scratch) inverse i start sum
 
 abbrev μ-loop : tie.MeasureT-loop
 μ-loop n i j first e start rows values scratch inverse positions base sum₀ p₀ sum p = e - p
@@ -43,7 +44,7 @@ add-product-requires c κs =
     let l = q .loop in
     let d = q .before in
     let u = d .before .queue-start .ensures .0 in
-    ((u, omega (arith, u, d .column-shift .ensures)), summing-entry (begin q .pre) (l .p) (l .inv .0) (c .loop-test .taken))
+    ((u, omega (arith, u, d .column-shift .ensures)), term-input (begin q .pre) (l .p) (l .inv .0) (c .loop-test .taken))
 
 add-p : tie.Need-add-p Inv-loop μ-loop
 add-p c = search needs
@@ -69,7 +70,7 @@ returns c =
     let l = c .before .loop in
     let a = begin (c .before) .args in
     let e : l .p ≡ a .e = omega (arith, c .loop-test .left, l .inv .1) in
-    subst (λ (k : ℕ). Continued (now (a .rows)) (now (a .values)) (a .j) (inverseAt nan (a .n) (now (a .scratch)) (now (a .inverse)) (a .i)) (a .first) k (a .start) (l .sum)) e
+    subst (λ (k : ℕ). SumContinued (sumTerms (a .n) (a .j) (a .first) k (now (a .rows)) (now (a .values)) (now (a .scratch))) (now (a .inverse)) (a .i) (a .start) (l .sum)) e
     (l .inv .2)
 
 pub sum-from-spec : {M : Type 1} → statement M

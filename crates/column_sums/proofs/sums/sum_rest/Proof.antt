@@ -4,10 +4,9 @@ use mathlib.Core.Path.{_≡_, ap, _∙_}
 use mathlib.Core.Bool.{false}
 use lib.ListN.{length, getD}
 use denote.Ref.{now}
-use borrow.Author.Needs.{needs}
 use borrow.Author.Tests.{not-true}
 use Rattle.column_sums.specs.Run.{rowPositions}
-use Rattle.column_sums.proofs.RestLaws.{rows-room, rows-summed, rest-rises, run-room, run-summed}
+use Rattle.column_sums.proofs.RestLaws.{rows-input, rows-summed, rest-rises, run-input, run-summed}
 use Rattle.column_sums.proofs.sums.sum_rest.Statement.{statement}
 use Rattle.column_sums.proofs.sums.sum_rest.Tie as tie
 
@@ -37,13 +36,13 @@ first-is c =
     c .at2 .ensures ∙ ap (λ (k : ℕ). getD (now (begin d .args .scratch)) (d .column-base .result + k) 0) (c .before .at .ensures)
 
 column-base-requires : tie.Need-column-base-requires
-column-base-requires c κs = let S = c .before .before .before .before .before .pre .summing in (S .small, S .left)
+column-base-requires c κs = let S = c .before .before .before .before .before .pre .sum in (S .small, S .left)
 
 is-run-requires : tie.Need-is-run-requires
 is-run-requires c κs = rest-rises (begin c .pre) (none c) _ (c .column-base .ensures)
 
 at-requires : tie.Need-at-requires
-at-requires c κs = let s = begin (based c) in omega (arith, s .pre .some, s .pre .summing .column .stored)
+at-requires c κs = let s = begin (based c) in omega (arith, s .pre .some, s .pre .sum .column .stored)
 
 add-at : tie.Need-add-at
 add-at c = omega (arith, first-inside c)
@@ -55,7 +54,7 @@ sum-run-requires : tie.Need-sum-run-requires
 sum-run-requires c κs =
     let t = c .before .before in
     let d = based t in
-    run-room (begin d .pre) (none d) _ (d .column-base .ensures) (t .before .is-run .ensures (t .if2 .taken)) _ (first-is c)
+    run-input (begin d .pre) (none d) _ (d .column-base .ensures) (t .before .is-run .ensures (t .if2 .taken)) _ (first-is c)
 
 returns : tie.Need-returns
 returns c =
@@ -67,7 +66,7 @@ returns c =
     (now (s .args .inverse)) (s .args .start) (c .sum-run .result) (c .sum-run .ensures)
 
 sum-rows-requires : tie.Need-sum-rows-requires
-sum-rows-requires c κs = let d = c .before .before in rows-room (begin d .pre) (none d) _ (d .column-base .ensures)
+sum-rows-requires c κs = let d = c .before .before in rows-input (begin d .pre) (none d) _ (d .column-base .ensures)
 
 returns-2 : tie.Need-returns-2
 returns-2 c =
@@ -76,7 +75,7 @@ returns-2 c =
     rows-summed (s .pre) (none d) _ (d .column-base .ensures) (now (s .args .inverse)) (s .args .start) (c .sum-rows .result) (c .sum-rows .ensures)
 
 sum-from-requires : tie.Need-sum-from-requires
-sum-from-requires c κs = c .before .before .before .before .before .pre .summing
+sum-from-requires c κs = c .before .before .before .before .before .pre .sum
 
 returns-3 : tie.Need-returns-3
 returns-3 c = c .sum-from .ensures

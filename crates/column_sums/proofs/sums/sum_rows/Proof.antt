@@ -1,6 +1,6 @@
 use Rattle.columns.specs.Columns.{value}
 use Rattle.column_sums.specs.Run.{rowPositions}
-use Rattle.column_sums.specs.Rest.{Summed}
+use Rattle.column_sums.specs.Rest.{ProductsSummed}
 use borrow.Author.Needs.{needs}
 use native.Mathlib.Omega.{arith}
 use Prim.Native.Nat.{ℕ, _+_, _≤_, _<_, _-_}
@@ -13,7 +13,7 @@ use Rattle.column_sums.proofs.sums.sum_rows.Tie as tie
 
 abbrev Inv-loop : tie.InvT-loop
 Inv-loop base first e start rows values scratch inverse sum₀ p₀ sum p =
-    (first ≤ p) × (p ≤ e) × Summed values inverse first p (rowPositions base rows scratch) start sum
+    (first ≤ p) × (p ≤ e) × ProductsSummed values inverse first p (rowPositions base rows scratch) start sum
 
 abbrev μ-loop : tie.MeasureT-loop
 μ-loop base first e start rows values scratch inverse sum₀ p₀ sum p = e - p
@@ -85,7 +85,7 @@ returns c =
     let l = c .before .loop in
     let a = begin (c .before) .args in
     let e : l .p ≡ a .e = omega (arith, c .loop-test .left, l .inv .1) in
-    subst (λ (k : ℕ). Summed (now (a .values)) (now (a .inverse)) (a .first) k (rowPositions (a .base) (now (a .rows)) (now (a .scratch))) (a .start) (l .sum)) e (l .inv .2)
+    subst (λ (k : ℕ). ProductsSummed (now (a .values)) (now (a .inverse)) (a .first) k (rowPositions (a .base) (now (a .rows)) (now (a .scratch))) (a .start) (l .sum)) e (l .inv .2)
 
 pub sum-rows-spec : {M : Type 1} → statement M
 sum-rows-spec =

@@ -1,5 +1,5 @@
 use Rattle.columns.specs.Columns.{value}
-use Rattle.column_sums.specs.Rest.{Summed, runPositions}
+use Rattle.column_sums.specs.Rest.{ProductsSummed, runPositions}
 use borrow.Author.Needs.{needs}
 use native.Mathlib.Omega.{arith}
 use Prim.Native.Nat.{ℕ, _+_, _≤_, _-_}
@@ -12,7 +12,7 @@ use Rattle.column_sums.proofs.sums.sum_run.Tie as tie
 
 abbrev Inv-loop : tie.InvT-loop
 Inv-loop first e position start values inverse sum₀ p₀ r₀ sum p r =
-    (first ≤ p) × (p ≤ e) × (r ≡ position + (p - first)) × Summed values inverse first p (runPositions first position) start sum
+    (first ≤ p) × (p ≤ e) × (r ≡ position + (p - first)) × ProductsSummed values inverse first p (runPositions first position) start sum
 
 abbrev μ-loop : tie.MeasureT-loop
 μ-loop first e position start values inverse sum₀ p₀ r₀ sum p r = e - p
@@ -60,7 +60,7 @@ returns c =
     let l = c .before .loop in
     let a = c .before .before .args in
     let e : l .p ≡ a .e = omega (arith, c .loop-test .left, l .inv .1) in
-    subst (λ (k : ℕ). Summed (now (a .values)) (now (a .inverse)) (a .first) k (runPositions (a .first) (a .position)) (a .start) (l .sum)) e (l .inv .3)
+    subst (λ (k : ℕ). ProductsSummed (now (a .values)) (now (a .inverse)) (a .first) k (runPositions (a .first) (a .position)) (a .start) (l .sum)) e (l .inv .3)
 
 pub sum-run-spec : {M : Type 1} → statement M
 sum-run-spec =

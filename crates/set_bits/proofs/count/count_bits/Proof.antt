@@ -5,15 +5,15 @@ use Rattle.set_bits.proofs.CountLaws.{count-most, count-past, count-is}
 use Rattle.set_bits.proofs.count.count_bits.Statement.{statement}
 use Rattle.set_bits.proofs.count.count_bits.Tie as tie
 
-add-whole-ones : tie.Need-add-whole-ones
-add-whole-ones c = search needs
+add-ones-between : tie.Need-add-ones-between
+add-ones-between c = search needs
 
-add-whole-ones-2 : tie.Need-add-whole-ones-2
-add-whole-ones-2 c = search needs
+add-ones-between-2 : tie.Need-add-ones-between-2
+add-ones-between-2 c = search needs
 
-whole-ones-requires : tie.Need-whole-ones-requires
+ones-between-requires : tie.Need-ones-between-requires
 unfolding bitWords
-whole-ones-requires c κs = let h = c .before .pre in (omega (arith, h .0), omega (arith, h .2), omega (arith, h .1))
+ones-between-requires c κs = let h = c .before .pre in (omega (arith, h .0), omega (arith, h .2), omega (arith, h .1))
 
 rest-ones-requires : tie.Need-rest-ones-requires
 unfolding bitWords
@@ -25,7 +25,7 @@ add-result c =
     let s = w .before .before in
     let a = s .args in
     record {
-      fits = omega (arith, s .pre .1, count-most (a .words .now) (a .place) (a .end) (s .pre .0) (c .rest-ones .ensures) (w .whole-ones .ensures));
+      fits = omega (arith, s .pre .1, count-most (a .words .now) (a .place) (a .end) (s .pre .0) (c .rest-ones .ensures) (w .ones-between .ensures));
     }
 
 rest-ones-requires-2 : tie.Need-rest-ones-requires-2
@@ -37,7 +37,7 @@ sub-result c =
     let w = r .before in
     let s = w .before .before in
     let a = s .args in
-    count-past (a .words .now) (a .place) (a .end) (s .pre .0) (r .rest-ones .ensures) (w .whole-ones .ensures) (c .rest-ones2 .ensures)
+    count-past (a .words .now) (a .place) (a .end) (s .pre .0) (r .rest-ones .ensures) (w .ones-between .ensures) (c .rest-ones2 .ensures)
 
 returns : tie.Need-returns
 returns c =
@@ -45,15 +45,15 @@ returns c =
     let w = r .before in
     let s = w .before .before in
     let a = s .args in
-    count-is (a .words .now) (a .place) (a .end) (s .pre .0) (r .rest-ones .ensures) (w .whole-ones .ensures) (c .rest-ones2 .ensures)
+    count-is (a .words .now) (a .place) (a .end) (s .pre .0) (r .rest-ones .ensures) (w .ones-between .ensures) (c .rest-ones2 .ensures)
 
 pub count-bits-spec : {M : Type 1} → statement M
 count-bits-spec =
     tie.close
     (tie.spec
-    add-whole-ones
-    add-whole-ones-2
-    whole-ones-requires
+    add-ones-between
+    add-ones-between-2
+    ones-between-requires
     rest-ones-requires
     add-result
     rest-ones-requires-2

@@ -5,8 +5,8 @@ use borrow.Author.Needs.{needs}
 use Rattle.lists.specs.Select.{tally, tally-none}
 use Rattle.bits.specs.Bits.{bitAt}
 use Rattle.set_bits.proofs.CountLaws.{ones-more}
-use Rattle.set_bits.proofs.count.whole_ones.Statement.{statement}
-use Rattle.set_bits.proofs.count.whole_ones.Tie as tie
+use Rattle.set_bits.proofs.count.ones_between.Statement.{statement}
+use Rattle.set_bits.proofs.count.ones_between.Tie as tie
 
 abbrev Inv-loop : tie.InvT-loop
 Inv-loop words first end count₀ w₀ count w = (first ≤ w) × (w ≤ end) × (count ≤ 32 * w) × (count ≡ tally (bitAt words) (first * 32) (w * 32))
@@ -56,8 +56,8 @@ returns c =
     let e : l .w ≡ a .end = omega (arith, l .inv .1) in
     rw e at (l .inv .3)
 
-pub whole-ones-spec : {M : Type 1} → statement M
-whole-ones-spec =
+pub ones-between-spec : {M : Type 1} → statement M
+ones-between-spec =
     tie.close
     (tie.spec
     Inv-loop

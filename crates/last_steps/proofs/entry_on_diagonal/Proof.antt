@@ -1,8 +1,8 @@
 use mathlib.Core.Path.{_≡_, refl, ap}
 use lib.Ieee.{Float, binary64, sub, div, mul, ofBits}
 use Rattle.exact.specs.Multiple.{one-float}
-use Rattle.entry_steps.proofs.entry_on_diagonal.Statement.{statement}
-use Rattle.entry_steps.proofs.entry_on_diagonal.Tie as tie
+use Rattle.last_steps.proofs.entry_on_diagonal.Statement.{statement}
+use Rattle.last_steps.proofs.entry_on_diagonal.Tie as tie
 
 -- the literal 1.0
 one-is : ofBits binary64 0x3ff0_0000_0000_0000 ≡ one-float
