@@ -3,13 +3,7 @@ pub mod floored;
 pub mod positive_mean;
 pub mod variance_floor;
 
-ghost use mathlib.Core.Path.{_≡_};
-ghost use lib.ListN.{length};
-ghost use Rattle.lists.specs.Overwrite.{overwrite};
-ghost use Rattle.refusal.specs.Steps.{first, after};
-ghost use Rattle.floor.specs.Floored.{floored};
-ghost use Rattle.floor.specs.VarianceFloor.{floorSteps, floorOf};
-ghost use Rattle.floor.specs.Floor.{stabilizedOf, stabilizedReply};
+ghost use Rattle.floor.specs.Floor.{stabilizedReply, VariancesStabilized};
 use floored::apply_floor;
 use refusal::Checked;
 use refusal::Refusal;
@@ -31,9 +25,7 @@ pub enum Stabilized {
 
 // Writes the values, raised to the floor, to the front of the output.
 pub fn stabilize_variances(values: &[f64], floor: VarianceFloor, output: &mut [f64]) -> Stabilized
-    ensures { λ r. ⌜ stabilizedReply r ≡ first (floorSteps floor (now (values .entry)) (length (now (output .entry)))) (stabilizedOf floor (now (values .entry))) ⌝ }
-    ensures { λ _. ⌜ now (output .exit) ≡ after (floorSteps floor (now (values .entry)) (length (now (output .entry))))
-        (overwrite (floored (floorOf floor (now (values .entry))) (now (values .entry))) (now (output .entry))) (now (output .entry)) ⌝ }
+    ensures { λ r. ⌜ VariancesStabilized floor (now (values .entry)) (now (output .entry)) (stabilizedReply r) (now (output .exit)) ⌝ }
 {
     match check_floor(values, floor, output.len()) {
         Checked::Refused(why) => Stabilized::Refused(why),

@@ -1,2 +1,3 @@
 -- The lookup and the diagonal list.
 pub mod Reply
+pub mod DiagonalList

@@ -5,11 +5,10 @@ pub mod well_formed;
 
 ghost use mathlib.Core.Path.{_≡_};
 ghost use lib.ListN.{length};
-ghost use Rattle.lists.specs.Overwrite.{overwrite};
-ghost use Rattle.refusal.specs.Steps.{verdict, after};
 ghost use Rattle.refusal.specs.Refusal.{replyOf};
 ghost use Rattle.result.specs.Counted.{lookupLooks};
-ghost use Rattle.result.specs.Lookup.{lookup, diagSteps, diagonals, coverage};
+ghost use Rattle.result.specs.Lookup.{lookup};
+ghost use Rattle.lookup.specs.DiagonalList.{DiagonalsListed};
 ghost use Rattle.lookup.specs.Reply.{entryReply};
 use column_search::result_check::check_result;
 use diagonal_list::write_diagonals;
@@ -51,11 +50,8 @@ pub fn diag(
     output: &mut [f64],
     marks: &mut [u8],
 ) -> Checked
-    ensures { λ r. ⌜ replyOf r ≡ verdict (diagSteps (now (starts .entry)) (now (rows .entry)) (length (now (values .entry))) (length (now (output .entry))) (length (now (marks .entry)))) ⌝ }
-    ensures { λ _. ⌜ now (output .exit) ≡ after (diagSteps (now (starts .entry)) (now (rows .entry)) (length (now (values .entry))) (length (now (output .entry))) (length (now (marks .entry))))
-        (overwrite (diagonals (now (starts .entry)) (now (rows .entry)) (now (values .entry))) (now (output .entry))) (now (output .entry)) ⌝ }
-    ensures { λ _. ⌜ now (marks .exit) ≡ after (diagSteps (now (starts .entry)) (now (rows .entry)) (length (now (values .entry))) (length (now (output .entry))) (length (now (marks .entry))))
-        (overwrite (coverage (now (starts .entry)) (now (rows .entry)) (now (values .entry))) (now (marks .entry))) (now (marks .entry)) ⌝ }
+    ensures { λ r. ⌜ DiagonalsListed (now (starts .entry)) (now (rows .entry)) (now (values .entry)) (now (output .entry)) (now (marks .entry))
+        (replyOf r) (now (output .exit)) (now (marks .exit)) ⌝ }
 {
     match check_result(starts, rows, values.len()) {
         Checked::Refused(why) => Checked::Refused(why),

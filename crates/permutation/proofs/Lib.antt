@@ -1,1 +1,2 @@
 pub mod ElementLaws
+pub mod CallLaws

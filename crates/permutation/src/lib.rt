@@ -6,12 +6,10 @@ pub mod order;
 pub mod reordering;
 
 ghost use mathlib.Core.Path.{_≡_};
-ghost use lib.ListN.{length};
-ghost use lib.Ieee.{nan};
-ghost use Rattle.lists.specs.Overwrite.{overwrite};
-ghost use Rattle.refusal.specs.Steps.{verdict, after};
+ghost use Rattle.refusal.specs.Steps.{verdict};
 ghost use Rattle.refusal.specs.Refusal.{replyOf};
-ghost use Rattle.factor_order.specs.Permutation.{validateSteps, invertSteps, permuteSteps, markedSteps, inverseOf, reordered};
+ghost use Rattle.factor_order.specs.Permutation.{validateSteps};
+ghost use Rattle.permutation.specs.PermutationCalls.{PermutationInverted, ValuesReordered, MarkedValuesReordered};
 use elements::check_elements;
 use inverse::invert;
 use order::check_marked;
@@ -40,9 +38,7 @@ pub fn validate(orig_to_perm: &[u32], perm_to_orig: &[u32]) -> Checked
 
 // Writes the inverse list to the front of perm_to_orig.
 pub fn from_orig_to_perm(orig_to_perm: &[u32], perm_to_orig: &mut [u32]) -> Checked
-    ensures { λ r. ⌜ replyOf r ≡ verdict (invertSteps (now («orig_to_perm» .entry)) (length (now («perm_to_orig» .entry)))) ⌝ }
-    ensures { λ _. ⌜ now («perm_to_orig» .exit) ≡ after (invertSteps (now («orig_to_perm» .entry)) (length (now («perm_to_orig» .entry))))
-        (overwrite (inverseOf (now («orig_to_perm» .entry))) (now («perm_to_orig» .entry))) (now («perm_to_orig» .entry)) ⌝ }
+    ensures { λ r. ⌜ PermutationInverted (now («orig_to_perm» .entry)) (now («perm_to_orig» .entry)) (replyOf r) (now («perm_to_orig» .exit)) ⌝ }
 {
     if MAX_DIMENSION < orig_to_perm.len() {
         return Checked::Refused(Refusal::TooLarge);
@@ -62,9 +58,7 @@ pub fn permute_factor_to_original(
     input: &[f64],
     output: &mut [f64],
 ) -> Checked
-    ensures { λ r. ⌜ replyOf r ≡ verdict (permuteSteps (now («orig_to_perm» .entry)) (now (input .entry)) (length (now (output .entry)))) ⌝ }
-    ensures { λ _. ⌜ now (output .exit) ≡ after (permuteSteps (now («orig_to_perm» .entry)) (now (input .entry)) (length (now (output .entry))))
-        (overwrite (reordered nan (now («orig_to_perm» .entry)) (now (input .entry))) (now (output .entry))) (now (output .entry)) ⌝ }
+    ensures { λ r. ⌜ ValuesReordered (now («orig_to_perm» .entry)) (now (input .entry)) (now (output .entry)) (replyOf r) (now (output .exit)) ⌝ }
 {
     if MAX_DIMENSION < orig_to_perm.len() {
         return Checked::Refused(Refusal::TooLarge);
@@ -92,11 +86,8 @@ pub fn permute_factor_to_original_marked(
     output: &mut [f64],
     output_marks: &mut [u8],
 ) -> Checked
-    ensures { λ r. ⌜ replyOf r ≡ verdict (markedSteps (now («orig_to_perm» .entry)) (length (now (input .entry))) (length (now (marks .entry))) (length (now (output .entry))) (length (now («output_marks» .entry)))) ⌝ }
-    ensures { λ _. ⌜ now (output .exit) ≡ after (markedSteps (now («orig_to_perm» .entry)) (length (now (input .entry))) (length (now (marks .entry))) (length (now (output .entry))) (length (now («output_marks» .entry))))
-        (overwrite (reordered nan (now («orig_to_perm» .entry)) (now (input .entry))) (now (output .entry))) (now (output .entry)) ⌝ }
-    ensures { λ _. ⌜ now («output_marks» .exit) ≡ after (markedSteps (now («orig_to_perm» .entry)) (length (now (input .entry))) (length (now (marks .entry))) (length (now (output .entry))) (length (now («output_marks» .entry))))
-        (overwrite (reordered 0 (now («orig_to_perm» .entry)) (now (marks .entry))) (now («output_marks» .entry))) (now («output_marks» .entry)) ⌝ }
+    ensures { λ r. ⌜ MarkedValuesReordered (now («orig_to_perm» .entry)) (now (input .entry)) (now (marks .entry)) (now (output .entry)) (now («output_marks» .entry))
+        (replyOf r) (now (output .exit)) (now («output_marks» .exit)) ⌝ }
 {
     match check_marked(
         orig_to_perm,

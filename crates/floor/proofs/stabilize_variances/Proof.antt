@@ -48,7 +48,7 @@ returns c =
     let d = c .before .before .before in
     let s = steps (entry d) in
     let e = sym (d .check-floor .ensures) ∙ ap replyOf (c .before .why .given .1) in
-    (sym (first-refused s _ _ e), sym (after-refused s _ _ _ e))
+    record { replies = sym (first-refused s _ _ e); output-after = sym (after-refused s _ _ _ e) }
 
 same-length : tie.Need-same-length
 same-length c = search needs
@@ -59,12 +59,14 @@ returns-2 c =
     let f = v .before .before in
     let a = entry (f .before .before .before) .args in
     let s = steps (entry (f .before .before .before)) in
-    let p = passed (f .before) in (
-      ap answered (stabilized-is (a .floor) (a .values .now) (f .floor-of .ensures) (v .apply-floor .ensures .0)) ∙ sym (first-passed s _ p),
-      v .apply-floor .ensures .1
+    let p = passed (f .before) in
+    record {
+      replies = ap answered (stabilized-is (a .floor) (a .values .now) (f .floor-of .ensures) (v .apply-floor .ensures .0)) ∙ sym (first-passed s _ p);
+      output-after =
+          v .apply-floor .ensures .1
           ∙ ap (λ (x : Float). overwrite (floored x (a .values .now)) (a .output .now)) (f .floor-of .ensures)
-          ∙ sym (after-passed s _ _ p),
-    )
+          ∙ sym (after-passed s _ _ p);
+    }
 
 pub stabilize-variances-spec : {M : Type 1} → statement M
 stabilize-variances-spec =

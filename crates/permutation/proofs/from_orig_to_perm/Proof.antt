@@ -1,20 +1,18 @@
-use native.Mathlib.Omega.{arith}
-use mathlib.Core.Path.{_≡_, sym, ap, _∙_}
-use lib.ListN.{length}
+use mathlib.Core.Path.{sym, ap, _∙_}
 use denote.Ref.{now}
 use borrow.Author.Needs.{needs}
 use borrow.Author.Tests.{lt-ltb, le-ltb}
-use Rattle.refusal.specs.Steps.{first-hit, first-skip, both-refused, both-passed}
+use Rattle.refusal.specs.Steps.{first-hit, first-skip}
 use Rattle.refusal.specs.Refusal.{replyOf}
-use Rattle.factor_order.specs.Permutation.{invertSteps}
 use Rattle.factor_order.specs.Laws.{accept-permutation}
+use Rattle.permutation.proofs.CallLaws.{inverted-refused, inverted-passed}
 use Rattle.permutation.proofs.from_orig_to_perm.Statement.{statement}
 use Rattle.permutation.proofs.from_orig_to_perm.Tie as tie
 
 returns : tie.Need-returns
 returns c =
     let a = c .before .before .before .args in
-    both-refused (invertSteps (now (a .orig-to-perm)) (length (now (a .perm-to-orig)))) _ _ (first-hit 1 _ tt (lt-ltb _ _ (c .if1 .taken)))
+    inverted-refused (now (a .orig-to-perm)) (now (a .perm-to-orig)) (first-hit 1 _ tt (lt-ltb _ _ (c .if1 .taken)))
 
 check-permutation-requires : tie.Need-check-permutation-requires
 check-permutation-requires c κs = search needs
@@ -36,7 +34,7 @@ returns-2 : tie.Need-returns-2
 returns-2 c =
     let d = c .before .before .before in
     let a = d .before .before .before .before .args in
-    both-refused (invertSteps (now (a .orig-to-perm)) (length (now (a .perm-to-orig)))) _ _
+    inverted-refused (now (a .orig-to-perm)) (now (a .perm-to-orig))
     (first-skip 1 _ tt (le-ltb _ _ (d .before .if1 .left)) (sym (d .check-permutation .ensures) ∙ ap replyOf (c .before .r .given .1)))
 
 same-length : tie.Need-same-length
@@ -48,7 +46,7 @@ returns-3 c =
     let t = v .before .before in
     let d = t .before .before in
     let a = d .before .before .before .before .args in
-    both-passed (invertSteps (now (a .orig-to-perm)) (length (now (a .perm-to-orig)))) _
+    inverted-passed (now (a .orig-to-perm)) (now (a .perm-to-orig))
     (first-skip 1 _ tt (le-ltb _ _ (d .before .if1 .left)) (sym (d .check-permutation .ensures) ∙ ap replyOf (t .enum-told .given .1)))
     (v .invert .ensures)
 

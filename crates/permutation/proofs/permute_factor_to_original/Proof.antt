@@ -1,32 +1,30 @@
-use native.Mathlib.Omega.{arith}
-use mathlib.Core.Path.{_≡_, sym, ap, _∙_}
+use mathlib.Core.Path.{sym, ap, _∙_}
 use mathlib.Core.Bool.{not}
-use lib.ListN.{length}
 use denote.Ref.{now}
 use borrow.Author.Needs.{needs}
 use borrow.Author.Tests.{lt-ltb, le-ltb, eq-eqb, ne-eqb}
-use Rattle.refusal.specs.Steps.{first-hit, first-skip, both-refused, both-passed}
+use Rattle.refusal.specs.Steps.{first-hit, first-skip}
 use Rattle.refusal.specs.Refusal.{replyOf}
-use Rattle.factor_order.specs.Permutation.{permuteSteps}
 use Rattle.factor_order.specs.Laws.{accept-permutation}
+use Rattle.permutation.proofs.CallLaws.{reordered-refused, reordered-passed}
 use Rattle.permutation.proofs.permute_factor_to_original.Statement.{statement}
 use Rattle.permutation.proofs.permute_factor_to_original.Tie as tie
 
 returns : tie.Need-returns
 returns c =
     let a = c .before .before .before .before .args in
-    both-refused (permuteSteps (now (a .orig-to-perm)) (now (a .input)) (length (now (a .output)))) _ _ (first-hit 1 _ tt (lt-ltb _ _ (c .if1 .taken)))
+    reordered-refused (now (a .orig-to-perm)) (now (a .input)) (now (a .output)) (first-hit 1 _ tt (lt-ltb _ _ (c .if1 .taken)))
 
 returns-2 : tie.Need-returns-2
 returns-2 c =
     let a = c .before .before .before .before .before .args in
-    both-refused (permuteSteps (now (a .orig-to-perm)) (now (a .input)) (length (now (a .output)))) _ _
+    reordered-refused (now (a .orig-to-perm)) (now (a .input)) (now (a .output))
     (first-skip 1 _ tt (le-ltb _ _ (c .before .if1 .left)) (first-hit 1 _ tt (lt-ltb _ _ (c .if2 .taken))))
 
 returns-3 : tie.Need-returns-3
 returns-3 c =
     let a = c .before .before .before .before .before .before .args in
-    both-refused (permuteSteps (now (a .orig-to-perm)) (now (a .input)) (length (now (a .output)))) _ _
+    reordered-refused (now (a .orig-to-perm)) (now (a .input)) (now (a .output))
     (first-skip 1 _ tt (le-ltb _ _ (c .before .before .if1 .left))
     (first-skip 1 _ tt (le-ltb _ _ (c .before .if2 .left)) (first-hit 4 _ tt (ap not (ne-eqb _ _ (c .if3 .taken))))))
 
@@ -51,7 +49,7 @@ returns-4 c =
     let d = c .before .before .before in
     let e = d .before in
     let a = e .before .before .before .before .before .before .args in
-    both-refused (permuteSteps (now (a .orig-to-perm)) (now (a .input)) (length (now (a .output)))) _ _
+    reordered-refused (now (a .orig-to-perm)) (now (a .input)) (now (a .output))
     (first-skip 1 _ tt (le-ltb _ _ (e .before .before .if1 .left))
     (first-skip 1 _ tt (le-ltb _ _ (e .before .if2 .left))
     (first-skip 4 _ tt (ap not (eq-eqb _ _ (e .if3 .left))) (sym (d .check-permutation .ensures) ∙ ap replyOf (c .before .r .given .1)))))
@@ -66,7 +64,7 @@ returns-5 c =
     let d = t .before .before in
     let e = d .before in
     let a = e .before .before .before .before .before .before .args in
-    both-passed (permuteSteps (now (a .orig-to-perm)) (now (a .input)) (length (now (a .output)))) _
+    reordered-passed (now (a .orig-to-perm)) (now (a .input)) (now (a .output))
     (first-skip 1 _ tt (le-ltb _ _ (e .before .before .if1 .left))
     (first-skip 1 _ tt (le-ltb _ _ (e .before .if2 .left))
     (first-skip 4 _ tt (ap not (eq-eqb _ _ (e .if3 .left))) (sym (d .check-permutation .ensures) ∙ ap replyOf (t .enum-told .given .1)))))

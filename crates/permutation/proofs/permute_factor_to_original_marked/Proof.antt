@@ -4,10 +4,11 @@ use mathlib.Core.Path.{_≡_, sym, ap, _∙_}
 use lib.ListN.{length}
 use denote.Ref.{now}
 use borrow.Author.Needs.{needs}
-use Rattle.refusal.specs.Steps.{Step, Passed, both-refused, both-passed}
+use Rattle.refusal.specs.Steps.{Step, Passed}
 use Rattle.refusal.specs.Refusal.{replyOf}
 use Rattle.factor_order.specs.Permutation.{markedSteps, Permutation}
 use Rattle.factor_order.specs.Laws.{marked-accepted}
+use Rattle.permutation.proofs.CallLaws.{marked-refused, marked-passed}
 use Rattle.permutation.proofs.permute_factor_to_original_marked.Statement.{statement}
 use Rattle.permutation.proofs.permute_factor_to_original_marked.Tie as tie
 
@@ -53,9 +54,9 @@ returns : tie.Need-returns
 returns c =
     let d = c .before .before .before in
     let s = d .before .before .before .before .before .before in
-    let h = sym (d .check-marked .ensures) ∙ ap replyOf (c .before .r .given .1) in
-    let b = both-refused (steps s) _ _ h in
-    (b .0, (b .1, both-refused (steps s) _ _ h .1))
+    let a = s .args in
+    marked-refused (now (a .orig-to-perm)) (now (a .input)) (now (a .marks)) (now (a .output)) (now (a .output-marks))
+    (sym (d .check-marked .ensures) ∙ ap replyOf (c .before .r .given .1))
 
 same-length : tie.Need-same-length
 same-length c = search needs
@@ -68,8 +69,8 @@ returns-2 c =
     let m = c .before .before in
     let v = m .before .before .before .before in
     let t = v .before .before in
-    let b = both-passed (steps (entry t)) _ (passed t) (v .reorder .ensures) in
-    (b .0, (b .1, both-passed (steps (entry t)) _ (passed t) (m .reorder-marks .ensures) .1))
+    let a = entry t .args in
+    marked-passed (now (a .orig-to-perm)) (now (a .input)) (now (a .marks)) (now (a .output)) (now (a .output-marks)) (passed t) (v .reorder .ensures) (m .reorder-marks .ensures)
 
 pub permute-factor-to-original-marked-spec : {M : Type 1} → statement M
 permute-factor-to-original-marked-spec =

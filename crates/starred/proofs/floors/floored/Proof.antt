@@ -14,7 +14,7 @@ use Rattle.starred.proofs.floors.floored.Tie as tie
 
 -- the list that the call leaves
 left : (c : tie.After-stabilize-variances) → (i : ℕ) → getD (c .stabilize-variances .last .1 .1 .0) i nan ≡ getD (whole 4 ∷ whole 2 ∷ whole 2 ∷ []) i nan
-left c i = ap (λ (l : List Float). getD l i nan) (c .stabilize-variances .ensures .1 ∙ floor-written _ _ _)
+left c i = ap (λ (l : List Float). getD l i nan) (c .stabilize-variances .ensures .output-after ∙ floor-written _ _ _)
 
 slice-aggregate-stabilize-variances : tie.Need-slice-aggregate-stabilize-variances
 slice-aggregate-stabilize-variances c = search needs
@@ -32,7 +32,7 @@ expect-requires : tie.Need-expect-requires
 unfolding eq ofInt ofBits
 expect-requires c κs =
     c .stabilized .ensures
-    ∙ ap (λ (r : Reply StabilizedVariance). stabilizedAs r (ofBits binary64 0x4000_0000_0000_0000) 2) (c .before .before .stabilize-variances .ensures .0 ∙ floor-answered)
+    ∙ ap (λ (r : Reply StabilizedVariance). stabilizedAs r (ofBits binary64 0x4000_0000_0000_0000) 2) (c .before .before .stabilize-variances .ensures .replies ∙ floor-answered)
 
 array-read-expect : tie.Need-array-read-expect
 array-read-expect c = search needs

@@ -23,11 +23,11 @@ checked-number-requires c κs = search needs
 
 expect-requires : tie.Need-expect-requires
 expect-requires c κs =
-    eq-eqb _ 11 (c .checked-number .ensures ∙ checkedNumber-reply (c .before .before .from-orig-to-perm .result) ∙ ap replyNumber (c .before .before .from-orig-to-perm .ensures .0 ∙ permutations .repeated-refused))
+    eq-eqb _ 11 (c .checked-number .ensures ∙ checkedNumber-reply (c .before .before .from-orig-to-perm .result) ∙ ap replyNumber (c .before .before .from-orig-to-perm .ensures .replies ∙ permutations .repeated-refused))
 
 -- the list that the call leaves
 left : (c : tie.After-from-orig-to-perm) → (i : ℕ) → getD (c .from-orig-to-perm .last .1 .0) i 0 ≡ getD (7 ∷ 7 ∷ 7 ∷ []) i 0
-left c i = ap (λ (l : List ℕ). getD l i 0) (c .from-orig-to-perm .ensures .1 ∙ permutations .repeated-untouched)
+left c i = ap (λ (l : List ℕ). getD l i 0) (c .from-orig-to-perm .ensures .inverse-after ∙ permutations .repeated-untouched)
 
 array-read-expect : tie.Need-array-read-expect
 array-read-expect c = search needs

@@ -1,0 +1,2 @@
+-- Permutations: what the calls that write reply and leave.
+pub mod PermutationCalls
