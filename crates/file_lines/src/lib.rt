@@ -3,10 +3,9 @@ ghost use mathlib.Core.Path.{_≡_};
 ghost use mathlib.Core.Bool.{true, false};
 ghost use Prim.Native.Nat.{_+_, _-_, _*_, _≤_, _<_};
 ghost use lib.ListN.{length};
-ghost use Rattle.matrix_market.specs.Text.{blank as Text·blank, isDigit};
-ghost use Rattle.file_lines.specs.Scan.{least};
-ghost use Rattle.file_lines.specs.Places.{Skipped, NumberAt, FieldAt, EndAt, PairAt, TripleAt};
-ghost use Rattle.file_lines.specs.Plain.{FewAt, PlainAt};
+ghost use Rattle.matrix_market.specs.Text.{isBlank, isDigit};
+ghost use Rattle.file_lines.specs.Scan.{cut as Scan·cut};
+ghost use Rattle.file_lines.specs.Places.{Skipped, NumberAt, FieldAt, EndAt, FewAt, PairAt, PlainAt, TripleAt};
 
 // A number, cut off at 4294967295, and the place behind its digits.
 pub struct Number {
@@ -52,7 +51,7 @@ fn wide(b: u8) -> usize
 
 // A space or a tab.
 pub fn blank(b: u8) -> bool
-    ensures { λ r. ⌜ r ≡ Text·blank b ⌝ }
+    ensures { λ r. ⌜ r ≡ isBlank b ⌝ }
 {
     if b == 32 {
         return true;
@@ -72,7 +71,7 @@ fn digit(b: u8) -> bool
 // The first place from p on with no blank.
 pub fn skip_blanks(text: &[u8], p: usize) -> usize
     requires { ⌜ p ≤ length (now text) ⌝ }
-    ensures { λ r. ⌜ Skipped Text·blank (now (text .entry)) p r ⌝ }
+    ensures { λ r. ⌜ Skipped isBlank (now (text .entry)) p r ⌝ }
 {
     let mut i = p;
     while i < text.len() {
@@ -87,7 +86,7 @@ pub fn skip_blanks(text: &[u8], p: usize) -> usize
 // One more digit after x, cut off.
 fn digit_more(x: usize, b: u8) -> usize
     requires { ⌜ x ≤ 4294967295 ⌝ }
-    ensures { λ r. ⌜ r ≡ least (x * 10 + (b - 48)) ⌝ }
+    ensures { λ r. ⌜ r ≡ Scan·cut (x * 10 + (b - 48)) ⌝ }
 {
     if b < 48 {
         return cut(x * 10);
@@ -96,7 +95,7 @@ fn digit_more(x: usize, b: u8) -> usize
 }
 
 fn cut(x: usize) -> usize
-    ensures { λ r. ⌜ r ≡ least x ⌝ }
+    ensures { λ r. ⌜ r ≡ Scan·cut x ⌝ }
 {
     if x < 4294967295 {
         return x;

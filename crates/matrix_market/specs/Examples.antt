@@ -1,82 +1,188 @@
--- Files, and what is read of them.
+-- Files, and what is told and read of them.
 -- Assumes nothing.
 use Prim.Native.Nat.{ℕ}
+use Prim.Native.Char.{code}
+use Prim.Native.String.{String, [] as ended, _∷_ as _then_}
 use mathlib.Core.Path.{_≡_, refl}
+use mathlib.Core.Bool.{cond}
 use mathlib.Core.List.{List, [], _∷_, _++_}
+use lib.Dec.{eqb}
+use lib.ListN.{replicate}
 use Rattle.lists.specs.Every.{every, some}
-use Rattle.refusal.specs.Steps.{first, verdict, answered, refused}
-use Rattle.matrix_market.specs.Text.{onFirst, split, blank, nonempty, isDigit, numeral}
-use Rattle.matrix_market.specs.File.{header, same, comment, fromSize, firstLine, laterLines, body, sizeFields, entries, fileRequests, numbers, outsidePair, sizeSteps, entrySteps, fileSteps, fileAnswer}
+use Rattle.refusal.specs.Steps.{Reply, refused, answered, first, verdict, Passed}
+use Rattle.matrix_market.specs.Text.{onFirst, split, fields, isBlank, nonempty, isDigit, numeral}
+use Rattle.matrix_market.specs.File.{header, sameBytes, comment, fromSize, firstLine, laterLines, body, sizeFields, entries, areNumbers, outsidePair}
+use Rattle.matrix_market.specs.File.{fileRequests, fileRows, fileColumns, fileSizeSteps, fileEntrySteps, fileSteps, fileAnswer}
 
--- a file with a comment, blank lines, tabs, a leading zero, a repeat and no last line end
-abbrev sample : List ℕ
-sample =
-    header
-    ++ (10 ∷ 37 ∷ 97 ∷ 32 ∷ 99 ∷ 111 ∷ 109 ∷ 109 ∷ 101 ∷ 110 ∷ 116 ∷ 10 ∷ 10 ∷ 32 ∷ 9 ∷ 10 ∷ 32 ∷ 51 ∷ 9 ∷ 51 ∷ 32 ∷ 32 ∷ 52 ∷ 32 ∷ 10 ∷ 49 ∷ 32 ∷ 49 ∷ 10 ∷ 9 ∷ 48 ∷ 51 ∷ 32 ∷ 50 ∷ 10 ∷ 10 ∷ 50 ∷ 32 ∷ 32 ∷ 50 ∷ 9 ∷ 10 ∷ 51 ∷ 32 ∷ 50 ∷ 32 ∷ [])
+-- the bytes of a text; the file that begins with the header and goes on with a text
+bytes : String → List ℕ
+bytes ended = []
+bytes (c then s) = code c ∷ bytes s
 
-sample-requests : fileRequests sample ≡ (0, 0) ∷ (2, 1) ∷ (1, 1) ∷ (2, 1) ∷ []
-unfolding entries body laterLines fromSize comment nonempty split onFirst blank numeral firstLine
-sample-requests = refl
+headed : String → List ℕ
+unfolding bytes
+headed s = header ++ bytes s
 
-sample-passes : first (fileSteps sample 4 5) (fileAnswer sample) ≡ answered (3, 4)
-unfolding first fileSteps sizeSteps entrySteps same some every numbers outsidePair sizeFields firstLine entries body laterLines fromSize comment nonempty split onFirst blank numeral isDigit
-sample-passes = refl
+-- a verdict as a number: that of the refusal, 0 where there is none
+abbrev numberOf : Reply (Unit {0}) → ℕ
+numberOf (refused k) = k
+numberOf (answered tt) = 0
 
-sample-short : first (fileSteps sample 4 3) (fileAnswer sample) ≡ refused 7
-unfolding first fileSteps sizeSteps entrySteps same some every numbers outsidePair sizeFields firstLine entries body laterLines fromSize comment nonempty split onFirst blank numeral isDigit
-sample-short = refl
+-- what is told of a file where each list has 4 places, and of a size line
+unfoldable pub told : List ℕ → ℕ
+unfolding first fileSteps fileSizeSteps fileEntrySteps sameBytes some every areNumbers outsidePair sizeFields firstLine entries body laterLines fromSize comment
+    nonempty split onFirst isBlank numeral isDigit
+told text = numberOf (verdict (fileSteps text 4 4))
 
--- another header
-header-other : verdict (fileSteps (37 ∷ 37 ∷ 77 ∷ 97 ∷ 116 ∷ 114 ∷ 105 ∷ 120 ∷ 77 ∷ 97 ∷ 114 ∷ 107 ∷ 101 ∷ 116 ∷ 32 ∷ 109 ∷ 97 ∷ 116 ∷ 114 ∷ 105 ∷ 120 ∷ 32 ∷ 99 ∷ 111 ∷ 111 ∷ 114 ∷ 100 ∷ 105 ∷ 110 ∷ 97 ∷ 116 ∷ 101 ∷ 32 ∷ 112 ∷ 97 ∷ 116 ∷ 116 ∷ 101 ∷ 114 ∷ 110 ∷ 32 ∷ 103 ∷ 101 ∷ 110 ∷ 101 ∷ 114 ∷ 97 ∷ 108 ∷ 10 ∷ 49 ∷ 32 ∷ 49 ∷ 32 ∷ 48 ∷ 10 ∷ []) 4 4) ≡ refused 15
-unfolding first fileSteps sizeSteps entrySteps same some every numbers outsidePair sizeFields firstLine entries body laterLines fromSize comment nonempty split onFirst blank numeral isDigit
-header-other = refl
+sizeTold : List ℕ → ℕ
+unfolding first fileSizeSteps every areNumbers nonempty split onFirst isBlank numeral isDigit
+sizeTold line = numberOf (verdict (fileSizeSteps (fields line)))
 
--- an index outside, and a later line that is not two numbers: 16 is told
-fault-later : verdict (fileSteps (header ++ (10 ∷ 50 ∷ 32 ∷ 50 ∷ 32 ∷ 50 ∷ 10 ∷ 51 ∷ 32 ∷ 49 ∷ 10 ∷ 120 ∷ 10 ∷ [])) 4 4) ≡ refused 16
-unfolding first fileSteps sizeSteps entrySteps same some every numbers outsidePair sizeFields firstLine entries body laterLines fromSize comment nonempty split onFirst blank numeral isDigit
-fault-later = refl
+-- of the texts, each behind what it shows, those of which something else than k is told
+wrong : (List ℕ → ℕ) → ℕ → List (String × List ℕ) → List String
+wrong tell k [] = []
+wrong tell k (e ∷ rest) = cond (eqb (tell (e .1)) k) (wrong tell k rest) (e .0 ∷ wrong tell k rest)
 
--- a comment behind the size line is no entry
-comment-later : verdict (fileSteps (header ++ (10 ∷ 50 ∷ 32 ∷ 50 ∷ 32 ∷ 49 ∷ 10 ∷ 37 ∷ 99 ∷ 10 ∷ 49 ∷ 32 ∷ 49 ∷ 10 ∷ [])) 4 4) ≡ refused 16
-unfolding first fileSteps sizeSteps entrySteps same some every numbers outsidePair sizeFields firstLine entries body laterLines fromSize comment nonempty split onFirst blank numeral isDigit
-comment-later = refl
+-- ---- 15: the header
+header-is : header ≡ bytes "%%MatrixMarket matrix coordinate pattern symmetric"
+unfolding bytes
+header-is = refl
 
--- a blank before the % makes no comment
-comment-indented : verdict (fileSteps (header ++ (10 ∷ 32 ∷ 37 ∷ 99 ∷ 10 ∷ 50 ∷ 32 ∷ 50 ∷ 32 ∷ 48 ∷ 10 ∷ [])) 4 4) ≡ refused 16
-unfolding first fileSteps sizeSteps entrySteps same some every numbers outsidePair sizeFields firstLine entries body laterLines fromSize comment nonempty split onFirst blank numeral isDigit
-comment-indented = refl
+header-refused :
+    wrong told 15
+    (("no line", [])
+    ∷ ("another header", bytes "%%MatrixMarket matrix coordinate pattern general\n1 1 0\n")
+    ∷ ("an empty line first", bytes "\n%%MatrixMarket matrix coordinate pattern symmetric\n1 1 0\n")
+    ∷ ("a space behind the header", headed " \n1 1 0\n")
+    ∷ ("a carriage return behind the header", headed "\r\n1 1 0\n")
+    ∷ []) ≡ []
+unfolding wrong told headed bytes
+header-refused = refl
 
--- 4294967297 is not 1
-long-index : verdict (fileSteps (header ++ (10 ∷ 50 ∷ 32 ∷ 50 ∷ 32 ∷ 49 ∷ 10 ∷ 52 ∷ 50 ∷ 57 ∷ 52 ∷ 57 ∷ 54 ∷ 55 ∷ 50 ∷ 57 ∷ 55 ∷ 32 ∷ 49 ∷ [])) 4 4) ≡ refused 17
-unfolding first fileSteps sizeSteps entrySteps same some every numbers outsidePair sizeFields firstLine entries body laterLines fromSize comment nonempty split onFirst blank numeral isDigit
+-- ---- 16: the size line
+size-refused :
+    wrong told 16
+    (("the header alone, without its line end", headed "")
+    ∷ ("comments and blank lines alone", headed "\n%c\n \t\n")
+    ∷ ("two numbers", headed "\n2 2\n")
+    ∷ ("four numbers", headed "\n2 2 0 0\n")
+    ∷ ("unequal sizes", headed "\n2 3 0\n")
+    ∷ ("a space before the % of a comment", headed "\n %c\n2 2 0\n")
+    ∷ ("a carriage return is no blank", headed "\n2 2 0\r\n")
+    ∷ ("nor is a vertical tab", headed "\n2 2\u{b}0\n")
+    ∷ ("nor a form feed", headed "\n2 2\u{c}0\n")
+    ∷ ("nor byte 160", headed "\n2 2\u{a0}0\n")
+    ∷ []) ≡ []
+unfolding wrong told headed bytes
+size-refused = refl
+
+-- its bounds, themselves accepted
+bounds-refused : wrong sizeTold 16 (("a size of 2,049", bytes "2049 2049 0") ∷ ("a count of 1,048,577", bytes "2 2 1048577") ∷ []) ≡ []
+unfolding wrong sizeTold bytes
+bounds-refused = refl
+
+bounds-accepted : wrong sizeTold 0 (("2,048 and 1,048,576", bytes "2048 2048 1048576") ∷ []) ≡ []
+unfolding wrong sizeTold bytes
+bounds-accepted = refl
+
+-- ---- 16: the entry lines, each looked at before any index
+entries-refused :
+    wrong told 16
+    (("one entry of two is missing", headed "\n2 2 2\n1 1\n")
+    ∷ ("two entries for one", headed "\n2 2 1\n1 1\n2 2\n")
+    ∷ ("an entry for none", headed "\n2 2 0\n1 1\n")
+    ∷ ("a line behind the last entry", headed "\n2 2 1\n1 1\nx\n")
+    ∷ ("a count of 2^64 + 1 for one", headed "\n2 2 18446744073709551617\n1 1\n")
+    ∷ ("one number", headed "\n2 2 1\n1\n")
+    ∷ ("three numbers", headed "\n2 2 1\n1 1 1\n")
+    ∷ ("an entry over two lines", headed "\n2 2 1\n1\n1\n")
+    ∷ ("a comment behind the size line", headed "\n2 2 1\n%c\n1 1\n")
+    ∷ ("the byte before 0 is no digit", headed "\n2 2 1\n1 /1\n")
+    ∷ ("nor is the byte behind 9", headed "\n2 2 1\n1 :\n")
+    ∷ ("a sign", headed "\n2 2 1\n+1 1\n")
+    ∷ ("a point", headed "\n2 2 1\n1.0 1\n")
+    ∷ ("an index outside, then a line of no numbers", headed "\n2 2 2\n3 1\nx\n")
+    ∷ ("an index outside, then an entry missing", headed "\n2 2 2\n3 1\n")
+    ∷ []) ≡ []
+unfolding wrong told headed bytes
+entries-refused = refl
+
+-- ---- 17: an index outside, or a pair above the diagonal
+indices-refused :
+    wrong told 17
+    (("row 0", headed "\n2 2 1\n0 0\n")
+    ∷ ("column 0", headed "\n2 2 1\n1 0\n")
+    ∷ ("row 3 of 2", headed "\n2 2 1\n3 1\n")
+    ∷ ("both 3 of 2", headed "\n2 2 1\n3 3\n")
+    ∷ ("2^32 + 1 is not 1", headed "\n2 2 1\n4294967297 1\n")
+    ∷ ("2^64 + 1 is not 1", headed "\n2 2 1\n18446744073709551617 1\n")
+    ∷ ("row 1, column 2", headed "\n2 2 1\n1 2\n")
+    ∷ ("the first entry of two", headed "\n2 2 2\n1 2\n1 1\n")
+    ∷ ("an entry of size 0", headed "\n0 0 1\n1 1\n")
+    ∷ []) ≡ []
+unfolding wrong told headed bytes
+indices-refused = refl
+
+-- ---- files that are accepted
+accepted-files :
+    wrong told 0
+    (("size 0", headed "\n0 0 0\n")
+    ∷ ("no line end behind the last line", headed "\n2 2 1\n2 1")
+    ∷ ("leading zeros", headed "\n02 2 001\n002 01\n")
+    ∷ ("tabs and spaces between and around numbers", headed "\n\t2 \t2  1 \n \t2\t1\t\n")
+    ∷ ("blank lines before and behind each line", headed "\n\n%c\n \n%d\n\t\n2 2 1\n\n1 1\n \n")
+    ∷ ("any byte in a comment", headed "\n%%\r\u{b}\0 2 2\n2 2 0\n")
+    ∷ ("as many requests as places", headed "\n2 2 4\n1 1\n2 1\n2 2\n2 2\n")
+    ∷ []) ≡ []
+unfolding wrong told headed bytes
+accepted-files = refl
+
+-- ---- numbers of 400 digits: a size, an index, an index 0, and one with zeros before it
+long-size : told (header ++ (10 ∷ replicate 400 49 ++ (32 ∷ replicate 400 49 ++ bytes " 0\n"))) ≡ 16
+unfolding told bytes
+long-size = refl
+
+long-index : told (headed "\n2 2 1\n" ++ (replicate 400 49 ++ bytes " 1\n")) ≡ 17
+unfolding told headed
 long-index = refl
 
--- 18446744073709551617 is not 1 either
-longer-index : verdict (fileSteps (header ++ (10 ∷ 50 ∷ 32 ∷ 50 ∷ 32 ∷ 49 ∷ 10 ∷ 49 ∷ 56 ∷ 52 ∷ 52 ∷ 54 ∷ 55 ∷ 52 ∷ 52 ∷ 48 ∷ 55 ∷ 51 ∷ 55 ∷ 48 ∷ 57 ∷ 53 ∷ 53 ∷ 49 ∷ 54 ∷ 49 ∷ 55 ∷ 32 ∷ 49 ∷ [])) 4 4) ≡ refused 17
-unfolding first fileSteps sizeSteps entrySteps same some every numbers outsidePair sizeFields firstLine entries body laterLines fromSize comment nonempty split onFirst blank numeral isDigit
-longer-index = refl
+long-zero : told (headed "\n2 2 1\n1 " ++ replicate 400 48) ≡ 17
+unfolding told headed
+long-zero = refl
 
--- an index 0 is outside
-index-zero : verdict (fileSteps (header ++ (10 ∷ 50 ∷ 32 ∷ 50 ∷ 32 ∷ 49 ∷ 10 ∷ 49 ∷ 32 ∷ 48 ∷ [])) 4 4) ≡ refused 17
-unfolding first fileSteps sizeSteps entrySteps same some every numbers outsidePair sizeFields firstLine entries body laterLines fromSize comment nonempty split onFirst blank numeral isDigit
-index-zero = refl
+long-zeros : told (headed "\n2 2 1\n" ++ (replicate 400 48 ++ bytes "2 1\n")) ≡ 0
+unfolding told headed
+long-zeros = refl
 
--- a pair above the diagonal
-above-diagonal : verdict (fileSteps (header ++ (10 ∷ 50 ∷ 32 ∷ 50 ∷ 32 ∷ 49 ∷ 10 ∷ 49 ∷ 32 ∷ 50 ∷ [])) 4 4) ≡ refused 17
-unfolding first fileSteps sizeSteps entrySteps same some every numbers outsidePair sizeFields firstLine entries body laterLines fromSize comment nonempty split onFirst blank numeral isDigit
-above-diagonal = refl
+-- ---- 7, and what is read: a comment, blank lines, tabs, a leading zero, a repeat and no last line end
+unfoldable pub sample : List ℕ
+unfolding headed
+sample = headed "\n%a comment\n\n \t\n 3\t3  4 \n1 1\n\t03 2\n\n2  2\t\n3 2 "
 
--- one entry line more than the count
-entry-more : verdict (fileSteps (header ++ (10 ∷ 50 ∷ 32 ∷ 50 ∷ 32 ∷ 49 ∷ 10 ∷ 49 ∷ 32 ∷ 49 ∷ 10 ∷ 50 ∷ 32 ∷ 50 ∷ 10 ∷ [])) 4 4) ≡ refused 16
-unfolding first fileSteps sizeSteps entrySteps same some every numbers outsidePair sizeFields firstLine entries body laterLines fromSize comment nonempty split onFirst blank numeral isDigit
-entry-more = refl
+sample-requests : fileRequests sample ≡ (0, 0) ∷ (2, 1) ∷ (1, 1) ∷ (2, 1) ∷ []
+unfolding told sample
+sample-requests = refl
 
--- unequal sizes
-sizes-unequal : verdict (fileSteps (header ++ (10 ∷ 50 ∷ 32 ∷ 51 ∷ 32 ∷ 48 ∷ 10 ∷ [])) 4 4) ≡ refused 16
-unfolding first fileSteps sizeSteps entrySteps same some every numbers outsidePair sizeFields firstLine entries body laterLines fromSize comment nonempty split onFirst blank numeral isDigit
-sizes-unequal = refl
+sample-rows : fileRows sample ≡ 0 ∷ 2 ∷ 1 ∷ 2 ∷ []
+unfolding told sample
+sample-rows = refl
 
--- a carriage return is no blank
-return-kept : verdict (fileSteps (header ++ (10 ∷ 50 ∷ 32 ∷ 50 ∷ 32 ∷ 48 ∷ 13 ∷ 10 ∷ [])) 4 4) ≡ refused 16
-unfolding first fileSteps sizeSteps entrySteps same some every numbers outsidePair sizeFields firstLine entries body laterLines fromSize comment nonempty split onFirst blank numeral isDigit
-return-kept = refl
+sample-columns : fileColumns sample ≡ 0 ∷ 1 ∷ 1 ∷ 1 ∷ []
+unfolding told sample
+sample-columns = refl
+
+pub sample-passes : Passed (fileSteps sample 4 5)
+unfolding told sample
+sample-passes = refl
+
+sample-read : first (fileSteps sample 4 5) (fileAnswer sample) ≡ answered (3, 4)
+unfolding told sample
+sample-read = refl
+
+rows-short : first (fileSteps sample 3 4) (fileAnswer sample) ≡ refused 7
+unfolding told sample
+rows-short = refl
+
+columns-short : first (fileSteps sample 4 3) (fileAnswer sample) ≡ refused 7
+unfolding told sample
+columns-short = refl

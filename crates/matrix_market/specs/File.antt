@@ -17,8 +17,9 @@ use Rattle.matrix_market.specs.Text.{lines, fields, empty, nonempty, isD
 -- "%%MatrixMarket matrix coordinate pattern symmetric"
 abbrev pub header : List ℕ
 header =
-    37 ∷ 37 ∷ 77 ∷ 97 ∷ 116 ∷ 114 ∷ 105 ∷ 120 ∷ 77 ∷ 97 ∷ 114 ∷ 107 ∷ 101 ∷ 116 ∷ 32 ∷ 109 ∷ 97 ∷ 116 ∷ 114 ∷ 105 ∷ 120 ∷ 32 ∷ 99 ∷ 111 ∷ 111 ∷ 114 ∷ 100 ∷ 105 ∷ 110 ∷ 97 ∷ 116 ∷
-    101 ∷ 32 ∷ 112 ∷ 97 ∷ 116 ∷ 116 ∷ 101 ∷ 114 ∷ 110 ∷ 32 ∷ 115 ∷ 121 ∷ 109 ∷ 109 ∷ 101 ∷ 116 ∷ 114 ∷ 105 ∷ 99 ∷ []
+    37 ∷ 37 ∷ 77 ∷ 97 ∷ 116 ∷ 114 ∷ 105 ∷ 120 ∷ 77 ∷ 97 ∷ 114 ∷ 107 ∷ 101 ∷ 116 ∷
+    32 ∷ 109 ∷ 97 ∷ 116 ∷ 114 ∷ 105 ∷ 120 ∷ 32 ∷ 99 ∷ 111 ∷ 111 ∷ 114 ∷ 100 ∷ 105 ∷ 110 ∷ 97 ∷ 116 ∷ 101 ∷
+    32 ∷ 112 ∷ 97 ∷ 116 ∷ 116 ∷ 101 ∷ 114 ∷ 110 ∷ 32 ∷ 115 ∷ 121 ∷ 109 ∷ 109 ∷ 101 ∷ 116 ∷ 114 ∷ 105 ∷ 99 ∷ []
 
 -- the first line, an empty one where there is none; and the lines behind it
 unfoldable pub firstLine : List (List ℕ) → List ℕ
@@ -51,14 +52,18 @@ body text = fromSize (laterLines (lines text))
 unfoldable pub sizeFields : List ℕ → List (List ℕ)
 sizeFields text = fields (firstLine (body text))
 
--- the fields of each line behind it that has some
+-- the fields of each of these lines that has some
+abbrev pub lineEntries : List (List ℕ) → List (List (List ℕ))
+lineEntries ls = nonempty (map fields ls)
+
+-- the entries: those of the lines behind the size line
 unfoldable pub entries : List ℕ → List (List (List ℕ))
-entries text = nonempty (map fields (laterLines (body text)))
+entries text = lineEntries (laterLines (body text))
 
 -- ---- numbers of a line
 -- k fields, each of digits alone
-unfoldable pub numbers : ℕ → List (List ℕ) → Bool
-numbers k fs = eqb (length fs) k && every (every isDigit) fs
+unfoldable pub areNumbers : ℕ → List (List ℕ) → Bool
+areNumbers k fs = eqb (length fs) k && every (every isDigit) fs
 
 -- the number of field i
 abbrev pub number : ℕ → List (List ℕ) → ℕ
@@ -80,18 +85,25 @@ standFor n es = map pairOf es
 abbrev pub fileRequests : List ℕ → List (ℕ × ℕ)
 fileRequests text = standFor (dimensionOf text) (entries text)
 
+-- the rows of requests, and their columns
+abbrev pub requestRows : List (ℕ × ℕ) → List ℕ
+requestRows = map (λ (r : ℕ × ℕ). r .0)
+
+abbrev pub requestColumns : List (ℕ × ℕ) → List ℕ
+requestColumns = map (λ (r : ℕ × ℕ). r .1)
+
 -- ---- what is refused
 -- two lists of bytes are equal
-unfoldable pub same : List ℕ → List ℕ → Bool
-same [] [] = true
-same [] (b ∷ t) = false
-same (a ∷ s) [] = false
-same (a ∷ s) (b ∷ t) = eqb a b && same s t
+unfoldable pub sameBytes : List ℕ → List ℕ → Bool
+sameBytes [] [] = true
+sameBytes [] (b ∷ t) = false
+sameBytes (a ∷ s) [] = false
+sameBytes (a ∷ s) (b ∷ t) = eqb a b && sameBytes s t
 
 -- 16 of a size line: not three numbers, a size too large, unequal sizes, a count too large
-unfoldable pub sizeSteps : List (List ℕ) → List Step
-sizeSteps size =
-    (16, not (numbers 3 size))
+unfoldable pub fileSizeSteps : List (List ℕ) → List Step
+fileSizeSteps size =
+    (16, not (areNumbers 3 size))
     ∷ (16, ltb maxDimension (number 0 size))
     ∷ (16, not (eqb (number 0 size) (number 1 size)))
     ∷ (16, ltb maxEntries (number 2 size))
@@ -110,26 +122,26 @@ outsideEntry n entry = outsidePair n (number 0 entry) (number 1 entry)
 
 -- an entry line that is not two numbers
 abbrev pub malformed : List (List ℕ) → Bool
-malformed entry = not (numbers 2 entry)
+malformed entry = not (areNumbers 2 entry)
 
 -- 16: an entry line not of this form, or another number of them than the count; 17: an index outside or above the diagonal
-unfoldable pub entrySteps : ℕ → ℕ → List (List (List ℕ)) → List Step
-entrySteps n count es =
+unfoldable pub fileEntrySteps : ℕ → ℕ → List (List (List ℕ)) → List Step
+fileEntrySteps n count es =
     (16, some malformed es)
     ∷ (16, not (eqb (length es) count))
     ∷ (17, some (outsideEntry n) es)
     ∷ []
 
 -- 7: a list shorter than the requests
-abbrev pub roomSteps : ℕ → ℕ → ℕ → List Step
-roomSteps requests rows columns = (7, ltb rows requests) ∷ (7, ltb columns requests) ∷ []
+abbrev pub fileRoomSteps : ℕ → ℕ → ℕ → List Step
+fileRoomSteps requests rows columns = (7, ltb rows requests) ∷ (7, ltb columns requests) ∷ []
 
 -- 15, 16, 17, 7 in their order, for lists of these lengths
 unfoldable pub fileSteps : List ℕ → ℕ → ℕ → List Step
 fileSteps text rows columns =
-    (15, not (same (firstLine (lines text)) header))
-    ∷ (sizeSteps (sizeFields text)
-    ++ (entrySteps (dimensionOf text) (number 2 (sizeFields text)) (entries text) ++ roomSteps (length (fileRequests text)) rows columns))
+    (15, not (sameBytes (firstLine (lines text)) header))
+    ∷ (fileSizeSteps (sizeFields text)
+    ++ (fileEntrySteps (dimensionOf text) (number 2 (sizeFields text)) (entries text) ++ fileRoomSteps (length (fileRequests text)) rows columns))
 
 -- ---- the answer, and what the two lists hold
 -- the dimension and the number of requests
@@ -137,10 +149,10 @@ abbrev pub fileAnswer : List ℕ → ℕ × ℕ
 fileAnswer text = (dimensionOf text, length (fileRequests text))
 
 abbrev pub fileRows : List ℕ → List ℕ
-fileRows text = map (λ (r : ℕ × ℕ). r .0) (fileRequests text)
+fileRows text = requestRows (fileRequests text)
 
 abbrev pub fileColumns : List ℕ → List ℕ
-fileColumns text = map (λ (r : ℕ × ℕ). r .1) (fileRequests text)
+fileColumns text = requestColumns (fileRequests text)
 
 -- ---- laws
 -- as many requests as entries: repeats are kept
@@ -148,14 +160,14 @@ pub requests-kept : (n : ℕ) (es : List (List (List ℕ))) → length (standFor
 requests-kept n es = length-map es pairOf
 
 -- lists of bytes are the same exactly if they are equal
-pub same-sound : (s t : List ℕ) → same s t ≡ true → s ≡ t
-unfolding same
-same-sound [] [] h = refl
-same-sound [] (b ∷ t) h = absurd (false≢true h)
-same-sound (a ∷ s) [] h = absurd (false≢true h)
-same-sound (a ∷ s) (b ∷ t) h = ap₂ _∷_ (eqb-true a b (and-left (eqb a b) (same s t) h)) (same-sound s t (and-right (eqb a b) (same s t) h))
+pub sameBytes-equal : (s t : List ℕ) → sameBytes s t ≡ true → s ≡ t
+unfolding sameBytes
+sameBytes-equal [] [] h = refl
+sameBytes-equal [] (b ∷ t) h = absurd (false≢true h)
+sameBytes-equal (a ∷ s) [] h = absurd (false≢true h)
+sameBytes-equal (a ∷ s) (b ∷ t) h = ap₂ _∷_ (eqb-true a b (and-left (eqb a b) (sameBytes s t) h)) (sameBytes-equal s t (and-right (eqb a b) (sameBytes s t) h))
 
-pub same-itself : (s : List ℕ) → same s s ≡ true
-unfolding same
-same-itself [] = refl
-same-itself (a ∷ s) = and-both _ _ (eq-eqb a a refl) (same-itself s)
+pub sameBytes-itself : (s : List ℕ) → sameBytes s s ≡ true
+unfolding sameBytes
+sameBytes-itself [] = refl
+sameBytes-itself (a ∷ s) = and-both _ _ (eq-eqb a a refl) (sameBytes-itself s)

@@ -2,3 +2,4 @@
 pub mod Text
 pub mod File
 pub mod Examples
+pub mod AcceptedFile

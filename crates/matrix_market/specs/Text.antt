@@ -6,7 +6,7 @@ use mathlib.Core.Bool.{Bool, true, false, cond, not, _&&_, _||_, false≢true}
 use mathlib.Core.List.{List, [], _∷_, _++_}
 use lib.Dec.{eqb, leb}
 use borrow.Author.Tests.{eqb-true}
-use Rattle.lists.specs.Every.{every, every-next}
+use Rattle.lists.specs.Every.{every}
 use Rattle.lists.specs.Test.{and-left, and-right, and-both}
 
 -- b in front of the first part
@@ -37,12 +37,12 @@ nonempty ([] ∷ ls) = nonempty ls
 nonempty ((x ∷ l) ∷ ls) = (x ∷ l) ∷ nonempty ls
 
 -- a space or a tab
-unfoldable pub blank : ℕ → Bool
-blank b = eqb b 32 || eqb b 9
+unfoldable pub isBlank : ℕ → Bool
+isBlank b = eqb b 32 || eqb b 9
 
 -- the fields of a line, which blanks part
 abbrev pub fields : List ℕ → List (List ℕ)
-fields line = nonempty (split blank line)
+fields line = nonempty (split isBlank line)
 
 -- a decimal digit
 unfoldable pub isDigit : ℕ → Bool
@@ -154,12 +154,12 @@ nonempty-every test ([] ∷ ls) h = nonempty-every test ls (and-right (test []) 
 nonempty-every test ((b ∷ l) ∷ ls) h = and-both (test (b ∷ l)) _ (and-left (test (b ∷ l)) _ h) (nonempty-every test ls (and-right (test (b ∷ l)) _ h))
 
 -- no field holds a blank, and none is empty
-pub fields-solid : (line : List ℕ) → every (solid blank) (fields line) ≡ true
-fields-solid line = nonempty-every (solid blank) (split blank line) (split-solid blank line)
+pub fields-solid : (line : List ℕ) → every (solid isBlank) (fields line) ≡ true
+fields-solid line = nonempty-every (solid isBlank) (split isBlank line) (split-solid isBlank line)
 
 pub fields-filled : (line : List ℕ) → every filledOne (fields line) ≡ true
 unfolding nonempty every
-fields-filled line = all (split blank line)
+fields-filled line = all (split isBlank line)
   where
     all : (ls : List (List ℕ)) → every filledOne (nonempty ls) ≡ true
     all [] = refl
@@ -173,9 +173,9 @@ nonempty-same ([] ∷ ls) h = absurd (false≢true h)
 nonempty-same ((b ∷ l) ∷ ls) h = ap (λ (r : List (List ℕ)). (b ∷ l) ∷ r) (nonempty-same ls h)
 
 -- fields put together with a space behind each are read back
-pub fields-read : (fs : List (List ℕ)) → every (solid blank) fs ≡ true → every filledOne fs ≡ true → fields (joined 32 fs) ≡ fs
-unfolding blank
-fields-read fs p q = ap nonempty (split-joined blank 32 refl fs p) ∙ nonempty-same fs q
+pub fields-read : (fs : List (List ℕ)) → every (solid isBlank) fs ≡ true → every filledOne fs ≡ true → fields (joined 32 fs) ≡ fs
+unfolding isBlank
+fields-read fs p q = ap nonempty (split-joined isBlank 32 refl fs p) ∙ nonempty-same fs q
 
 -- so a line and its fields with single spaces say the same
 pub fields-joined : (line : List ℕ) → fields (joined 32 (fields line)) ≡ fields line

@@ -1,7 +1,5 @@
 -- Reading requests from a Matrix Market file.
-pub mod Cut
-pub mod Front
-pub mod Written
-pub mod Entries
-pub mod Stored
+pub mod HeaderLines
+pub mod EntryLines
 pub mod Reader
+pub mod ReadLists

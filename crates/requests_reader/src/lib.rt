@@ -1,7 +1,10 @@
 // Reading requests from a Matrix Market file.
 ghost use Prim.Native.Nat.{_≤_};
+ghost use mathlib.Core.Path.{_≡_};
+ghost use mathlib.Core.Bool.{false};
 ghost use lib.ListN.{length};
-ghost use Rattle.requests_reader.specs.Reader.{SizeRead, RequestsRead};
+ghost use Rattle.requests_reader.specs.HeaderLines.{SizeRead};
+ghost use Rattle.requests_reader.specs.Reader.{RequestsRead};
 use entries::scan_entries;
 use entries::store_entries;
 use file_lines::read_triple;
@@ -35,42 +38,34 @@ fn read_size(text: &[u8], p: usize) -> Size
 {
     let line = read_triple(text, p);
     if !line.formed {
-        return Size {
-            accepted: false,
-            n: 0,
-            count: 0,
-            next: 0,
-        };
+        return not_a_size();
     }
     if line.first > MAX_DIMENSION {
-        return Size {
-            accepted: false,
-            n: 0,
-            count: 0,
-            next: 0,
-        };
+        return not_a_size();
     }
     if line.first != line.second {
-        return Size {
-            accepted: false,
-            n: 0,
-            count: 0,
-            next: 0,
-        };
+        return not_a_size();
     }
     if line.third > MAX_ENTRIES {
-        return Size {
-            accepted: false,
-            n: 0,
-            count: 0,
-            next: 0,
-        };
+        return not_a_size();
     }
     Size {
         accepted: true,
         n: line.first,
         count: line.third,
         next: line.next,
+    }
+}
+
+// No size line, or one that is refused.
+fn not_a_size() -> Size
+    ensures { λ r. ⌜ (r .accepted ≡ false) × (r .n ≡ 0) × (r .next ≡ 0) ⌝ }
+{
+    Size {
+        accepted: false,
+        n: 0,
+        count: 0,
+        next: 0,
     }
 }
 

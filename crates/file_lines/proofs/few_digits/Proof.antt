@@ -1,11 +1,11 @@
 use borrow.Author.Needs.{needs}
 use denote.Ref.{now}
 use native.Mathlib.Omega.{arith}
-use Prim.Native.Nat.{ℕ, _≤_, _<_, _-_, _+_}
-use mathlib.Core.Path.{_≡_, refl, ap, sym, _∙_}
-use lib.ListN.{length, getD}
-use borrow.Author.Tests.{not-true, not-false}
-use Rattle.file_lines.specs.Plain.{FewAt, few-start, few-more}
+use Prim.Native.Nat.{_-_, _+_}
+use mathlib.Core.Path.{sym, _∙_}
+use borrow.Author.Tests.{not-false}
+use Rattle.file_lines.specs.Places.{FewAt}
+use Rattle.file_lines.proofs.PlainLaws.{few-start, few-more}
 use Rattle.file_lines.proofs.few_digits.Statement.{statement}
 use Rattle.file_lines.proofs.few_digits.Tie as tie
 

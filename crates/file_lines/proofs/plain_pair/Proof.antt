@@ -1,9 +1,7 @@
 use borrow.Author.Needs.{needs}
 use native.Mathlib.Omega.{arith}
-use Prim.Native.Nat.{ℕ, _≤_, _<_, _-_, _+_}
-use mathlib.Core.Path.{_≡_, refl, ap, sym, _∙_}
-use lib.ListN.{length, getD}
-use Rattle.file_lines.specs.Plain.{plain-not, plain-line}
+use Prim.Native.Nat.{_-_}
+use Rattle.file_lines.proofs.PlainLaws.{plain-not, plain-line}
 use Rattle.file_lines.proofs.plain_pair.Statement.{statement}
 use Rattle.file_lines.proofs.plain_pair.Tie as tie
 

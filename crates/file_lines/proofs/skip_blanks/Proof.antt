@@ -1,6 +1,6 @@
 use Prim.Native.Nat.{_-_}
-use Rattle.file_lines.specs.Places.{Skipping, skip-start, skip-more, skip-stop, skip-end}
-use Rattle.matrix_market.specs.Text.{blank}
+use Rattle.file_lines.proofs.PlaceLaws.{SkipLoop, skip-start, skip-more, skip-stop, skip-end}
+use Rattle.matrix_market.specs.Text.{isBlank}
 use borrow.Author.Needs.{needs}
 use borrow.Author.Tests.{not-true, not-false}
 use lib.ListN.{length}
@@ -9,7 +9,7 @@ use Rattle.file_lines.proofs.skip_blanks.Statement.{statement}
 use Rattle.file_lines.proofs.skip_blanks.Tie as tie
 
 abbrev Inv-loop : tie.InvT-loop
-Inv-loop text p i₀ i = Skipping blank text p i
+Inv-loop text p i₀ i = SkipLoop isBlank text p i
 
 abbrev μ-loop : tie.MeasureT-loop
 μ-loop text p i₀ i = length text - i

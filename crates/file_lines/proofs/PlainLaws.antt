@@ -8,25 +8,21 @@ use mathlib.Core.List.{List, []}
 use mathlib.Core.Logic.{_⊎_, inl, inr}
 use lib.ListN.{length, getD, drop}
 use borrow.Author.Tests.{lt-ltb}
-use Rattle.matrix_market.specs.Text.{empty, blank, isDigit}
-use Rattle.file_lines.specs.Scan.{digitsOf, least, drop-next, front-stop}
-use Rattle.file_lines.specs.FieldScan.{digit-inked}
-use Rattle.file_lines.specs.Places.{Skipped, skip-start, skip-more, skip-stop, Reading, number-start, number-more, number-stop, NumberAt, FieldAt, field-at, EndAt, end-here, PairAt, pair-whole}
+use Rattle.matrix_market.specs.Text.{empty, isBlank, isDigit}
+use Rattle.file_lines.specs.Scan.{digitsOf, cut}
+use Rattle.file_lines.specs.Places.{Skipped, NumberAt, DigitsRead, FewAt, FieldAt, PlainAt}
+use Rattle.file_lines.proofs.ScanLaws.{drop-next, front-stop}
+use Rattle.file_lines.proofs.FieldLaws.{digit-inked}
+use Rattle.file_lines.proofs.PlaceLaws.{skip-start, skip-more, skip-stop, number-start, number-more, number-stop, field-at, end-here, pair-whole}
 
 -- ---- a few digits
--- the digits from p to next, at most four, have the value; more may follow
-pub record FewAt (text : List ℕ) (p value next : ℕ) : Type 0 where
-  pub read : Reading text p value next
-  pub above : p ≤ next
-  pub most : next ≤ p + 4
-
 module _ (text : List ℕ) (p : ℕ) where
   pub few-start : p ≤ length text → FewAt text p 0 p
   few-start h = record { read = number-start text p h; above = omega arith; most = omega arith }
 
-  pub few-more : (value i more next : ℕ) → FewAt text p value i → i < p + 4 → i < length text → isDigit (getD text i 0) ≡ true → more ≡ least (value * 10 + (getD text i 0 - 48)) → next ≡ i + 1 → FewAt text p more next
+  pub few-more : (value i more next : ℕ) → FewAt text p value i → i < p + 4 → i < length text → isDigit (getD text i 0) ≡ true → more ≡ cut (value * 10 + (getD text i 0 - 48)) → next ≡ i + 1 → FewAt text p more next
   few-more value i more next f m l h e n =
-      record { read = subst (Reading text p more) (sym n) (number-more text p value i (f .read) more l h e); above = omega (arith, f .above); most = omega arith }
+      record { read = subst (DigitsRead text p more) (sym n) (number-more text p value i (f .read) more l h e); above = omega (arith, f .above); most = omega arith }
 
 -- ---- the line
 -- the byte is one digit: no blank, and the first of a number
@@ -45,12 +41,6 @@ module _ (text : List ℕ) (p value next : ℕ) (few : FewAt text p value next) 
   few-digit =
       let above : p < next = omega (arith, few .above, more) in
       digit-byte (isDigit (getD text p 0)) text p (omega (arith, l)) refl (few-number .there ∙ lt-ltb p next above)
-
--- whether such a line stands at p; then it is a line of two numbers, and a digit stands first
-pub record PlainAt (text : List ℕ) (p : ℕ) (formed : Bool) (first second next : ℕ) : Type 0 where
-  pub inside : formed ≡ true → p < length text
-  pub digit : formed ≡ true → isDigit (getD text p 0) ≡ true
-  pub pair : formed ≡ true → PairAt text p true first second next
 
 pub plain-not : (text : List ℕ) (p : ℕ) (formed : Bool) (first second next : ℕ) → formed ≡ false → PlainAt text p formed first second next
 plain-not text p formed first second next h =
@@ -75,21 +65,21 @@ module _ (text : List ℕ) (p a mid b last : ℕ) (room : p + 10 ≤ length text
   second-digit : isDigit (getD text (mid + 1) 0) ≡ true
   second-digit = few-digit text (mid + 1) b last y later last-in (not-digit _ (inr end))
 
-  no-blanks : Skipped blank text p p
-  no-blanks = skip-stop blank text p p (skip-start blank text p (omega (arith, room))) (omega (arith, room)) (digit-inked _ first-digit)
+  no-blanks : Skipped isBlank text p p
+  no-blanks = skip-stop isBlank text p p (skip-start isBlank text p (omega (arith, room))) (omega (arith, room)) (digit-inked _ first-digit)
 
-  one-blank : Skipped blank text mid (mid + 1)
-  unfolding blank
+  one-blank : Skipped isBlank text mid (mid + 1)
+  unfolding isBlank
   one-blank =
-      let gap-blank : blank (getD text mid 0) ≡ true = rw gap in
+      let gap-blank : isBlank (getD text mid 0) ≡ true = rw gap in
       let next-in : mid + 1 < length text = omega (arith, x .most, room) in
-      skip-stop blank text mid (mid + 1) (skip-more blank text mid mid (skip-start blank text mid (omega (arith, mid-in))) mid-in gap-blank) next-in (digit-inked _ second-digit)
+      skip-stop isBlank text mid (mid + 1) (skip-more isBlank text mid mid (skip-start isBlank text mid (omega (arith, mid-in))) mid-in gap-blank) next-in (digit-inked _ second-digit)
 
-  none-behind : Skipped blank text last last
-  unfolding blank
+  none-behind : Skipped isBlank text last last
+  unfolding isBlank
   none-behind =
-      let end-other : blank (getD text last 0) ≡ false = rw end in
-      skip-stop blank text last last (skip-start blank text last (omega (arith, last-in))) last-in end-other
+      let end-other : isBlank (getD text last 0) ≡ false = rw end in
+      skip-stop isBlank text last last (skip-start isBlank text last (omega (arith, last-in))) last-in end-other
 
   first-field : FieldAt text p true a mid
   first-field =

@@ -1,0 +1,6 @@
+pub mod CutLaws
+pub mod HeaderLaws
+pub mod OverwriteLaws
+pub mod EntryLaws
+pub mod StoreLaws
+pub mod ReaderLaws
