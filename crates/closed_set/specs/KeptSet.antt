@@ -103,10 +103,3 @@ module _ {n : ℕ} {starts rows : List ℕ} (nz : ℕ → Bool) (S : Starts n st
             colStart-next n m,
             upto m (omega arith),
           )
-
--- equal kept positions give equal counts
-pub factorPairs-cong : {n : ℕ} {starts rows starts′ rows′ : List ℕ} (nz nz′ : ℕ → Bool) → Starts n starts rows → Sorted n starts rows
-    → Starts n starts′ rows′ → Sorted n starts′ rows′
-    → SameKept n starts rows nz starts′ rows′ nz′ → factorPairs starts rows nz n ≡ factorPairs starts′ rows′ nz′ n
-factorPairs-cong {n} nz nz′ S R S′ R′ same =
-    factorPairs-size nz S R ∙ setSize-cong n _ _ (λ r c h l. same r c (omega arith)) ∙ sym (factorPairs-size nz′ S′ R′)

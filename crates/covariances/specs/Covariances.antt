@@ -9,7 +9,7 @@ use lib.ListN.{length}
 use lib.Ieee.{Float}
 use borrow.Author.Tests.{ltb-false, leb-false, eqb-true, not-false}
 use Rattle.lists.specs.Test.{any-below}
-use Rattle.refusal.specs.Bounds.{maxEntries}
+use Rattle.refusal.specs.Bounds.{maxEntries, outputSteps}
 use Rattle.refusal.specs.Steps.{Step, Passed, passed-clear, passed-front, passed-back}
 use Rattle.refusal.specs.Groups.{grouped, AllPassed, groups-passed}
 use Rattle.columns.specs.Columns.{FactorLists, factorLists, outsideAt, outside, boundSteps}
@@ -74,10 +74,6 @@ module _ (x : CovarianceCall) where
   operatorsSteps =
       operatorSteps (x .factor .n) (x .a .rowStarts) (x .a .columns) (length (x .a .weights)) ++ (operatorSteps (x .factor .n) (x .b .rowStarts) (x .b .columns) (length (x .b .weights)) ++ rowSteps)
 
-  -- 7: an output below the number of row pairs
-  abbrev pub outputSteps : ℕ → List Step
-  outputSteps output = (7, ltb output (length (x .aRows))) ∷ []
-
   -- refusals 1; 2, 3, 18; 4; 9; 6, 7; 7 of an output of that length
   abbrev pub covarianceGroups : Room → ℕ → List (List Step)
   covarianceGroups lengths output =
@@ -86,7 +82,7 @@ module _ (x : CovarianceCall) where
       ∷ countSteps
       ∷ operatorsSteps
       ∷ fillSteps (x .factor) (defaultLimit (x .factor .rows)) lengths
-      ∷ outputSteps output
+      ∷ outputSteps (length (x .aRows)) output
       ∷ []
 
   unfoldable pub covarianceSteps : Room → ℕ → List Step
@@ -141,5 +137,5 @@ module _ (x : CovarianceCall) (lengths : Room) (output : ℕ) (p : Passed (covar
       record {
         accepted = fill-accepted (covarianceSelection x) lengths B (passed .1 .0) (crossRequested-ranged O) (passed .1 .1 .1 .1 .0);
         operators = O;
-        room = ltb-false _ _ (passed-clear (outputSteps x output) (passed .1 .1 .1 .1 .1 .0) .0);
+        room = ltb-false _ _ (passed-clear (outputSteps (length (x .aRows)) output) (passed .1 .1 .1 .1 .1 .0) .0);
       }

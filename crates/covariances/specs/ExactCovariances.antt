@@ -27,7 +27,7 @@ use Rattle.diagnostics.specs.Selected.{selectedReplyOf}
 use Rattle.selection.specs.Selection.{Selection, Lent, roomOf, selectedAnswer, selectedTable, ResultLists, fillingOf}
 use Rattle.exact_entries.specs.ExactEntries.{ExactCall, ReadsBack, exact-entries, exact-either, exact-symmetric}
 use Rattle.request_marks.specs.CrossRequests.{cross-requested}
-use Rattle.quadratic_form.specs.RowValue.{columnAt, operatorsValue, operatorsValues}
+use Rattle.quadratic_form.specs.RowValue.{termColumn, operatorsValue, operatorsValues}
 use Rattle.quadratic_form.specs.ExactCross.{bilinear, bilinear-exchanged, RowsWithin, crossValue-exact}
 use Rattle.operator_values.specs.Output.{outputAfter, after-complete}
 use Rattle.covariances.specs.Covariances.{Operator, CovarianceCall, covarianceSelection, covarianceSteps, covarianceValues, Covariances}
@@ -55,14 +55,14 @@ module _ (x : CovarianceCall) where
   -- wᵀXv of row pair p, whose rows have the whole weights v and u
   abbrev pub exactCovariance : (ℕ → ℤ) → (ℕ → ℤ) → Matrix → ℕ → ℤ
   exactCovariance v u X p =
-      bilinear (columnAt (x .a .columns)) (columnAt (x .b .columns)) v u X
+      bilinear (termColumn (x .a .columns)) (termColumn (x .b .columns)) v u X
       (firstPlace (x .a) (aRow p)) (placeCount (x .a) (aRow p)) (firstPlace (x .b) (bRow p)) (placeCount (x .b) (bRow p))
 
   -- row pair p has the whole weights v and u, and no weight product, product with an entry or running sum is beyond 2 ^ 53
   pub record ExactPair (v u : ℕ → ℤ) (X : Matrix) (p : ℕ) : Type 0 where
     pub first : (i : ℕ) → i < placeCount (x .a) (aRow p) → Whole (value (x .a .weights) (firstPlace (x .a) (aRow p) + i)) (v (firstPlace (x .a) (aRow p) + i))
     pub second : (j : ℕ) → j < placeCount (x .b) (bRow p) → Whole (value (x .b .weights) (firstPlace (x .b) (bRow p) + j)) (u (firstPlace (x .b) (bRow p) + j))
-    pub within : RowsWithin (columnAt (x .a .columns)) (columnAt (x .b .columns)) v u X
+    pub within : RowsWithin (termColumn (x .a .columns)) (termColumn (x .b .columns)) v u X
         (firstPlace (x .a) (aRow p)) (placeCount (x .a) (aRow p)) (firstPlace (x .b) (bRow p)) (placeCount (x .b) (bRow p))
 
   -- X is what reads back, and wᵀXv what the output holds for each row pair in the exact case
@@ -83,11 +83,11 @@ module _ (x : CovarianceCall) (lent : Lent) (output : List Float) (passed : Pass
   A = covariance-accepted x (roomOf lent) (length output) passed
 
   entry : (p : ℕ) → p < length (x .aRows) → (i j : ℕ) → i < placeCount (x .a) (aRow x p) → j < placeCount (x .b) (bRow x p)
-      → Whole (Rattle.takahashi.specs.Recurrence.at (selectedTable sel) (columnAt (x .a .columns) (firstPlace (x .a) (aRow x p) + i)) (columnAt (x .b .columns) (firstPlace (x .b) (bRow x p) + j)))
-      (X (columnAt (x .a .columns) (firstPlace (x .a) (aRow x p) + i)) (columnAt (x .b .columns) (firstPlace (x .b) (bRow x p) + j)))
+      → Whole (Rattle.takahashi.specs.Recurrence.at (selectedTable sel) (termColumn (x .a .columns) (firstPlace (x .a) (aRow x p) + i)) (termColumn (x .b .columns) (firstPlace (x .b) (bRow x p) + j)))
+      (X (termColumn (x .a .columns) (firstPlace (x .a) (aRow x p) + i)) (termColumn (x .b .columns) (firstPlace (x .b) (bRow x p) + j)))
   entry p l i j hi hj =
-      exact-either sel lent (A .accepted) whole E X is (columnAt (x .a .columns) (firstPlace (x .a) (aRow x p) + i))
-      (columnAt (x .b .columns) (firstPlace (x .b) (bRow x p) + j))
+      exact-either sel lent (A .accepted) whole E X is (termColumn (x .a .columns) (firstPlace (x .a) (aRow x p) + i))
+      (termColumn (x .b .columns) (firstPlace (x .b) (bRow x p) + j))
       (request
       (cross-requested (x .a .rowStarts) (x .a .columns) (x .b .rowStarts) (x .b .columns) (x .aRows) (x .bRows) p
       (firstPlace (x .a) (aRow x p) + i) (firstPlace (x .b) (bRow x p) + j) l (omega arith) (omega arith) (omega arith) (omega arith)))
@@ -110,7 +110,7 @@ module _ (x : CovarianceCall) (lent : Lent) (output : List Float) (passed : Pass
     reads = exact-entries sel lent (A .accepted) whole E X is steps passed L;
     covariances = λ e p l v u P.
         subst (λ (z : Float). Whole z (exactCovariance x v u X p)) (sym (pair-is e p l))
-        (crossValue-exact (columnAt (x .a .columns)) (columnAt (x .b .columns)) (value (x .a .weights)) (value (x .b .weights)) (selectedTable sel) v u X
+        (crossValue-exact (termColumn (x .a .columns)) (termColumn (x .b .columns)) (value (x .a .weights)) (value (x .b .weights)) (selectedTable sel) v u X
         (start (x .a .rowStarts) (aRow x p)) (start (x .a .rowStarts) (aRow x p + 1)) (start (x .b .rowStarts) (bRow x p)) (start (x .b .rowStarts) (bRow x p + 1))
         (record { first = P .first; second = P .second; entries = λ i j hi hj. entry p l i j hi hj }) (P .within));
   }
@@ -123,11 +123,11 @@ module _ (x : CovarianceCall) (lent : Lent) (output : List Float) (passed : Pass
       let b< = O .inside₂ p l in
       let a-end = starts-end (O .first .starts-rise) (aRow x p + 1) (omega arith) in
       let b-end = starts-end (O .second .starts-rise) (bRow x p + 1) (omega arith) in
-      bilinear-exchanged (columnAt (x .a .columns)) (columnAt (x .b .columns)) v u X
+      bilinear-exchanged (termColumn (x .a .columns)) (termColumn (x .b .columns)) v u X
       (firstPlace (x .a) (aRow x p)) (placeCount (x .a) (aRow x p)) (firstPlace (x .b) (bRow x p)) (placeCount (x .b) (bRow x p))
       (λ i j hi hj.
-      exact-symmetric sel lent (A .accepted) whole E X is (columnAt (x .a .columns) (firstPlace (x .a) (aRow x p) + i))
-      (columnAt (x .b .columns) (firstPlace (x .b) (bRow x p) + j))
+      exact-symmetric sel lent (A .accepted) whole E X is (termColumn (x .a .columns) (firstPlace (x .a) (aRow x p) + i))
+      (termColumn (x .b .columns) (firstPlace (x .b) (bRow x p) + j))
       (O .first .inside (firstPlace (x .a) (aRow x p) + i) (omega arith)) (O .second .inside (firstPlace (x .b) (bRow x p) + j) (omega arith)))
 
 -- ---- of a reply

@@ -34,18 +34,18 @@ module _ {n : ℕ} {starts rows : List ℕ} (values : List Float) (F : Factor n 
   abbrev rowsOf : List ℕ
   rowsOf = pattern starts rows (nonzero values) j
 
-  pub desc-at : (i : ℕ) → i < length (descPlaces starts rows (nonzero values) j) → getD rowsOf i 0 ≡ row rows (getD (descPlaces starts rows (nonzero values) j) i 0)
-  desc-at i l = pattern-at (nonzero values) (F .starts-rise) j h i (rw length-map l)
+  pub descendant-row : (i : ℕ) → i < length (descPlaces starts rows (nonzero values) j) → getD rowsOf i 0 ≡ row rows (getD (descPlaces starts rows (nonzero values) j) i 0)
+  descendant-row i l = pattern-at (nonzero values) (F .starts-rise) j h i (rw length-map l)
 
   -- their rows ascend
   pub desc-ascend : Ascend n (suc j) (desc starts rows values j)
   desc-ascend =
       ascend-places (entry rows values) n (suc j) (descPlaces starts rows (nonzero values) j)
       (λ i l. (
-        omega (arith, desc-at i l, pattern-above (nonzero values) (F .starts-rise) j h i (rw length-map l)),
-        omega (arith, desc-at i l, pattern-inside (nonzero values) (F .starts-rise) (F .rows-ascend) j h i (rw length-map l)),
+        omega (arith, descendant-row i l, pattern-above (nonzero values) (F .starts-rise) j h i (rw length-map l)),
+        omega (arith, descendant-row i l, pattern-inside (nonzero values) (F .starts-rise) (F .rows-ascend) j h i (rw length-map l)),
       ))
-      (λ i k m l. omega (arith, desc-at i (omega arith), desc-at k l, pattern-rises (nonzero values) (F .starts-rise) (F .rows-ascend) j h i k m (rw length-map l)))
+      (λ i k m l. omega (arith, descendant-row i (omega arith), descendant-row k l, pattern-rises (nonzero values) (F .starts-rise) (F .rows-ascend) j h i k m (rw length-map l)))
 
   -- they are rows of the triangle below column j
   pub desc-rows : Rows n j (desc starts rows values j)

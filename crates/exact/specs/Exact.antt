@@ -85,21 +85,21 @@ bounded-sums b = record {
 -- ---- f64's running sums are the exact ones
 module _ (s : ℕ) (sl : s ≤ low binary64) where
   -- x is p / 2 ^ (2 * s), and a multiple of 2 ^ -s
-  abbrev pub Stands : Float → ℤ → Type 0
-  Stands x p = (m : ℤ) × (m *ℤ pos (2 ^ s) ≡ p) × Multiple s x m
+  abbrev pub Represents : Float → ℤ → Type 0
+  Represents x p = (m : ℤ) × (m *ℤ pos (2 ^ s) ≡ p) × Multiple s x m
 
-  plus-exact : (x y : Float) (p q : ℤ) → Stands x p → Stands y q → Kept s (p +ℤ q) → Stands (add binary64 x y) (p +ℤ q)
+  plus-exact : (x y : Float) (p q : ℤ) → Represents x p → Represents y q → Kept s (p +ℤ q) → Represents (add binary64 x y) (p +ℤ q)
   plus-exact x y p q a b k =
       let e : (a .0 +ℤ b .0) *ℤ pos (2 ^ s) ≡ p +ℤ q = +ℤ-*ℤ (a .0) (b .0) (pos (2 ^ s)) ∙ ap₂ _+ℤ_ (a .1) (b .1) in
       let same : k .0 ≡ a .0 +ℤ b .0 = *ℤ-cancel-r (k .0) (a .0 +ℤ b .0) (pos (2 ^ s)) (unit-nonzero s) (k .1 ∙ sym e) in
       (a .0 +ℤ b .0, e, multiple-add s sl x y (a .0) (b .0) (a .2) (b .2) (subst Small same (k .2)))
 
-  times-exact : (x y : Float) (a b : ℤ) → Multiple s x a → Multiple s y b → Kept s (a *ℤ b) → Stands (mul binary64 x y) (a *ℤ b)
+  times-exact : (x y : Float) (a b : ℤ) → Multiple s x a → Multiple s y b → Kept s (a *ℤ b) → Represents (mul binary64 x y) (a *ℤ b)
   times-exact x y a b p q k = (k .0, k .1, multiple-mul s sl x y a b (k .0) p q (sym (k .1)) (k .2))
 
   run-exact : (r : ℕ → Float) (z : ℕ → ℤ) (x : Float) (p : ℤ) (fs : List (Entry Float)) (es : List (Entry ℤ)) → Alike s fs es
-      → Each (λ k. Multiple s (r k) (z k)) es → Products (Kept s) z es → RunningSums (Kept s) z p es → Stands x p
-      → Stands (run floats r x fs) (run integers z p es)
+      → Each (λ k. Multiple s (r k) (z k)) es → Products (Kept s) z es → RunningSums (Kept s) z p es → Represents x p
+      → Represents (run floats r x fs) (run integers z p es)
   run-exact r z x p [] [] al h ps ss v = v
   run-exact r z x p [] (e ∷ es) al h ps ss v = absurd al
   run-exact r z x p (f ∷ fs) [] al h ps ss v = absurd al
@@ -107,20 +107,20 @@ module _ (s : ℕ) (sl : s ≤ low binary64) where
       let y = mul binary64 (f .value) (r (f .row)) in
       let b = e .value *ℤ z (e .row) in
       let m : Multiple s (r (f .row)) (z (e .row)) = subst (λ (k : ℕ). Multiple s (r k) (z (e .row))) (sym (al .0)) (h .0) in
-      let t : Stands y b = times-exact (f .value) (r (f .row)) (e .value) (z (e .row)) (al .1) m (ps .0) in
+      let t : Represents y b = times-exact (f .value) (r (f .row)) (e .value) (z (e .row)) (al .1) m (ps .0) in
       run-exact r z (add binary64 x y) (p +ℤ b) fs es (al .2) (h .1) (ps .1) (ss .1) (plus-exact x y p b v t (ss .0))
 
   dot-exact : (r : ℕ → Float) (z : ℕ → ℤ) (fs : List (Entry Float)) (es : List (Entry ℤ)) → Alike s fs es
-      → Each (λ k. Multiple s (r k) (z k)) es → Products (Kept s) z es → RunningSums (Kept s) z (pos 0) es → Stands (dot floats r fs) (dot integers z es)
+      → Each (λ k. Multiple s (r k) (z k)) es → Products (Kept s) z es → RunningSums (Kept s) z (pos 0) es → Represents (dot floats r fs) (dot integers z es)
   dot-exact r z fs es al h ps ss = run-exact r z zero-float (pos 0) fs es al h ps ss (pos 0, zero-*ℤ (pos (2 ^ s)), multiple-zero s)
 
   -- ---- the last steps
-  off-exact : (d S : Float) (b p z : ℤ) → Multiple s d b → b ≢ pos 0 → Stands S p → z *ℤ b ≡ negℤ p → Small z → Multiple s (float-off d S) z
+  off-exact : (d S : Float) (b p z : ℤ) → Multiple s d b → b ≢ pos 0 → Represents S p → z *ℤ b ≡ negℤ p → Small z → Multiple s (float-off d S) z
   off-exact d S b p z hd b0 hs e h =
       multiple-div s sl (neg S) d (negℤ (hs .0)) b z (multiple-neg s sl S (hs .0) (hs .2)) hd b0
       (e ∙ ap negℤ (sym (hs .1)) ∙ sym (negℤ-*ℤ (hs .0) (pos (2 ^ s)))) h
 
-  on-exact : (d S : Float) (b p z : ℤ) → Multiple s d b → b ≢ pos 0 → Stands S p → Kept s (b *ℤ b)
+  on-exact : (d S : Float) (b p z : ℤ) → Multiple s d b → b ≢ pos 0 → Represents S p → Kept s (b *ℤ b)
       → ((r : ℤ) × (r *ℤ (b *ℤ b) ≡ pos (2 ^ s) *ℤ pos (2 ^ s) *ℤ pos (2 ^ s)) × Small r) → ((t : ℤ) × (t *ℤ b ≡ p) × Small t)
       → z *ℤ (b *ℤ b) ≡ pos (2 ^ s) *ℤ pos (2 ^ s) *ℤ pos (2 ^ s) -ℤ p *ℤ b → Small z → Multiple s (float-on d S) z
   on-exact d S b p z hd b0 hs k r t e h =
@@ -143,8 +143,8 @@ module _ (s : ℕ) (sl : s ≤ low binary64) where
   -- whatever the last steps `off` and `on` are, where these are exact
   pub last-steps-exact : (n : ℕ) (desc : ℕ → List (Entry ℤ)) (P : ℕ → ℕ → Type 0) (z : ℕ → ℕ → ℤ) → RecurrenceClosed n desc P → BoundedSums s desc P z
       → (off on : Float → Float → Float) (fdiag : ℕ → Float) (fdesc : ℕ → List (Entry Float)) → ((j : ℕ) → j < n → Alike s (fdesc j) (desc j))
-      → ((i j : ℕ) → P i j → j < i → (S : Float) → Stands S (dot integers (λ k. at z i k) (desc j)) → Multiple s (off (fdiag j) S) (z i j))
-      → ((j : ℕ) → P j j → (S : Float) → Stands S (dot integers (λ k. z k j) (desc j)) → Multiple s (on (fdiag j) S) (z j j))
+      → ((i j : ℕ) → P i j → j < i → (S : Float) → Represents S (dot integers (λ k. at z i k) (desc j)) → Multiple s (off (fdiag j) S) (z i j))
+      → ((j : ℕ) → P j j → (S : Float) → Represents S (dot integers (λ k. z k j) (desc j)) → Multiple s (on (fdiag j) S) (z j j))
       → (Z : ℕ → ℕ → Float) → Solves floats off on fdiag fdesc P Z → (i j : ℕ) → P i j → Multiple s (Z i j) (z i j)
   last-steps-exact n desc P z closed sums off on fdiag fdesc alike below diagonal Z solves =
       closed-induction n desc P closed (λ i j. Multiple s (Z i j) (z i j))

@@ -75,8 +75,8 @@ module _ (n : ℕ) (diag : ℕ → ℤ) (desc : ℕ → List (Entry ℤ)) where
     }
 
     -- a column's running sum with the diagonal's product is the sum over the whole column
-    pub factor-column : (j : ℕ) (r : ℕ → ℤ) → j < n → dot integers r (desc j) +ℤ diag j *ℤ r j ≡ Σℤ n (λ k. r k *ℤ factor diag desc k j)
-    factor-column j r jn =
+    pub factor-sum : (j : ℕ) (r : ℕ → ℤ) → j < n → dot integers r (desc j) +ℤ diag j *ℤ r j ≡ Σℤ n (λ k. r k *ℤ factor diag desc k j)
+    factor-sum j r jn =
         let none : find j (desc j) ≡ pos 0 = find-below n (suc j) j (desc j) (ascend j jn) (le-refl (suc j)) in
         ap (λ (x : ℤ). x +ℤ diag j *ℤ r j) (run-find n (suc j) r (pos 0) (desc j) (ascend j jn) ∙ +ℤ-idl (Σℤ n (λ k. find k (desc j) *ℤ r k)))
         ∙ +ℤ-comm (Σℤ n (λ k. find k (desc j) *ℤ r k)) (diag j *ℤ r j) ∙ sym (find-sum n r (record { row = j; value = diag j }) (desc j) jn none)

@@ -13,7 +13,7 @@ use Rattle.integers.specs.Inverse.{WholeInverse}
 use Rattle.takahashi.specs.Entries.{Entry, Ascend}
 use Rattle.takahashi.specs.Recurrence.{dot, at, RecurrenceClosed, Solves}
 use Rattle.exact.specs.Multiple.{Whole, Small, one-float, multiple-neg, multiple-sub, multiple-div}
-use Rattle.exact.specs.Exact.{integers, floats, Alike, Recurs, Bounded, bounded-sums, Stands, last-steps-exact}
+use Rattle.exact.specs.Exact.{integers, floats, Alike, Recurs, Bounded, bounded-sums, Represents, last-steps-exact}
 use Rattle.exact.specs.Factor.{factor}
 use Rattle.exact.specs.ExactCase.{ones, unit-table, WithinBound, unit-recurs, unit-bounded, whole-inverse}
 use Rattle.exact.specs.SelectedInverse.{recurs-inverse}
@@ -27,11 +27,11 @@ abbrev pub pivot-on : Float → Float → Float
 pivot-on d S = sub binary64 (div binary64 one-float d) S
 
 -- ---- the last steps where the pivot is 1
-off-one : (d S : Float) (p z : ℤ) → Stands 0 (lit≤ tt) S p → z *ℤ pos 1 ≡ negℤ p → Whole (pivot-off d S) z
+off-one : (d S : Float) (p z : ℤ) → Represents 0 (lit≤ tt) S p → z *ℤ pos 1 ≡ negℤ p → Whole (pivot-off d S) z
 off-one d S p z h e =
     subst (Whole (neg S)) (ap negℤ (sym (*ℤ-idr (h .0)) ∙ h .1) ∙ sym e ∙ *ℤ-idr z) (multiple-neg 0 (lit≤ tt) S (h .0) (h .2))
 
-on-one : (d S : Float) (p z : ℤ) → Whole d (pos 1) → Stands 0 (lit≤ tt) S p → z ≡ pos 1 -ℤ p → Small z → Whole (pivot-on d S) z
+on-one : (d S : Float) (p z : ℤ) → Whole d (pos 1) → Represents 0 (lit≤ tt) S p → z ≡ pos 1 -ℤ p → Small z → Whole (pivot-on d S) z
 on-one d S p z w h e small =
     let first : Whole (div binary64 one-float d) (pos 1) =
     multiple-div 0 (lit≤ tt) one-float d (pos 1) (pos 1) (pos 1) refl w (pos-nonzero 1 (zero-lt-suc 0)) refl (lit≤ tt) in

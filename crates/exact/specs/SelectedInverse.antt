@@ -15,7 +15,7 @@ use Rattle.integers.specs.Inverse.{Inverse, inverse-symmetric, inverse-below, i
 use Rattle.takahashi.specs.Entries.{Ascend}
 use Rattle.takahashi.specs.Recurrence.{Entry, Each, run, dot, at, at-sym, at-lower, RecurrenceClosed, closed-induction}
 use Rattle.exact.specs.Exact.{integers, Recurs}
-use Rattle.exact.specs.Factor.{factor, factor-diagonal, factor-triangular, factor-column}
+use Rattle.exact.specs.Factor.{factor, factor-diagonal, factor-triangular, factor-sum}
 
 -- a sum of products scales with the entries
 run-scale : (c q : ℤ) (z p : ℕ → ℤ) (a b : ℤ) (es : List (Entry ℤ)) → Each (λ k. z k *ℤ q ≡ c *ℤ p k) es → a *ℤ q ≡ c *ℤ b
@@ -79,7 +79,7 @@ module _ (n : ℕ) (c : ℤ) (c0 : c ≢ pos 0) (diag : ℕ → ℤ) (desc : ℕ
   -- the sum over P's entries, with the diagonal's product
   column : (i j : ℕ) (r : ℕ → ℤ) → j < n → ((k : ℕ) → k < n → r k ≡ P i k) → dot integers r (desc j) +ℤ diag j *ℤ P i j ≡ product n P (factor diag desc) i j
   column i j r jn e =
-      ap (λ (x : ℤ). dot integers r (desc j) +ℤ diag j *ℤ x) (sym (e j jn)) ∙ factor-column n diag desc ascend j r jn
+      ap (λ (x : ℤ). dot integers r (desc j) +ℤ diag j *ℤ x) (sym (e j jn)) ∙ factor-sum n diag desc ascend j r jn
       ∙ sum-cong n (λ k. r k *ℤ factor diag desc k j) (λ k. P i k *ℤ factor diag desc k j) (λ k kn. ap (λ (x : ℤ). x *ℤ factor diag desc k j) (e k kn))
 
   below-zero : (i j : ℕ) → j < i → i < n → dot integers (λ k. at P i k) (desc j) +ℤ diag j *ℤ P i j ≡ pos 0

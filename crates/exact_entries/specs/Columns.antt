@@ -11,7 +11,7 @@ use lib.ListN.{length, getD, length-map}
 use lib.Ieee.{Float}
 use Rattle.columns.specs.Kept.{nonzero, entry, descPlaces, desc, pattern}
 use Rattle.columns.specs.Factor.{Factor}
-use Rattle.entries.specs.Descendants.{desc-at}
+use Rattle.entries.specs.Descendants.{descendant-row}
 use Rattle.closed_set.specs.ClosedSet.{Needed, dependency, needed-range, Pattern, Ranged, descends, descends-at}
 use Rattle.takahashi.specs.Entries.{Entry, Each, Ascend, each-map, ascend-rows}
 use Rattle.takahashi.specs.Recurrence.{RecurrenceClosed}
@@ -42,7 +42,7 @@ module _ {n : ℕ} {starts rows : List ℕ} (values : List Float) (F : Factor n 
   desc-descends =
       each-places (entry rows values) (λ k. descends (pattern starts rows (nonzero values)) j k ≡ true) (descPlaces starts rows (nonzero values) j)
       (λ i l.
-      subst (λ (k : ℕ). descends (pattern starts rows (nonzero values)) j k ≡ true) (desc-at values F j h i l)
+      subst (λ (k : ℕ). descends (pattern starts rows (nonzero values)) j k ≡ true) (descendant-row values F j h i l)
       (descends-at (pattern starts rows (nonzero values)) j i (rw length-map l)))
 
 -- ---- the closed set is closed for the recurrence over entries of the same rows

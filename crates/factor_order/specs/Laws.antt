@@ -20,7 +20,7 @@ use Rattle.lists.specs.Tabulate.{tabulate, tabulate-length, tabulate-at, tabula
 use Rattle.lists.specs.Overwrite.{overwrite, overwrite-length, overwrite-at, overwrite-past}
 use Rattle.refusal.specs.Bounds.{maxDimension}
 use Rattle.refusal.specs.Steps.{Step, each, Passed, Clear, passed-clear, clear-passed, passed-append, passed-front, passed-back, each-passed, passed-each, first-end}
-use Rattle.factor_order.specs.Permutation.{index, among, indexSteps, inverseSteps, elementSteps, permutationSteps, acceptSteps, markedSteps, longStep, roomStep, placeOf, inverseOf, reordered, Permutation}
+use Rattle.factor_order.specs.Permutation.{index, among, indexSteps, inverseSteps, elementSteps, permutationSteps, acceptSteps, markedSteps, longStep, roomStep, indexPlace, inverseOf, reordered, Permutation}
 
 -- ---- passing 10 and 11
 
@@ -121,27 +121,27 @@ permutation-distinct P = record {
 
 module _ {perm : List ℕ} (P : Permutation perm) where
   -- an element stands at its own place
-  pub placeOf-index : (i : ℕ) → i < length perm → placeOf perm (index perm i) ≡ i
+  pub placeOf-index : (i : ℕ) → i < length perm → indexPlace perm (index perm i) ≡ i
   placeOf-index i l =
       placeFrom-at perm (index perm i) 0 (length perm) i (omega arith) (omega arith) refl
       (λ j a b e. let q = P .distinct j i (omega arith) l e in omega arith)
 
   -- and there is an element at an index's place
-  pub index-placeOf : (k : ℕ) → k < length perm → (placeOf perm k < length perm) × (index perm (placeOf perm k) ≡ k)
+  pub index-placeOf : (k : ℕ) → k < length perm → (indexPlace perm k < length perm) × (index perm (indexPlace perm k) ≡ k)
   index-placeOf k l =
       let w = P .onto k l in
-      let q : placeOf perm k ≡ w .0 = ap (placeOf perm) (sym (w .2)) ∙ placeOf-index (w .0) (w .1) in
+      let q : indexPlace perm k ≡ w .0 = ap (indexPlace perm) (sym (w .2)) ∙ placeOf-index (w .0) (w .1) in
       (subst (λ (m : ℕ). m < length perm) (sym q) (w .1), ap (index perm) q ∙ w .2)
 
 -- ---- the inverse
 
 pub inverseOf-length : (perm : List ℕ) → length (inverseOf perm) ≡ length perm
 unfolding inverseOf
-inverseOf-length perm = tabulate-length (placeOf perm) (length perm)
+inverseOf-length perm = tabulate-length (indexPlace perm) (length perm)
 
-pub inverseOf-at : (perm : List ℕ) (k : ℕ) → k < length perm → index (inverseOf perm) k ≡ placeOf perm k
+pub inverseOf-at : (perm : List ℕ) (k : ℕ) → k < length perm → index (inverseOf perm) k ≡ indexPlace perm k
 unfolding inverseOf
-inverseOf-at perm k l = tabulate-at (placeOf perm) (length perm) k 0 l
+inverseOf-at perm k l = tabulate-at (indexPlace perm) (length perm) k 0 l
 
 module _ {perm : List ℕ} (P : Permutation perm) where
   -- the inverse list undoes the permutation
@@ -283,7 +283,7 @@ module _ {perm : List ℕ} (P : Permutation perm) (old : List ℕ) (room : lengt
       (λ k l. elim (decLt k (length perm)) [
         | yes a ↦
             ap (index (storedTo perm old (length perm))) (sym (index-placeOf P k a .1))
-            ∙ stored-at (length perm) (placeOf perm k) (omega arith) (index-placeOf P k a .0)
+            ∙ stored-at (length perm) (indexPlace perm k) (omega arith) (index-placeOf P k a .0)
             ∙ sym (overwrite-at (inverseOf perm) old k 0 (omega (arith, inverseOf-length perm)) ∙ inverseOf-at perm k a)
         | no a ↦
             stored-past (length perm) k (omega arith) (omega arith)

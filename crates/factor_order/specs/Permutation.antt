@@ -77,12 +77,12 @@ markedSteps perm input marks room marksRoom =
     ∷ (acceptSteps perm room ++ roomStep perm marksRoom ∷ [])
 
 -- where x stands in the list
-abbrev pub placeOf : List ℕ → ℕ → ℕ
-placeOf perm x = placeFrom perm x 0 (length perm)
+abbrev pub indexPlace : List ℕ → ℕ → ℕ
+indexPlace perm x = placeFrom perm x 0 (length perm)
 
 -- the inverse list: where 0 stands, where 1 stands, ..
 unfoldable pub inverseOf : List ℕ → List ℕ
-inverseOf perm = tabulate (placeOf perm) (length perm)
+inverseOf perm = tabulate (indexPlace perm) (length perm)
 
 -- the list in original order: element i is that at perm i; `blank` stands for what lies past the end of a list
 unfoldable pub reordered : {A : Type 0} → A → List ℕ → List A → List A

@@ -25,7 +25,7 @@ use Rattle.columns.specs.Pattern.{keptPair-diagonal}
 use Rattle.closed_set.specs.ClosedSet.{Closed, descends-at}
 use Rattle.entries.specs.Entries.{columnCount, entryStarts, entryRows, entryValues, entryStarts-length, entryRows-length}
 use Rattle.takahashi.specs.Recurrence.{Entry}
-use Rattle.scatter.specs.Scatter.{blank, rowAt, ClosedPattern, Laid, columnOf, columnsOf}
+use Rattle.scatter.specs.Scatter.{blank, rowAt, ClosedPattern, Laid, columnValues, columnsValues}
 
 -- ---- lists of cells
 module _ (S : ℕ → ℕ → Bool) (lo hi : ℕ → ℕ) {A : Type 0} (f : ℕ → ℕ → A) (d : A) where
@@ -138,18 +138,18 @@ module _ (n : ℕ) (starts rows : List ℕ) (values : List Float) (F : Factor n 
   column-size c h = ap length (column-kept c h) ∙ ap suc (sym (desc-length c))
 
   -- the values of a table at the kept pairs are its columns read at the pattern
-  pub kept-values : (Z : ℕ → ℕ → Float) → columnsOf Z (desc starts rows values) n ≡ entryValues n K Z
-  unfolding columnsOf cells
+  pub kept-values : (Z : ℕ → ℕ → Float) → columnsValues Z (desc starts rows values) n ≡ entryValues n K Z
+  unfolding columnsValues cells
   kept-values Z = go n (le-refl n)
     where
-      column : (c : ℕ) → c < n → columnOf Z (desc starts rows values) c ≡ map (λ r. Z r c) (select (byColumn K c) c n)
+      column : (c : ℕ) → c < n → columnValues Z (desc starts rows values) c ≡ map (λ r. Z r c) (select (byColumn K c) c n)
       column c h =
           ap (λ (l : List Float). Z c c ∷ l)
           (sym (ap (map (λ r. Z r c)) (sym (desc-pattern starts rows values c))
           ∙ map-map (λ r. Z r c) (λ (e : Entry Float). e .row) (desc starts rows values c)))
           ∙ ap (map (λ r. Z r c)) (sym (column-kept c h))
 
-      go : (k : ℕ) → k ≤ n → columnsOf Z (desc starts rows values) k ≡ cells (byColumn K) columnFirst (columnEnd n) (λ c r. Z r c) k
+      go : (k : ℕ) → k ≤ n → columnsValues Z (desc starts rows values) k ≡ cells (byColumn K) columnFirst (columnEnd n) (λ c r. Z r c) k
       go zero h = refl
       go (suc k) h = ap₂ (λ (a b : List Float). a ++ b) (go k (le-of-lt h)) (column k h)
 

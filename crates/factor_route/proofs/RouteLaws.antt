@@ -20,8 +20,8 @@ use Rattle.exact.specs.Multiple.{zero-float}
 use Rattle.scatter.specs.Scatter.{weigh, clear, unmarks, Between, stepped, ClosedPattern, Laid, Known, Filled}
 use Rattle.scatter.specs.Marks.{weigh-long, marks-marked, unmarks-empties}
 use Rattle.scatter.specs.ClosedPattern.{degree, degree-small, width, next-le}
-use Rattle.scatter.specs.Column.{cleared, column-right}
-use Rattle.scatter.specs.Values.{filled-none, filled-next, filled-end}
+use Rattle.scatter.specs.Column.{sums-cleared, column-right}
+use Rattle.scatter.specs.Values.{columns-none, columns-next, filled-end}
 use Rattle.factor_route.specs.ColumnMarks.{descBetween, ColumnMarked, Stored}
 use Rattle.factor_route.specs.Walk.{DescendantsMarked, Walk, ValuesEnough, ColumnsAre, Scattered}
 use Rattle.factor_route.proofs.PatternLaws.{kept-pattern, kept-values, kept-laid, kept-size}
@@ -164,7 +164,7 @@ module _ {n : ℕ} {starts rows : List ℕ} {values : List Float} {es er : List 
               (subst (λ (l : List Float). Between floats nan (floatTable n starts rows values) er (getD es j 0 + 1) (length (desc starts rows values j))
               (weigh nan (desc starts rows values j) weights (length (desc starts rows values j))) 0 l)
               (sym (M .sums-is ∙ ap (clear zero-float sums) mM))
-              (cleared floats float-off float-on nan n (desc starts rows values) P es er L (diag starts rows values) j jn weights (W .weights-long) sums
+              (sums-cleared floats float-off float-on nan n (desc starts rows values) P es er L (diag starts rows values) j jn weights (W .weights-long) sums
               (W .sums-long)))
 
           long : length (take (getD es (j + 1) 0 - getD es j 0) (drop (getD es j 0) v)) ≡ suc (length (desc starts rows values j))
@@ -179,7 +179,7 @@ module _ {n : ℕ} {starts rows : List ℕ} {values : List Float} {es er : List 
     room-old = omega (arith, filled-room)
 
     pub route-none : Done n starts rows values es er old n old
-    route-none = filled-none nan n (desc starts rows values) es er L (floatTable n starts rows values) old room-old
+    route-none = columns-none nan n (desc starts rows values) es er L (floatTable n starts rows values) old room-old
 
     -- where the loop turns
     pub route-turn : (j : ℕ) (v : List Float) → 0 < j → Done n starts rows values es er old j v → Done n starts rows values es er old (j - 1 + 1) v
@@ -191,7 +191,7 @@ module _ {n : ℕ} {starts rows : List ℕ} {values : List Float} {es er : List 
         → ColumnWritten n starts rows values es j v v′ marker weights sums → Done n starts rows values es er old j v′
     route-next j v v′ marker weights sums jn F D =
         subst (λ (l : List Float). Done n starts rows values es er old j l) (sym (D .values-are))
-        (filled-next nan n (desc starts rows values) es er L (floatTable n starts rows values) old room-old j v jn F)
+        (columns-next nan n (desc starts rows values) es er L (floatTable n starts rows values) old room-old j v jn F)
 
     pub route-end : (j : ℕ) (v : List Float) → j ≡ 0 → Done n starts rows values es er old j v
         → v ≡ overwrite (entryValues n (keptPair starts rows (nonzero values)) (floatTable n starts rows values)) old

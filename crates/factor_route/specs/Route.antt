@@ -13,7 +13,7 @@ use Rattle.columns.specs.Factor.{Factor}
 use Rattle.columns.specs.Diagonal.{Diagonals}
 use Rattle.closed_set.specs.ClosedSet.{Closed}
 use Rattle.entries.specs.Entries.{entryStarts, entryRows, floatTable}
-use Rattle.scatter.specs.Scatter.{columnOf}
+use Rattle.scatter.specs.Scatter.{columnValues}
 use Rattle.scatter.specs.Marks.{empties}
 
 -- an accepted factor whose kept pattern is closed, the starts and rows of the result over that pattern at the front of their lists, and room for
@@ -34,11 +34,11 @@ pub record WorkRows (marker : List ℕ) (weights sums : List Float) : Type 0 whe
   pub sums-long : length sums ≡ maxDimension
 
 -- column j of the recurrence
-abbrev pub columnAt : ℕ → List ℕ → List ℕ → List Float → ℕ → List Float
-columnAt n starts rows values j = columnOf (floatTable n starts rows values) (desc starts rows values) j
+abbrev pub tableColumn : ℕ → List ℕ → List ℕ → List Float → ℕ → List Float
+tableColumn n starts rows values j = columnValues (floatTable n starts rows values) (desc starts rows values) j
 
 -- after column j: it is written, and the work rows are at rest
 pub record ColumnWritten (n : ℕ) (starts rows : List ℕ) (values : List Float) (es : List ℕ) (j : ℕ) (v v′ : List Float)
     (marker : List ℕ) (weights sums : List Float) : Type 0 where
   pub rest : WorkRows marker weights sums
-  pub values-are : v′ ≡ splice (getD es j 0) (columnAt n starts rows values j) v
+  pub values-are : v′ ≡ splice (getD es j 0) (tableColumn n starts rows values j) v

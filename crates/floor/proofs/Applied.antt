@@ -11,13 +11,13 @@ use Rattle.lists.specs.Sum.{bit}
 use Rattle.lists.specs.Select.{tally, tally-none, tally-next}
 use Rattle.lists.specs.Overwrite.{overwrite, filled, filled-none, filled-more}
 use Rattle.columns.specs.Columns.{value}
-use Rattle.floor.specs.Floored.{raised, floored, hit, floorHits}
+use Rattle.floor.specs.Floored.{flooredValue, floored, hit, floorHits}
 
 -- after the first i values
 pub record Applied (floor : Float) (values old output : List Float) (hits i : ℕ) : Type 0 where
   pub within : i ≤ length values
   pub long : length output ≡ length old
-  pub listed : output ≡ filled (λ k. raised floor (value values k)) i old
+  pub listed : output ≡ filled (λ k. flooredValue floor (value values k)) i old
   pub counted : hits ≡ tally (hit floor values) 0 i
 
 module _ (floor : Float) (values old : List Float) where
@@ -36,8 +36,8 @@ module _ (floor : Float) (values old : List Float) where
       within = omega arith;
       long = length-set output i new ∙ A .long;
       listed = ap (set output i) (p ∙ rw e)
-          ∙ ap (λ (x : List Float). set x i (raised floor (value values i))) (A .listed)
-          ∙ filled-more (λ k. raised floor (value values k)) old i (omega arith);
+          ∙ ap (λ (x : List Float). set x i (flooredValue floor (value values i))) (A .listed)
+          ∙ filled-more (λ k. flooredValue floor (value values k)) old i (omega arith);
       counted = q ∙ ap (λ (n : ℕ). n + bit (not b)) (A .counted) ∙ ap (λ (d : Bool). tally (hit floor values) 0 i + bit (not d)) (sym e)
           ∙ sym (tally-next (hit floor values) 0 i (omega arith));
     }
@@ -56,5 +56,5 @@ module _ (floor : Float) (values old : List Float) where
   applied-all {output} {hits} {i} A l =
       let e : i ≡ length values = let w = A .within in omega arith in (
         A .counted ∙ ap (tally (hit floor values) 0) e,
-        A .listed ∙ ap (λ (k : ℕ). filled (λ k. raised floor (value values k)) k old) e,
+        A .listed ∙ ap (λ (k : ℕ). filled (λ k. flooredValue floor (value values k)) k old) e,
       )

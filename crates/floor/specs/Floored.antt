@@ -10,12 +10,12 @@ use Rattle.lists.specs.Tabulate.{tabulate}
 use Rattle.columns.specs.Columns.{value}
 
 -- x where it is above the floor, else the floor
-abbrev pub raised : Float → Float → Float
-raised floor x = cond (lt floor x) x floor
+abbrev pub flooredValue : Float → Float → Float
+flooredValue floor x = cond (lt floor x) x floor
 
 -- each value, raised to the floor
 abbrev pub floored : Float → List Float → List Float
-floored floor values = tabulate (λ i. raised floor (value values i)) (length values)
+floored floor values = tabulate (λ i. flooredValue floor (value values i)) (length values)
 
 -- the value at i is not above the floor
 abbrev pub hit : Float → List Float → ℕ → Bool

@@ -15,21 +15,21 @@ use Rattle.lists.specs.Select.{tally, tally-none, tally-next, select, select-at
 use Rattle.lists.specs.Tabulate.{tabulate-length, tabulate-at}
 use Rattle.columns.specs.Columns.{value}
 use Rattle.float_order.specs.Order.{lt-irreflexive, lt-asymmetric}
-use Rattle.floor.specs.Floored.{raised, floored, hit, floorHits}
+use Rattle.floor.specs.Floored.{flooredValue, floored, hit, floorHits}
 
 -- ---- one value
 
 -- above the floor it stays
-pub raised-above : (floor x : Float) → lt floor x ≡ true → raised floor x ≡ x
-raised-above floor x e = rw e
+pub flooredValue-above : (floor x : Float) → lt floor x ≡ true → flooredValue floor x ≡ x
+flooredValue-above floor x e = rw e
 
 -- and else becomes the floor
-pub raised-hit : (floor x : Float) → lt floor x ≡ false → raised floor x ≡ floor
-raised-hit floor x e = rw e
+pub flooredValue-hit : (floor x : Float) → lt floor x ≡ false → flooredValue floor x ≡ floor
+flooredValue-hit floor x e = rw e
 
 -- so it is never below the floor
-pub raised-not-below : (floor x : Float) → lt (raised floor x) floor ≡ false
-raised-not-below floor x = go (lt floor x) refl
+pub flooredValue-not-below : (floor x : Float) → lt (flooredValue floor x) floor ≡ false
+flooredValue-not-below floor x = go (lt floor x) refl
   where
     go : (b : Bool) → lt floor x ≡ b → lt (cond b x floor) floor ≡ false
     go true e = lt-asymmetric floor x e
@@ -58,7 +58,7 @@ module _ (floor : Float) (values : List Float) where
   pub floored-length : length (floored floor values) ≡ length values
   floored-length = tabulate-length _ (length values)
 
-  pub floored-at : (i : ℕ) → i < length values → value (floored floor values) i ≡ raised floor (value values i)
+  pub floored-at : (i : ℕ) → i < length values → value (floored floor values) i ≡ flooredValue floor (value values i)
   floored-at i l = tabulate-at _ (length values) i _ l
 
   -- each value left is the value lent, or the floor
@@ -66,12 +66,12 @@ module _ (floor : Float) (values : List Float) where
   floored-either i l = go (lt floor (value values i)) refl
     where
       go : (b : Bool) → lt floor (value values i) ≡ b → (value (floored floor values) i ≡ value values i) ⊎ (value (floored floor values) i ≡ floor)
-      go true e = inl (floored-at i l ∙ raised-above floor (value values i) e)
-      go false e = inr (floored-at i l ∙ raised-hit floor (value values i) e)
+      go true e = inl (floored-at i l ∙ flooredValue-above floor (value values i) e)
+      go false e = inr (floored-at i l ∙ flooredValue-hit floor (value values i) e)
 
   -- none is below the floor
   pub floored-not-below : (i : ℕ) → i < length values → lt (value (floored floor values) i) floor ≡ false
-  floored-not-below i l = ap (λ (x : Float). lt x floor) (floored-at i l) ∙ raised-not-below floor (value values i)
+  floored-not-below i l = ap (λ (x : Float). lt x floor) (floored-at i l) ∙ flooredValue-not-below floor (value values i)
 
   -- the places of the hits, ascending
   abbrev pub hitPlaces : List ℕ
@@ -82,7 +82,7 @@ module _ (floor : Float) (values : List Float) where
       → (getD hitPlaces j 0 < length values) × (value (floored floor values) (getD hitPlaces j 0) ≡ floor)
   hitPlaces-at j l =
       let p = select-at (hit floor values) 0 (length values) j (omega arith) l in
-      (p .below, floored-at (getD hitPlaces j 0) (p .below) ∙ raised-hit floor (value values (getD hitPlaces j 0)) (not-true _ (p .passes)))
+      (p .below, floored-at (getD hitPlaces j 0) (p .below) ∙ flooredValue-hit floor (value values (getD hitPlaces j 0)) (not-true _ (p .passes)))
 
   -- every value that is not above the floor is one
   pub hitPlaces-holds : (i : ℕ) → i < length values → lt floor (value values i) ≡ false

@@ -23,8 +23,8 @@ pub record FloorAccepted (floor : VarianceFloor) (values : List Float) (room : �
   pub fits : length values ≤ room
 
 module _ (floor : VarianceFloor) (values : List Float) (room : ℕ) where
-  pub accepted : Passed (floorSteps floor values room) → FloorAccepted floor values room
-  accepted p =
+  pub floor-accepted : Passed (floorSteps floor values room) → FloorAccepted floor values room
+  floor-accepted p =
       let c = passed-clear (floorSteps floor values room) p in
       record {
         small = ltb-false _ _ (c .0);

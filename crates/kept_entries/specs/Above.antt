@@ -16,19 +16,19 @@ use Rattle.columns.specs.Kept.{kept, keptCount, factorPairs, factorPairs-none, 
 use Rattle.columns.specs.Factor.{Starts}
 
 -- the entry at p is above the diagonal of column c
-abbrev pub aboveAt : List ℕ → ℕ → ℕ → Bool
-aboveAt rows c p = ltb (row rows p) c
+abbrev pub aboveDiagonal : List ℕ → ℕ → ℕ → Bool
+aboveDiagonal rows c p = ltb (row rows p) c
 
 -- column c has an entry above its diagonal
 abbrev pub hasAbove : List ℕ → List ℕ → ℕ → Bool
-hasAbove starts rows c = anyIn (aboveAt rows c) (start starts c) (start starts (c + 1))
+hasAbove starts rows c = anyIn (aboveDiagonal rows c) (start starts c) (start starts (c + 1))
 
 module _ {n : ℕ} {starts rows : List ℕ} (S : Starts n starts rows) (none : any (hasAbove starts rows) n ≡ false) (nz : ℕ → Bool) where
   -- a column without one keeps its entries that are not 0
   keptCount-all : (c : ℕ) → c < n → keptCount starts rows nz c ≡ tally nz (start starts c) (start starts (c + 1))
   keptCount-all c h =
       let e = any-below (hasAbove starts rows) n c none h in
-      ap length (select-cong (kept rows nz c) nz _ _ (λ k lo hi. rw (le-leb _ _ (ltb-false _ _ (anyIn-below (aboveAt rows c) _ _ k e lo hi)))))
+      ap length (select-cong (kept rows nz c) nz _ _ (λ k lo hi. rw (le-leb _ _ (ltb-false _ _ (anyIn-below (aboveDiagonal rows c) _ _ k e lo hi)))))
 
   first-columns : (m : ℕ) → m ≤ n → factorPairs starts rows nz m ≡ tally nz 0 (start starts m)
   first-columns zero h = factorPairs-none starts rows nz ∙ sym (rw (S .zero) (tally-none nz 0))

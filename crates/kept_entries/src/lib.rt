@@ -10,7 +10,7 @@ ghost use Rattle.lists.specs.Test.{any, anyIn};
 ghost use Rattle.lists.specs.Select.{tally};
 ghost use Rattle.columns.specs.Factor.{Factor, Column};
 ghost use Rattle.columns.specs.Kept.{nonzero, kept, keptBelow, factorPairs};
-ghost use Rattle.kept_entries.specs.Above.{aboveAt, hasAbove};
+ghost use Rattle.kept_entries.specs.Above.{aboveDiagonal, hasAbove};
 use diagonal::first_from;
 use words::at;
 
@@ -67,7 +67,7 @@ fn kept_columns(n: usize, starts: &[u32], rows: &[u32], values: &[f64]) -> usize
 // Whether an entry from s to e is above the diagonal of column c. Rows ascend, so the first decides.
 fn above_between(c: usize, rows: &[u32], s: usize, e: usize) -> bool
     requires { ⌜ Column (now rows) (length (now rows)) s e ⌝ }
-    ensures { λ r. ⌜ r ≡ anyIn (aboveAt (now (rows .entry)) c) s e ⌝ }
+    ensures { λ r. ⌜ r ≡ anyIn (aboveDiagonal (now (rows .entry)) c) s e ⌝ }
 {
     if s == e {
         return false;

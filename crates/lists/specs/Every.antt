@@ -13,14 +13,6 @@ some test [] = false
 some test (x ∷ l) = test x || some test l
 
 module _ {A : Type 0} (test : A → Bool) where
-  pub every-none : every test [] ≡ true
-  unfolding every
-  every-none = refl
-
-  pub every-next : (x : A) (l : List A) → every test (x ∷ l) ≡ (test x && every test l)
-  unfolding every
-  every-next x l = refl
-
   pub some-none : some test [] ≡ false
   unfolding some
   some-none = refl

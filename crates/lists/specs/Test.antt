@@ -161,10 +161,6 @@ module _ (test : ℕ → Bool) where
   unfolding anyIn
   anyIn-below s e k n h l = sym (place s k h) ∙ any-below (λ j. test (s + j)) (e - s) (k - s) n (omega arith)
 
-  pub anyIn-less : (s e m : ℕ) → anyIn test s e ≡ false → m ≤ e → anyIn test s m ≡ false
-  unfolding anyIn
-  anyIn-less s e m n h = any-less (λ j. test (s + j)) (e - s) (m - s) n (omega arith)
-
   pub anyIn-all : (s e : ℕ) → ((k : ℕ) → s ≤ k → k < e → test k ≡ false) → anyIn test s e ≡ false
   unfolding anyIn
   anyIn-all s e f = any-all (λ k. test (s + k)) (e - s) (λ k l. f (s + k) (omega arith) (omega arith))

@@ -24,7 +24,7 @@ use Rattle.entries.specs.Position.{Positioned, position-below, entryValues-at}
 use Rattle.takahashi.specs.Recurrence.{at}
 use Rattle.request_marks.specs.OperatorRequests.{operatorRequested, places-requested}
 use Rattle.quadratic_form.specs.CrossValue.{crossValue-cong}
-use Rattle.quadratic_form.specs.RowValue.{columnAt, operatorValues, operatorsValues}
+use Rattle.quadratic_form.specs.RowValue.{termColumn, operatorValues, operatorsValues}
 use Rattle.request_marks.specs.CrossRequests.{crossRequested, cross-requested, OperatorPairs}
 use Rattle.operator_values.specs.Reading.{OperatorReading, OperatorsReading}
 
@@ -63,7 +63,7 @@ module _ (n : ℕ) (S : ℕ → ℕ → Bool) (Z : ℕ → ℕ → Float) (scrat
   -- ---- the set holds the pairs of an operator past its checks
   module _ (rowStarts columns : List ℕ) (weights : List Float) (O : OperatorRows n rowStarts columns (length weights)) (H : Holds (operatorRequested rowStarts columns) S) where
     row-pair : (i a b : ℕ) → i < operatorRows rowStarts → start rowStarts i ≤ a → a < start rowStarts (i + 1) → start rowStarts i ≤ b → b < start rowStarts (i + 1)
-        → MemberPair (columnAt columns a) (columnAt columns b)
+        → MemberPair (termColumn columns a) (termColumn columns b)
     row-pair i a b l la ha lb hb =
         let end = starts-end (O .starts-rise) (i + 1) (omega arith) in
         let r< = O .inside a (omega arith) in
@@ -87,7 +87,7 @@ module _ (n : ℕ) (S : ℕ → ℕ → Bool) (Z : ℕ → ℕ → Float) (scrat
     filled-values =
         tabulate-cong _ _ (operatorRows rowStarts)
         (λ i l.
-        crossValue-cong floats (columnAt columns) (columnAt columns) (value weights) (value weights) (inverseAt nan n scratch values′) Z
+        crossValue-cong floats (termColumn columns) (termColumn columns) (value weights) (value weights) (inverseAt nan n scratch values′) Z
         (start rowStarts i) (start rowStarts (i + 1)) (start rowStarts i) (start rowStarts (i + 1))
         (λ a b la ha lb hb. read-is _ _ (row-pair i a b l la ha lb hb)) (O .starts-rise .rising i l) (O .starts-rise .rising i l))
 
@@ -96,7 +96,7 @@ module _ (n : ℕ) (S : ℕ → ℕ → Bool) (Z : ℕ → ℕ → Float) (scrat
       (O : OperatorPairs n aStarts aColumns (length aWeights) bStarts bColumns (length bWeights) aRows bRows)
       (H : Holds (crossRequested aStarts aColumns bStarts bColumns aRows bRows) S) where
     cross-pair : (p a b : ℕ) → p < length aRows → start aStarts (getD aRows p 0) ≤ a → a < start aStarts (getD aRows p 0 + 1)
-        → start bStarts (getD bRows p 0) ≤ b → b < start bStarts (getD bRows p 0 + 1) → MemberPair (columnAt aColumns a) (columnAt bColumns b)
+        → start bStarts (getD bRows p 0) ≤ b → b < start bStarts (getD bRows p 0 + 1) → MemberPair (termColumn aColumns a) (termColumn bColumns b)
     cross-pair p a b l la ha lb hb =
         let i< = O .inside p l in
         let j< = O .inside₂ p l in
@@ -122,6 +122,6 @@ module _ (n : ℕ) (S : ℕ → ℕ → Bool) (Z : ℕ → ℕ → Float) (scrat
     filled-pairs-values =
         tabulate-cong _ _ (length aRows)
         (λ p l.
-        crossValue-cong floats (columnAt aColumns) (columnAt bColumns) (value aWeights) (value bWeights) (inverseAt nan n scratch values′) Z
+        crossValue-cong floats (termColumn aColumns) (termColumn bColumns) (value aWeights) (value bWeights) (inverseAt nan n scratch values′) Z
         (start aStarts (getD aRows p 0)) (start aStarts (getD aRows p 0 + 1)) (start bStarts (getD bRows p 0)) (start bStarts (getD bRows p 0 + 1))
         (λ a b la ha lb hb. read-is _ _ (cross-pair p a b l la ha lb hb)) (O .first .starts-rise .rising _ (O .inside p l)) (O .second .starts-rise .rising _ (O .inside₂ p l)))

@@ -7,7 +7,7 @@ ghost use Rattle.pairs.specs.Positions.{inverseAt};
 ghost use Rattle.columns.specs.Columns.{value};
 ghost use Rattle.exact.specs.Exact.{floats};
 ghost use Rattle.quadratic_form.specs.CrossValue.{withTerms, crossValue};
-ghost use Rattle.quadratic_form.specs.RowValue.{columnAt};
+ghost use Rattle.quadratic_form.specs.RowValue.{termColumn};
 ghost use Rattle.operator_values.specs.Reading.{RowsReading};
 use pair_places::positions::column_shift;
 use pair_places::positions::pair_position;
@@ -29,7 +29,7 @@ fn add_terms(
     first: f64,
 ) -> f64
     requires { ⌜ RowsReading n (now «a_columns») (length (now «a_weights»)) (now «b_columns») (length (now «b_weights»)) (now scratch) (length (now inverse)) a (a + 1) t f ⌝ }
-    ensures { λ sum. ⌜ sum ≡ withTerms floats (columnAt (now («a_columns» .entry))) (columnAt (now («b_columns» .entry))) (value (now («a_weights» .entry))) (value (now («b_weights» .entry)))
+    ensures { λ sum. ⌜ sum ≡ withTerms floats (termColumn (now («a_columns» .entry))) (termColumn (now («b_columns» .entry))) (value (now («a_weights» .entry))) (value (now («b_weights» .entry)))
         (inverseAt nan n (now (scratch .entry)) (now (inverse .entry))) t f a first ⌝ }
 {
     let x = a_weights[a];
@@ -62,7 +62,7 @@ pub fn cross_value(
     inverse: &[f64],
 ) -> f64
     requires { ⌜ RowsReading n (now «a_columns») (length (now «a_weights»)) (now «b_columns») (length (now «b_weights»)) (now scratch) (length (now inverse)) s e t f ⌝ }
-    ensures { λ v. ⌜ v ≡ crossValue floats (columnAt (now («a_columns» .entry))) (columnAt (now («b_columns» .entry))) (value (now («a_weights» .entry))) (value (now («b_weights» .entry)))
+    ensures { λ v. ⌜ v ≡ crossValue floats (termColumn (now («a_columns» .entry))) (termColumn (now («b_columns» .entry))) (value (now («a_weights» .entry))) (value (now («b_weights» .entry)))
         (inverseAt nan n (now (scratch .entry)) (now (inverse .entry))) s e t f ⌝ }
 {
     let mut sum = 0.0;

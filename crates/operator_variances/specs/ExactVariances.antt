@@ -29,7 +29,7 @@ use Rattle.selection.specs.Selection.{Lent, roomOf, selectedAnswer, selectedTab
 use Rattle.exact_entries.specs.ExactEntries.{ExactCall, ReadsBack, exact-entries, exact-either}
 use Rattle.request_marks.specs.OperatorRequests.{places-requested}
 use Rattle.operator_values.specs.Output.{outputAfter, after-complete}
-use Rattle.quadratic_form.specs.RowValue.{columnAt, rowValue, operatorValues, operatorValue}
+use Rattle.quadratic_form.specs.RowValue.{termColumn, rowValue, operatorValues, operatorValue}
 use Rattle.quadratic_form.specs.ExactRow.{quadratic, RowWithin, rowValue-exact}
 use Rattle.operator_variances.specs.Transformed.{TransformedCall, transformedSelection, transformedSteps, transformedValues}
 use Rattle.operator_variances.specs.Transformed.{TransformedDiagonal, AcceptedTransformed, transformed-accepted}
@@ -45,13 +45,13 @@ module _ (x : TransformedCall) where
   -- row i has the whole weights v, and no weight product, product with an entry or running sum is beyond 2 ^ 53
   pub record ExactRow (v : ℕ → ℤ) (X : Matrix) (i : ℕ) : Type 0 where
     pub weights : (p : ℕ) → p < places-of-row i → Whole (value (x .weights) (first-of-row i + p)) (v (first-of-row i + p))
-    pub within : RowWithin (columnAt (x .columns)) v X (first-of-row i) (places-of-row i)
+    pub within : RowWithin (termColumn (x .columns)) v X (first-of-row i) (places-of-row i)
 
   -- X is what reads back, and wᵀXw what the output holds for each row in the exact case
   pub record TransformedExact (left : Lent) (out : List Float) (X : Matrix) : Type 0 where
     pub reads : ReadsBack (transformedSelection x) left X
     pub variances : selectedAnswer (transformedSelection x) .status ≡ Complete → (i : ℕ) → i < operatorRows (x .rowStarts) → (v : ℕ → ℤ) → ExactRow v X i
-        → Whole (getD out i nan) (quadratic (columnAt (x .columns)) v X (first-of-row i) (places-of-row i))
+        → Whole (getD out i nan) (quadratic (termColumn (x .columns)) v X (first-of-row i) (places-of-row i))
 
 module _ (x : TransformedCall) (lent : Lent) (output : List Float) (passed : Passed (transformedSteps x (roomOf lent) (length output)))
     (whole : ℕ → List (Entry ℤ)) (E : ExactCall (transformedSelection x) whole) (X : Matrix) (is : WholeInverse (x .factor .n) (factor ones whole) X) where
@@ -62,8 +62,8 @@ module _ (x : TransformedCall) (lent : Lent) (output : List Float) (passed : Pas
   transformed-exact L = record {
     reads = exact-entries (transformedSelection x) lent (A .accepted) whole E X is (transformedSteps x (roomOf lent) (length output)) passed L;
     variances = λ e i l v R.
-        subst (λ (z : Float). Whole z (quadratic (columnAt (x .columns)) v X (first-of-row x i) (places-of-row x i))) (sym (row-is e i l))
-        (rowValue-exact (columnAt (x .columns)) (value (x .weights)) (selectedTable (transformedSelection x)) v X (start (x .rowStarts) i) (start (x .rowStarts) (i + 1))
+        subst (λ (z : Float). Whole z (quadratic (termColumn (x .columns)) v X (first-of-row x i) (places-of-row x i))) (sym (row-is e i l))
+        (rowValue-exact (termColumn (x .columns)) (value (x .weights)) (selectedTable (transformedSelection x)) v X (start (x .rowStarts) i) (start (x .rowStarts) (i + 1))
         (record { weights = R .weights; entries = λ a b ha hb. entry i l a b ha hb }) (R .within));
   }
     where
@@ -71,16 +71,16 @@ module _ (x : TransformedCall) (lent : Lent) (output : List Float) (passed : Pas
       A = transformed-accepted x (roomOf lent) (length output) passed
 
       entry : (i : ℕ) → i < operatorRows (x .rowStarts) → (a b : ℕ) → a < places-of-row x i → b < places-of-row x i
-          → Whole (Rattle.takahashi.specs.Recurrence.at (selectedTable (transformedSelection x)) (columnAt (x .columns) (first-of-row x i + a)) (columnAt (x .columns) (first-of-row x i + b)))
-          (X (columnAt (x .columns) (first-of-row x i + a)) (columnAt (x .columns) (first-of-row x i + b)))
+          → Whole (Rattle.takahashi.specs.Recurrence.at (selectedTable (transformedSelection x)) (termColumn (x .columns) (first-of-row x i + a)) (termColumn (x .columns) (first-of-row x i + b)))
+          (X (termColumn (x .columns) (first-of-row x i + a)) (termColumn (x .columns) (first-of-row x i + b)))
       entry i l a b ha hb =
-          exact-either (transformedSelection x) lent (A .accepted) whole E X is (columnAt (x .columns) (first-of-row x i + a))
-          (columnAt (x .columns) (first-of-row x i + b))
+          exact-either (transformedSelection x) lent (A .accepted) whole E X is (termColumn (x .columns) (first-of-row x i + a))
+          (termColumn (x .columns) (first-of-row x i + b))
           (request (places-requested (x .rowStarts) (x .columns) i (first-of-row x i + a) (first-of-row x i + b) l (omega arith) (omega arith) (omega arith) (omega arith)))
 
       row-is : selectedAnswer (transformedSelection x) .status ≡ Complete → (i : ℕ) → i < operatorRows (x .rowStarts)
           → getD (outputAfter (transformedSteps x (roomOf lent) (length output)) (transformedSelection x) (transformedValues x) output) i nan
-          ≡ rowValue floats (columnAt (x .columns)) (value (x .weights)) (selectedTable (transformedSelection x)) (start (x .rowStarts) i) (start (x .rowStarts) (i + 1))
+          ≡ rowValue floats (termColumn (x .columns)) (value (x .weights)) (selectedTable (transformedSelection x)) (start (x .rowStarts) i) (start (x .rowStarts) (i + 1))
       row-is e i l =
           ap (λ (o : List Float). getD o i nan) (after-complete (transformedSteps x (roomOf lent) (length output)) (transformedSelection x) (transformedValues x) lent output passed e)
           ∙ overwrite-at (transformedValues x) output i nan

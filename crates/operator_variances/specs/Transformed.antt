@@ -7,6 +7,7 @@ use lib.Dec.{ltb, eqb}
 use lib.ListN.{length}
 use lib.Ieee.{Float}
 use borrow.Author.Tests.{ltb-false}
+use Rattle.refusal.specs.Bounds.{outputSteps}
 use Rattle.refusal.specs.Steps.{Step, Passed, passed-clear, passed-front}
 use Rattle.refusal.specs.Groups.{grouped, AllPassed, groups-passed}
 use Rattle.columns.specs.Columns.{FactorLists, factorLists, boundSteps}
@@ -49,10 +50,6 @@ module _ (x : TransformedCall) where
   abbrev pub columnCountSteps : List Step
   columnCountSteps = (4, not (eqb (x .ncols) (x .factor .n))) ∷ []
 
-  -- 7: an output below the operator's rows
-  abbrev pub outputSteps : ℕ → List Step
-  outputSteps output = (7, ltb output (operatorRows (x .rowStarts))) ∷ []
-
   -- refusals 1 of the factor and of the operator; 2, 3, 18; 4; 9; 6, 7; 7 of an output of that length
   abbrev pub transformedGroups : Room → ℕ → List (List Step)
   transformedGroups lengths output =
@@ -61,7 +58,7 @@ module _ (x : TransformedCall) where
       ∷ columnCountSteps
       ∷ operatorSteps (x .factor .n) (x .rowStarts) (x .columns) (length (x .weights))
       ∷ fillSteps (x .factor) (defaultLimit (x .factor .rows)) lengths
-      ∷ outputSteps output
+      ∷ outputSteps (operatorRows (x .rowStarts)) output
       ∷ []
 
   unfoldable pub transformedSteps : Room → ℕ → List Step
@@ -96,5 +93,5 @@ module _ (x : TransformedCall) (lengths : Room) (output : ℕ) (p : Passed (tran
       record {
         accepted = fill-accepted (transformedSelection x) lengths B (passed .1 .0) (operatorRequested-ranged O) (passed .1 .1 .1 .1 .0);
         operator = O;
-        room = ltb-false _ _ (passed-clear (outputSteps x output) (passed .1 .1 .1 .1 .1 .0) .0);
+        room = ltb-false _ _ (passed-clear (outputSteps (operatorRows (x .rowStarts)) output) (passed .1 .1 .1 .1 .1 .0) .0);
       }

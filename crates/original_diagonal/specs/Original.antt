@@ -8,6 +8,7 @@ use lib.Dec.{ltb, eqb}
 use lib.ListN.{length, getD}
 use lib.Ieee.{Float, nan}
 use borrow.Author.Tests.{ltb-false, eqb-true, not-false}
+use Rattle.refusal.specs.Bounds.{outputSteps}
 use Rattle.lists.specs.Tabulate.{tabulate}
 use Rattle.lists.specs.Overwrite.{overwrite}
 use Rattle.refusal.specs.Steps.{Step, Reply, first, after, Passed, passed-clear, passed-front, passed-back}
@@ -40,17 +41,13 @@ module _ (x : OriginalCall) where
       selection (x .factor) (diagonalPairs (x .factor .n))
       (defaultLimit (x .factor .rows))
 
-  -- 7: an output below n
-  abbrev pub outputSteps : ℕ → List Step
-  outputSteps output = (7, ltb output (x .factor .n)) ∷ []
-
   -- refusals 1, 2, 3, 18; 4, 10, 11; 6, 7; 7 of an output of that length
   abbrev pub originalGroups : Room → ℕ → List (List Step)
   originalGroups lengths output =
       factorSteps (x .factor)
       ∷ orderSteps (x .factor .n) (x .perm)
       ∷ fillSteps (x .factor) (defaultLimit (x .factor .rows)) lengths
-      ∷ outputSteps output
+      ∷ outputSteps (x .factor .n) output
       ∷ []
 
   unfoldable pub originalSteps : Room → ℕ → List Step
@@ -115,5 +112,5 @@ module _ (x : OriginalCall) (lengths : Room) (output : ℕ) (p : Passed (origina
         accepted = fill-accepted (originalSelection x) lengths B S (diagonals-ranged (x .factor .n)) (passed .1 .1 .0);
         order = distinct-permutation (x .perm) (passed-distinct (x .perm) (passed-back four (permutationSteps (x .perm)) o));
         long = eqb-true _ _ (not-false _ (passed-clear four (passed-front four (permutationSteps (x .perm)) o) .0));
-        room = ltb-false _ _ (passed-clear (outputSteps x output) (passed .1 .1 .1 .0) .0);
+        room = ltb-false _ _ (passed-clear (outputSteps (x .factor .n) output) (passed .1 .1 .1 .0) .0);
       }

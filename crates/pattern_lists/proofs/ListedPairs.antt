@@ -10,12 +10,12 @@ use Rattle.lists.specs.Overwrite.{overwrite, cleared}
 use Rattle.refusal.specs.Steps.{Step, refused, answered, verdict, Passed, first-hit, first-skip, first-end, first-refused, first-passed, after-refused, after-passed}
 use Rattle.refusal.specs.declared.Refusal.the-variants.{TooShort}
 use Rattle.pairs.specs.Pair.{pairCount, pairRows, pairColumns}
-use Rattle.pattern_lists.specs.ListedMarks.{outputSteps, ListedMarks}
+use Rattle.pattern_lists.specs.ListedMarks.{pairOutputSteps, ListedMarks}
 use Rattle.pattern_lists.specs.declared.listed.PatternPairs.the-variants.{Listed, Refused}
 
 module _ (n : ℕ) (S : ℕ → ℕ → Bool) (marks rows columns : List ℕ) where
   abbrev steps : List Step
-  steps = outputSteps (pairCount n S) (length rows) (length columns)
+  steps = pairOutputSteps (pairCount n S) (length rows) (length columns)
 
   listed-short : {marks′ : List ℕ} → marks′ ≡ cleared (length marks) marks → verdict steps ≡ refused 7 → ListedMarks n S (Refused TooShort) marks rows columns marks′ rows columns
   listed-short c e = record {

@@ -10,7 +10,7 @@ use Rattle.refusal.specs.Steps.{Step, refused, after, settle, verdict, Passed, 
 use Rattle.refusal.specs.Refusal.{refusalNumber}
 use Rattle.refusal.specs.declared.Refusal.{Refusal}
 use Rattle.pairs.specs.Pair.{pairCount, pairRows, pairColumns}
-use Rattle.pattern_lists.specs.ListedMarks.{outputSteps}
+use Rattle.pattern_lists.specs.ListedMarks.{pairOutputSteps}
 use Rattle.pattern_lists.specs.declared.listed.PatternPairs.{PatternPairs}
 use Rattle.pattern_lists.specs.declared.listed.PatternPairs.the-variants.{Refused}
 use Rattle.pattern_lists.specs.PatternLists.{scratchStep, PatternLists}
@@ -19,7 +19,7 @@ module _ (checks : List Step) (n : ℕ) (S : ℕ → ℕ → Bool) (scratch rows
   -- the input is refused: nothing is touched
   pub lists-refused : (why : Refusal) → verdict checks ≡ refused (refusalNumber why) → PatternLists checks n S (Refused why) scratch rows columns scratch rows columns
   lists-refused why e =
-      let whole = append-refused checks (scratchStep n (length scratch) ∷ outputSteps (pairCount n S) (length rows) (length columns)) (refusalNumber why) tt e in
+      let whole = append-refused checks (scratchStep n (length scratch) ∷ pairOutputSteps (pairCount n S) (length rows) (length columns)) (refusalNumber why) tt e in
       record {
         replies = sym (first-refused _ (refusalNumber why) (pairCount n S) whole);
         scratch-is = sym (after-refused _ (refusalNumber why) _ scratch (append-refused checks _ (refusalNumber why) tt e));

@@ -15,7 +15,7 @@ use Rattle.refusal.specs.declared.Refusal.the-variants.{TooShort}
 use Rattle.pairs.specs.Scratch.{markWords}
 use Rattle.pairs.specs.Pair.{pairCount, pairRows, pairColumns, pairCount-cong, pairRows-cong, pairColumns-cong}
 use Rattle.pairs.specs.Marks.{Added, marking, marking-none, pair-marked}
-use Rattle.pattern_lists.specs.ListedMarks.{outputSteps, ListedMarks}
+use Rattle.pattern_lists.specs.ListedMarks.{pairOutputSteps, ListedMarks}
 use Rattle.pattern_lists.specs.declared.listed.PatternPairs.{PatternPairs}
 use Rattle.pattern_lists.specs.declared.listed.PatternPairs.the-variants.{Refused}
 use Rattle.pattern_lists.specs.PatternLists.{patternWords, scratchStep, PatternLists}
@@ -40,15 +40,15 @@ module _ (n : ℕ) (S T : ℕ → ℕ → Bool) (agree : (r c : ℕ) → c ≤ r
       ∙ agree r k h l in
       let count-same = pairCount-cong n (marking marked) S same in
       record {
-        replies = L .replies ∙ ap (λ (k : ℕ). first (outputSteps k (length rows) (length columns)) k) count-same;
+        replies = L .replies ∙ ap (λ (k : ℕ). first (pairOutputSteps k (length rows) (length columns)) k) count-same;
         clears =
             L .clears ∙ filled-all (λ _. 0) marked ∙ ap (tabulate (λ _. 0)) (A .long ∙ long) ∙ sym (filled-all (λ _. 0) marks);
         rows-are =
             L .rows-are
-            ∙ ap₂ (λ (k : ℕ) (l : List ℕ). after (outputSteps k (length rows) (length columns)) (overwrite l rows) rows) count-same (pairRows-cong n (marking marked) S same);
+            ∙ ap₂ (λ (k : ℕ) (l : List ℕ). after (pairOutputSteps k (length rows) (length columns)) (overwrite l rows) rows) count-same (pairRows-cong n (marking marked) S same);
         columns-are =
             L .columns-are
-            ∙ ap₂ (λ (k : ℕ) (l : List ℕ). after (outputSteps k (length rows) (length columns)) (overwrite l columns) columns) count-same (pairColumns-cong n (marking marked) S same);
+            ∙ ap₂ (λ (k : ℕ) (l : List ℕ). after (pairOutputSteps k (length rows) (length columns)) (overwrite l columns) columns) count-same (pairColumns-cong n (marking marked) S same);
       }
 
 -- ---- the scratch
@@ -66,7 +66,7 @@ module _ (n : ℕ) (S : ℕ → ℕ → Bool) (scratch rows columns : List ℕ) 
   pub scratch-short : length scratch < patternWords n → PatternLists [] n S (Refused TooShort) scratch rows columns scratch rows columns
   scratch-short h =
       let t = lt-ltb (length scratch) (patternWords n) h in
-      let whole = first-hit 7 (outputSteps (pairCount n S) (length rows) (length columns)) tt t in
+      let whole = first-hit 7 (pairOutputSteps (pairCount n S) (length rows) (length columns)) tt t in
       record {
         replies = sym (first-refused _ 7 (pairCount n S) whole);
         scratch-is = sym (after-refused _ 7 _ scratch (first-hit 7 [] tt t));
@@ -80,7 +80,7 @@ module _ (n : ℕ) (S : ℕ → ℕ → Bool) (scratch rows columns : List ℕ) 
   unfolding after
   scratch-part {reply} {part} h p q L =
       let t = le-ltb (length scratch) (patternWords n) h in
-      let rest = outputSteps (pairCount n S) (length rows) (length columns) in
+      let rest = pairOutputSteps (pairCount n S) (length rows) (length columns) in
       record {
         replies = L .replies ∙ sym (first-skip 7 rest (pairCount n S) t refl);
         scratch-is =

@@ -14,8 +14,8 @@ use Rattle.pattern_lists.specs.declared.listed.PatternPairs.{PatternPair
 use Rattle.pattern_lists.specs.declared.listed.PatternPairs.the-variants.{Listed, Refused}
 
 -- 7: an output below the number of pairs
-abbrev pub outputSteps : ℕ → ℕ → ℕ → List Step
-outputSteps count rows columns = (7, ltb rows count) ∷ (7, ltb columns count) ∷ []
+abbrev pub pairOutputSteps : ℕ → ℕ → ℕ → List Step
+pairOutputSteps count rows columns = (7, ltb rows count) ∷ (7, ltb columns count) ∷ []
 
 -- the reply: how many pairs are listed, or a refusal's number
 abbrev pub listReply : PatternPairs → Reply ℕ
@@ -24,7 +24,7 @@ listReply (Refused r) = refused (refusalNumber r)
 
 -- what listing the pairs of a set replies and leaves: the marks end 0
 pub record ListedMarks (n : ℕ) (S : ℕ → ℕ → Bool) (reply : PatternPairs) (marks rows columns marks′ rows′ columns′ : List ℕ) : Type 0 where
-  pub replies : listReply reply ≡ first (outputSteps (pairCount n S) (length rows) (length columns)) (pairCount n S)
+  pub replies : listReply reply ≡ first (pairOutputSteps (pairCount n S) (length rows) (length columns)) (pairCount n S)
   pub clears : marks′ ≡ cleared (length marks) marks
-  pub rows-are : rows′ ≡ after (outputSteps (pairCount n S) (length rows) (length columns)) (overwrite (pairRows n S) rows) rows
-  pub columns-are : columns′ ≡ after (outputSteps (pairCount n S) (length rows) (length columns)) (overwrite (pairColumns n S) columns) columns
+  pub rows-are : rows′ ≡ after (pairOutputSteps (pairCount n S) (length rows) (length columns)) (overwrite (pairRows n S) rows) rows
+  pub columns-are : columns′ ≡ after (pairOutputSteps (pairCount n S) (length rows) (length columns)) (overwrite (pairColumns n S) columns) columns

@@ -10,7 +10,7 @@ use Rattle.lists.specs.Overwrite.{overwrite, cleared}
 use Rattle.refusal.specs.Steps.{Step, first, after}
 use Rattle.pairs.specs.Scratch.{markWords}
 use Rattle.pairs.specs.Pair.{pairCount, pairRows, pairColumns}
-use Rattle.pattern_lists.specs.ListedMarks.{outputSteps, listReply}
+use Rattle.pattern_lists.specs.ListedMarks.{pairOutputSteps, listReply}
 use Rattle.pattern_lists.specs.declared.listed.PatternPairs.{PatternPairs}
 
 -- how many words of scratch a list uses: those of its marks, ceil(T/32)
@@ -27,7 +27,7 @@ scratchSteps checks n scratch = checks ++ scratchStep n scratch ∷ []
 
 -- past these the pairs of the set are listed
 abbrev pub listSteps : List Step → ℕ → (ℕ → ℕ → Bool) → ℕ → ℕ → ℕ → List Step
-listSteps checks n S scratch rows columns = checks ++ scratchStep n scratch ∷ outputSteps (pairCount n S) rows columns
+listSteps checks n S scratch rows columns = checks ++ scratchStep n scratch ∷ pairOutputSteps (pairCount n S) rows columns
 
 -- what a pattern list of n columns replies and leaves, past the checks of its input: the pairs of a set
 pub record PatternLists (checks : List Step) (n : ℕ) (S : ℕ → ℕ → Bool) (reply : PatternPairs) (scratch rows columns scratch′ rows′ columns′ : List ℕ) : Type 0 where

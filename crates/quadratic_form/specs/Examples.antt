@@ -16,7 +16,7 @@ use Rattle.exact.specs.Multiple.{Whole, Small}
 use Rattle.exact.specs.Exact.{floats}
 use Rattle.entries.specs.Entries.{floatTable}
 use Rattle.quadratic_form.specs.CrossValue.{addTerms, addPlaces}
-use Rattle.quadratic_form.specs.RowValue.{columnAt, rowValue, operatorValues, operatorsValue}
+use Rattle.quadratic_form.specs.RowValue.{termColumn, rowValue, operatorValues, operatorsValue}
 use Rattle.quadratic_form.specs.ExactCross.{exactTerm, runningSum, bilinear}
 use Rattle.quadratic_form.specs.ExactRow.{quadratic, RowWithin, WholeRow, rowValue-exact}
 
@@ -46,10 +46,10 @@ F2-matrix zero (suc j) = negsuc 1
 F2-matrix (suc i) zero = negsuc 1
 F2-matrix (suc i) (suc j) = pos 1
 
-F2-quadratic : quadratic (columnAt (0 ∷ 1 ∷ [])) (λ p. pos 1) F2-matrix 0 2 ≡ pos 2
+F2-quadratic : quadratic (termColumn (0 ∷ 1 ∷ [])) (λ p. pos 1) F2-matrix 0 2 ≡ pos 2
 F2-quadratic = refl
 
-F2-bilinear : bilinear (columnAt (0 ∷ [])) (columnAt (1 ∷ [])) (λ p. pos 3) (λ p. pos 2) F2-matrix 0 1 0 1 ≡ negsuc 11
+F2-bilinear : bilinear (termColumn (0 ∷ [])) (termColumn (1 ∷ [])) (λ p. pos 3) (λ p. pos 2) F2-matrix 0 1 0 1 ≡ negsuc 11
 F2-bilinear = refl
 
 -- ---- `rowValue-exact` at that row
@@ -66,21 +66,21 @@ places₂ G a b c d zero (suc (suc j)) h l = absurd (omega arith)
 places₂ G a b c d (suc zero) (suc (suc j)) h l = absurd (omega arith)
 places₂ G a b c d (suc (suc i)) j h l = absurd (omega arith)
 
-F2-whole : WholeRow (columnAt (0 ∷ 1 ∷ [])) (value F2-weights) (floatTable 2 F2-starts F2-rows F2-values) (λ p. pos 1) F2-matrix 0 2
+F2-whole : WholeRow (termColumn (0 ∷ 1 ∷ [])) (value F2-weights) (floatTable 2 F2-starts F2-rows F2-values) (λ p. pos 1) F2-matrix 0 2
 unfolding floatTable select picked ofBits ofInt ne add sub mul div neg
 F2-whole = record {
   weights = λ i h. places₂ (λ a b. Whole (value F2-weights (0 + a)) (pos 1)) refl refl refl refl i 0 h (lit< tt);
   entries =
-      places₂ (λ i j. Whole (at (floatTable 2 F2-starts F2-rows F2-values) (columnAt (0 ∷ 1 ∷ []) (0 + i)) (columnAt (0 ∷ 1 ∷ []) (0 + j)))
-      (F2-matrix (columnAt (0 ∷ 1 ∷ []) (0 + i)) (columnAt (0 ∷ 1 ∷ []) (0 + j)))) refl refl refl refl;
+      places₂ (λ i j. Whole (at (floatTable 2 F2-starts F2-rows F2-values) (termColumn (0 ∷ 1 ∷ []) (0 + i)) (termColumn (0 ∷ 1 ∷ []) (0 + j)))
+      (F2-matrix (termColumn (0 ∷ 1 ∷ []) (0 + i)) (termColumn (0 ∷ 1 ∷ []) (0 + j)))) refl refl refl refl;
 }
 
-F2-within : RowWithin (columnAt (0 ∷ 1 ∷ [])) (λ p. pos 1) F2-matrix 0 2
+F2-within : RowWithin (termColumn (0 ∷ 1 ∷ [])) (λ p. pos 1) F2-matrix 0 2
 F2-within = record {
   weights = λ i j h l. lit≤ tt;
-  terms = places₂ (λ i j. Small (exactTerm (columnAt (0 ∷ 1 ∷ [])) (columnAt (0 ∷ 1 ∷ [])) (λ p. pos 1) (λ p. pos 1) F2-matrix 0 2 0 2 i j)) (lit≤ tt) (lit≤ tt) (lit≤ tt) (lit≤ tt);
-  sums = places₂ (λ i j. Small (runningSum (columnAt (0 ∷ 1 ∷ [])) (columnAt (0 ∷ 1 ∷ [])) (λ p. pos 1) (λ p. pos 1) F2-matrix 0 2 0 2 i (suc j))) (lit≤ tt) (lit≤ tt) (lit≤ tt) (lit≤ tt);
+  terms = places₂ (λ i j. Small (exactTerm (termColumn (0 ∷ 1 ∷ [])) (termColumn (0 ∷ 1 ∷ [])) (λ p. pos 1) (λ p. pos 1) F2-matrix 0 2 0 2 i j)) (lit≤ tt) (lit≤ tt) (lit≤ tt) (lit≤ tt);
+  sums = places₂ (λ i j. Small (runningSum (termColumn (0 ∷ 1 ∷ [])) (termColumn (0 ∷ 1 ∷ [])) (λ p. pos 1) (λ p. pos 1) F2-matrix 0 2 0 2 i (suc j))) (lit≤ tt) (lit≤ tt) (lit≤ tt) (lit≤ tt);
 }
 
-F2-exact : Whole (rowValue floats (columnAt (0 ∷ 1 ∷ [])) (value F2-weights) (floatTable 2 F2-starts F2-rows F2-values) 0 2) (pos 2)
-F2-exact = rowValue-exact (columnAt (0 ∷ 1 ∷ [])) (value F2-weights) (floatTable 2 F2-starts F2-rows F2-values) (λ p. pos 1) F2-matrix 0 2 F2-whole F2-within
+F2-exact : Whole (rowValue floats (termColumn (0 ∷ 1 ∷ [])) (value F2-weights) (floatTable 2 F2-starts F2-rows F2-values) 0 2) (pos 2)
+F2-exact = rowValue-exact (termColumn (0 ∷ 1 ∷ [])) (value F2-weights) (floatTable 2 F2-starts F2-rows F2-values) (λ p. pos 1) F2-matrix 0 2 F2-whole F2-within

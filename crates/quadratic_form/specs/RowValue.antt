@@ -19,13 +19,13 @@ rowValue A k w Z s e = crossValue A k k w w Z s e s e
 -- ---- operators
 
 -- the column at p
-abbrev pub columnAt : List ℕ → ℕ → ℕ
-columnAt columns p = getD columns p 0
+abbrev pub termColumn : List ℕ → ℕ → ℕ
+termColumn columns p = getD columns p 0
 
 -- the value of row i in f64
 abbrev pub operatorValue : List ℕ → List ℕ → List Float → (ℕ → ℕ → Float) → ℕ → Float
 operatorValue rowStarts columns weights Z i =
-    rowValue floats (columnAt columns) (value weights) Z (start rowStarts i) (start rowStarts (i + 1))
+    rowValue floats (termColumn columns) (value weights) Z (start rowStarts i) (start rowStarts (i + 1))
 
 -- the values of all rows
 unfoldable pub operatorValues : List ℕ → List ℕ → List Float → (ℕ → ℕ → Float) → List Float
@@ -34,7 +34,7 @@ operatorValues rowStarts columns weights Z = tabulate (operatorValue rowStarts c
 -- the value of row i of one operator and row j of another in f64
 abbrev pub operatorsValue : List ℕ → List ℕ → List Float → List ℕ → List ℕ → List Float → (ℕ → ℕ → Float) → ℕ → ℕ → Float
 operatorsValue aStarts aColumns aWeights bStarts bColumns bWeights Z i j =
-    crossValue floats (columnAt aColumns) (columnAt bColumns) (value aWeights) (value bWeights) Z (start aStarts i) (start aStarts (i + 1)) (start bStarts j) (start bStarts (j + 1))
+    crossValue floats (termColumn aColumns) (termColumn bColumns) (value aWeights) (value bWeights) Z (start aStarts i) (start aStarts (i + 1)) (start bStarts j) (start bStarts (j + 1))
 
 -- the values of row pairs: row aRows(p) of the one and row bRows(p) of the other
 unfoldable pub operatorsValues : List ℕ → List ℕ → List Float → List ℕ → List ℕ → List Float → List ℕ → List ℕ → (ℕ → ℕ → Float) → List Float

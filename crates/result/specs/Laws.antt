@@ -114,10 +114,6 @@ module _ {A : Type 0} (starts rows : List ℕ) (values r c : ℕ) (a : A) where
             (first-skip 8 _ _ (lt-leb _ _ inside)
             (append-passed (columnFaults starts rows values c) _ _ passed ∙ first-skip 8 _ _ (lt-leb _ _ below) (first-end a)))
 
--- the rows alone
-pub column-rows : {rows : List ℕ} {values s e : ℕ} → Column rows values s e → Column rows (length rows) s e
-column-rows C = record { ordered = C .ordered; stored = C .stored; weighed = C .stored; ascends = C .ascends }
-
 -- ---- the lookup
 module _ {A : Type 0} (blank : A) (values : List A) where
   decide-value : (b : Bool) (k : ℕ) (x : Reply ℕ) (y : Reply A) → y ≡ valueAt blank values x → decide b k y ≡ valueAt blank values (decide b k x)

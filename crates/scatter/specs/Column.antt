@@ -10,7 +10,7 @@ use lib.Seq.{getD-set-same, getD-set-other, ext-getD, take-length}
 use Rattle.lists.specs.Select.{getD-mapped}
 use Rattle.refusal.specs.Bounds.{maxDimension}
 use Rattle.takahashi.specs.Recurrence.{Arithmetic, Entry, run, dot, at, Lower, Solves, table, table-solves}
-use Rattle.scatter.specs.Scatter.{blank, rowAt, valueAt, weigh, clear, terms, Between, steps, stepSum, stepped, ClosedPattern, Laid, columnOf}
+use Rattle.scatter.specs.Scatter.{blank, rowAt, entryValue, weigh, clear, terms, Between, steps, stepSum, stepped, ClosedPattern, Laid, columnValues}
 use Rattle.scatter.specs.Sums.{run-take, terms-run}
 use Rattle.scatter.specs.Marks.{clear-long, clear-at, weigh-at}
 use Rattle.scatter.specs.ClosedPattern.{pattern-rows, degree-small}
@@ -40,7 +40,7 @@ module _ (A : Arithmetic) (off on : A .Carrier → A .Carrier → A .Carrier) (n
   ]
 
   module _ (Z : ℕ → ℕ → A .Carrier) (ds : List (Entry (A .Carrier))) (j : ℕ) (d : A .Carrier) (w s : List (A .Carrier))
-      (weights : (p : ℕ) → p < length ds → getD w p none ≡ valueAt none ds p)
+      (weights : (p : ℕ) → p < length ds → getD w p none ≡ entryValue none ds p)
       (below : (p : ℕ) → p < length ds → off d (getD s p none) ≡ Z (rowAt none ds p) j) where
     stepSum-is : (p : ℕ) → p ≤ length ds → stepSum A off on none d w s p ≡ run A (λ k. Z k j) (A .zero) (take p ds)
     unfolding stepSum
@@ -50,7 +50,7 @@ module _ (A : Arithmetic) (off on : A .Carrier → A .Carrier → A .Carrier) (n
         ∙ sym (run-take A (blank none) (λ k. Z k j) (A .zero) ds p h)
 
     stepped-is : (desc : ℕ → List (Entry (A .Carrier))) → desc j ≡ ds → (l : List (A .Carrier)) → length l ≡ suc (length ds)
-        → Z j j ≡ on d (dot A (λ k. Z k j) ds) → stepped A off on none d w s l (length ds) ≡ columnOf Z desc j
+        → Z j j ≡ on d (dot A (λ k. Z k j) ds) → stepped A off on none d w s l (length ds) ≡ columnValues Z desc j
     unfolding stepped
     stepped-is desc e l long own = subst
         (λ (x : List (Entry (A .Carrier))). stepped A off on none d w s l (length ds) ≡ Z j j ∷ map (λ (y : Entry (A .Carrier)). Z (y .row) j) x) (sym e)
@@ -99,14 +99,14 @@ module _ (A : Arithmetic) (off on : A .Carrier → A .Carrier → A .Carrier) (n
       abbrev w : List (A .Carrier)
       w = weigh none (desc j) w₀ m
 
-      weights : (p : ℕ) → p < m → getD w p none ≡ valueAt none (desc j) p
+      weights : (p : ℕ) → p < m → getD w p none ≡ entryValue none (desc j) p
       weights p h = weigh-at none (desc j) w₀ m p (subst (λ (x : ℕ). m ≤ x) (sym wl) (degree-small none n desc P j jn)) h
 
       -- before the first column of the scatter
-      pub cleared : (s₀ : List (A .Carrier)) → length s₀ ≡ maxDimension
+      pub sums-cleared : (s₀ : List (A .Carrier)) → length s₀ ≡ maxDimension
           → Between A none tableOf rows (getD starts j 0 + 1) m w 0 (clear (A .zero) s₀ m)
       unfolding terms
-      cleared s₀ sl = record {
+      sums-cleared s₀ sl = record {
         long = clear-long none (A .zero) s₀ m ∙ sl;
         done = λ p h. absurd (not-suc-le-zero h);
         rest = λ p l h. clear-at none (A .zero) s₀ m p (subst (λ (x : ℕ). m ≤ x) (sym sl) (degree-small none n desc P j jn)) h;
@@ -114,7 +114,7 @@ module _ (A : Arithmetic) (off on : A .Carrier → A .Carrier → A .Carrier) (n
 
       -- the part that the column step leaves after the last is the table's column
       pub column-right : (s : List (A .Carrier)) → Between A none tableOf rows (getD starts j 0 + 1) m w m s
-          → (l : List (A .Carrier)) → length l ≡ suc m → stepped A off on none (diag j) w s l m ≡ columnOf tableOf desc j
+          → (l : List (A .Carrier)) → length l ≡ suc m → stepped A off on none (diag j) w s l m ≡ columnValues tableOf desc j
       column-right s B l long =
           stepped-is tableOf (desc j) j (diag j) w s weights below desc refl l long (S .diagonal-is j (le-refl j, jn))
         where

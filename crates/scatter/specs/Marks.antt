@@ -11,7 +11,7 @@ use lib.ListN.{length, getD, set, replicate, length-set, length-replicate, getD-
 use lib.Seq.{getD-set-same, getD-set-other, ext-getD, getD-append-seam}
 use Rattle.refusal.specs.Bounds.{maxDimension}
 use Rattle.takahashi.specs.Recurrence.{Entry}
-use Rattle.scatter.specs.Scatter.{blank, rowAt, valueAt, marks, weigh, clear, unmarks, RowsMarked}
+use Rattle.scatter.specs.Scatter.{blank, rowAt, entryValue, marks, weigh, clear, unmarks, RowsMarked}
 
 -- the marker at rest: shut, so that no goal writes its places out
 unfoldable pub empties : List ℕ
@@ -44,7 +44,7 @@ module _ {W : Type 0} (none : W) where
   pub weigh-long : (ds : List (Entry W)) (w : List W) (p : ℕ) → length (weigh none ds w p) ≡ length w
   unfolding weigh
   weigh-long ds w zero = refl
-  weigh-long ds w (suc p) = length-set (weigh none ds w p) p (valueAt none ds p) ∙ weigh-long ds w p
+  weigh-long ds w (suc p) = length-set (weigh none ds w p) p (entryValue none ds p) ∙ weigh-long ds w p
 
   pub clear-long : (o : W) (s : List W) (p : ℕ) → length (clear o s p) ≡ length s
   unfolding clear
@@ -52,13 +52,13 @@ module _ {W : Type 0} (none : W) where
   clear-long o s (suc p) = length-set (clear o s p) p o ∙ clear-long o s p
 
   -- ---- weights and sums
-  pub weigh-at : (ds : List (Entry W)) (w : List W) (p u : ℕ) → p ≤ length w → u < p → getD (weigh none ds w p) u none ≡ valueAt none ds u
+  pub weigh-at : (ds : List (Entry W)) (w : List W) (p u : ℕ) → p ≤ length w → u < p → getD (weigh none ds w p) u none ≡ entryValue none ds u
   unfolding weigh
   weigh-at ds w zero u h l = absurd (omega arith)
   weigh-at ds w (suc p) u h l = elim (eq-or-lt-of-le l) [
-    | inl e ↦ subst (λ (x : ℕ). getD (set (weigh none ds w p) p (valueAt none ds p)) x none ≡ valueAt none ds x) (sym (suc-inj e))
-        (getD-set-same (weigh none ds w p) p (valueAt none ds p) none (subst (λ (x : ℕ). p < x) (sym (weigh-long ds w p)) h))
-    | inr g ↦ getD-set-other (weigh none ds w p) p u (valueAt none ds p) none (ne-of-lt (le-of-suc-le-suc g))
+    | inl e ↦ subst (λ (x : ℕ). getD (set (weigh none ds w p) p (entryValue none ds p)) x none ≡ entryValue none ds x) (sym (suc-inj e))
+        (getD-set-same (weigh none ds w p) p (entryValue none ds p) none (subst (λ (x : ℕ). p < x) (sym (weigh-long ds w p)) h))
+    | inr g ↦ getD-set-other (weigh none ds w p) p u (entryValue none ds p) none (ne-of-lt (le-of-suc-le-suc g))
         ∙ weigh-at ds w p u (le-of-lt h) (le-of-suc-le-suc g)
   ]
 

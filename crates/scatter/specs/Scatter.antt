@@ -19,8 +19,8 @@ module _ {W : Type 0} (none : W) where
   rowAt es p = getD es p blank .row
 
   -- the value at a position
-  abbrev pub valueAt : List (Entry W) → ℕ → W
-  valueAt es p = getD es p blank .value
+  abbrev pub entryValue : List (Entry W) → ℕ → W
+  entryValue es p = getD es p blank .value
 
   -- ---- marker, weights and sums of a column
   -- the marker after the first p descendants: each one's position at its row
@@ -31,7 +31,7 @@ module _ {W : Type 0} (none : W) where
   -- the weights after them: each one's value at its position
   unfoldable pub weigh : List (Entry W) → List W → ℕ → List W
   weigh es weights zero = weights
-  weigh es weights (suc p) = set (weigh es weights p) p (valueAt es p)
+  weigh es weights (suc p) = set (weigh es weights p) p (entryValue es p)
 
   -- the marker names the positions of the rows of es, and no others
   pub record RowsMarked (es : List (Entry W)) (marker : List ℕ) : Type 0 where
@@ -114,13 +114,13 @@ module _ {W : Type 0} (none : W) where
     pub after : drop (getD starts n 0) values ≡ drop (getD starts n 0) old
 
 -- the column c of a table, read at the pattern
-abbrev pub columnOf : {W : Type 0} → (ℕ → ℕ → W) → (ℕ → List (Entry W)) → ℕ → List W
-columnOf {W} Z desc c = Z c c ∷ map (λ (e : Entry W). Z (e .row) c) (desc c)
+abbrev pub columnValues : {W : Type 0} → (ℕ → ℕ → W) → (ℕ → List (Entry W)) → ℕ → List W
+columnValues {W} Z desc c = Z c c ∷ map (λ (e : Entry W). Z (e .row) c) (desc c)
 
 -- the first k columns
-unfoldable pub columnsOf : {W : Type 0} → (ℕ → ℕ → W) → (ℕ → List (Entry W)) → ℕ → List W
-columnsOf Z desc zero = []
-columnsOf Z desc (suc k) = columnsOf Z desc k ++ columnOf Z desc k
+unfoldable pub columnsValues : {W : Type 0} → (ℕ → ℕ → W) → (ℕ → List (Entry W)) → ℕ → List W
+columnsValues Z desc zero = []
+columnsValues Z desc (suc k) = columnsValues Z desc k ++ columnValues Z desc k
 
 -- ---- one turn more
 pub clear-none : {W : Type 0} (x : W) (sums : List W) → sums ≡ clear x sums 0

@@ -11,7 +11,7 @@ use lib.ListN.{length, getD, set, take, length-set}
 use lib.Seq.{getD-set-same, getD-set-other, take-length}
 use Rattle.refusal.specs.Bounds.{maxDimension}
 use Rattle.takahashi.specs.Recurrence.{Arithmetic, Entry, run, at, at-sym, at-lower}
-use Rattle.scatter.specs.Scatter.{blank, rowAt, valueAt, terms, termsAt, Between}
+use Rattle.scatter.specs.Scatter.{blank, rowAt, entryValue, terms, termsAt, Between}
 
 -- the running sum over one entry more
 pub run-take : (A : Arithmetic) (d : Entry (A .Carrier)) (r : ℕ → A .Carrier) (acc : A .Carrier) (ds : List (Entry (A .Carrier))) (t : ℕ) → t < length ds
@@ -23,7 +23,7 @@ run-take A d r acc (e ∷ ds) (suc t) h = run-take A d r (A .plus acc (A .times 
 module _ (A : Arithmetic) (none : A .Carrier) (Z : ℕ → ℕ → A .Carrier) (rows : List ℕ) (b : ℕ) (weights : List (A .Carrier)) where
   -- all terms are the recurrence's sum
   pub terms-run : (ds : List (Entry (A .Carrier))) → ((p : ℕ) → p < length ds → getD rows (b + p) 0 ≡ rowAt none ds p)
-      → ((p : ℕ) → p < length ds → getD weights p none ≡ valueAt none ds p) → (i : ℕ)
+      → ((p : ℕ) → p < length ds → getD weights p none ≡ entryValue none ds p) → (i : ℕ)
       → terms A none Z rows b weights i (length ds) ≡ run A (λ k. at Z i k) (A .zero) ds
   unfolding terms
   terms-run ds er ew i = go (length ds) (le-refl (length ds)) ∙ ap (run A (λ k. at Z i k) (A .zero)) (take-length ds)

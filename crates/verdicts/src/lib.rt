@@ -1,8 +1,7 @@
 // Verdicts: the first of two, one of an output's room, and the numbers of refusals.
 ghost use mathlib.Core.Path.{_≡_};
-ghost use mathlib.Core.List.{[], _∷_};
-ghost use lib.Dec.{ltb};
 ghost use Rattle.refusal.specs.Steps.{verdict};
+ghost use Rattle.refusal.specs.Bounds.{outputSteps};
 ghost use Rattle.refusal.specs.FirstOf.{orElse};
 ghost use Rattle.refusal.specs.Refusal.{refusalNumber, replyOf};
 ghost use Rattle.verdicts.specs.Number.{checkedNumber};
@@ -19,9 +18,9 @@ pub fn first_of(a: Checked, b: Checked) -> Checked
     }
 }
 
-// Step 7 for an output that needs so many places.
+// 7: an output of fewer places than are needed.
 pub fn check_output(needed: usize, output: usize) -> Checked
-    ensures { λ r. ⌜ replyOf r ≡ verdict ((7, ltb output needed) ∷ []) ⌝ }
+    ensures { λ r. ⌜ replyOf r ≡ verdict (outputSteps needed output) ⌝ }
 {
     if output < needed {
         return Checked::Refused(Refusal::TooShort);

@@ -1,5 +1,5 @@
 use Rattle.floor.proofs.Answer.{stabilized-is}
-use Rattle.floor.specs.VarianceFloorLaws.{FloorAccepted, accepted}
+use Rattle.floor.specs.VarianceFloorLaws.{FloorAccepted, floor-accepted}
 use Rattle.floor.specs.Floored.{floored}
 use Rattle.floor.specs.VarianceFloor.{floorSteps}
 use Rattle.refusal.specs.Refusal.{replyOf}
@@ -26,7 +26,7 @@ passed : (c : tie.After-enum-told) → Passed (steps (entry (c .before .before))
 passed c = sym (c .before .before .check-floor .ensures) ∙ ap replyOf (c .enum-told .given .1)
 
 within : (c : tie.After-enum-told) → let a = entry (c .before .before) .args in FloorAccepted (a .floor) (a .values .now) (length (a .output .now))
-within c = let a = entry (c .before .before) .args in accepted (a .floor) (a .values .now) (length (a .output .now)) (passed c)
+within c = let a = entry (c .before .before) .args in floor-accepted (a .floor) (a .values .now) (length (a .output .now)) (passed c)
 
 check-floor-requires : tie.Need-check-floor-requires
 check-floor-requires c κs = search needs

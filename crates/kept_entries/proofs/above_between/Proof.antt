@@ -11,18 +11,18 @@ use lib.Dec.{ltb}
 use Rattle.lists.specs.Test.{anyIn, anyIn-none, anyIn-hit, anyIn-found, same-truth}
 use Rattle.columns.specs.Columns.{row}
 use Rattle.columns.specs.Factor.{Column}
-use Rattle.kept_entries.specs.Above.{aboveAt}
+use Rattle.kept_entries.specs.Above.{aboveDiagonal}
 use Rattle.kept_entries.proofs.above_between.Statement.{statement}
 use Rattle.kept_entries.proofs.above_between.Tie as tie
 
 -- rows ascend, so the first is the least
-first-decides : (c : ℕ) {rows : List ℕ} {values s e : ℕ} → Column rows values s e → s < e → ltb (row rows s) c ≡ anyIn (aboveAt rows c) s e
+first-decides : (c : ℕ) {rows : List ℕ} {values s e : ℕ} → Column rows values s e → s < e → ltb (row rows s) c ≡ anyIn (aboveDiagonal rows c) s e
 first-decides c {rows} {values} {s} {e} C h =
-    same-truth (ltb (row rows s) c) (anyIn (aboveAt rows c) s e) (anyIn-hit (aboveAt rows c) s e s (omega arith) h) back
+    same-truth (ltb (row rows s) c) (anyIn (aboveDiagonal rows c) s e) (anyIn-hit (aboveDiagonal rows c) s e s (omega arith) h) back
   where
-    back : anyIn (aboveAt rows c) s e ≡ true → ltb (row rows s) c ≡ true
+    back : anyIn (aboveDiagonal rows c) s e ≡ true → ltb (row rows s) c ≡ true
     back t =
-        let f = anyIn-found (aboveAt rows c) s e t in
+        let f = anyIn-found (aboveDiagonal rows c) s e t in
         let a : row rows (f .0) < c = ltb-true _ _ (f .3) in
         lt-ltb (row rows s) c
         (⊎-elim
@@ -33,7 +33,7 @@ first-decides c {rows} {values} {s} {e} C h =
 returns : tie.Need-returns
 returns c =
     let s = c .before .before in
-    sym (ap (anyIn (aboveAt (s .args .rows .now) (s .args .c)) (s .args .s)) (sym (c .if1 .taken)) ∙ anyIn-none _ _)
+    sym (ap (anyIn (aboveDiagonal (s .args .rows .now) (s .args .c)) (s .args .s)) (sym (c .if1 .taken)) ∙ anyIn-none _ _)
 
 at-requires : tie.Need-at-requires
 at-requires c κs = search needs

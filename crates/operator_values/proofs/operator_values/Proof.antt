@@ -11,7 +11,7 @@ use Rattle.pairs.specs.Positions.{inverseAt}
 use Rattle.columns.specs.Columns.{value}
 use Rattle.columns.specs.Operator.{operatorRows}
 use Rattle.exact.specs.Exact.{floats}
-use Rattle.quadratic_form.specs.RowValue.{rowValue, columnAt, operatorValue, operatorValues}
+use Rattle.quadratic_form.specs.RowValue.{rowValue, termColumn, operatorValue, operatorValues}
 use Rattle.operator_values.specs.Reading.{RowsReading}
 use Rattle.operator_values.proofs.ReadingLaws.{row-reading}
 use Rattle.operator_values.proofs.operator_values.Statement.{statement}
@@ -88,7 +88,7 @@ loop-again c =
     let Z = inverseAt nan (a .n) (now (a .scratch)) (now (a .inverse)) in
     let made : c .cross-value .result ≡ f (l .i) =
     c .cross-value .ensures
-    ∙ ap₂ (λ (x y : ℕ). rowValue floats (columnAt (now (a .columns))) (value (now (a .weights))) Z x y) (d .before .at .ensures) (d .at2 .ensures) in (
+    ∙ ap₂ (λ (x y : ℕ). rowValue floats (termColumn (now (a .columns))) (value (now (a .weights))) Z x y) (d .before .at .ensures) (d .at2 .ensures) in (
       omega (arith, row t),
       length-set (l .output) (l .i) (c .cross-value .result) ∙ l .inv .1,
       ap (set (l .output) (l .i)) made

@@ -8,7 +8,7 @@ use Rattle.pairs.specs.Positions.{inverseAt}
 use Rattle.columns.specs.Columns.{value}
 use Rattle.exact.specs.Exact.{floats}
 use Rattle.quadratic_form.specs.CrossValue.{crossValue}
-use Rattle.quadratic_form.specs.RowValue.{columnAt}
+use Rattle.quadratic_form.specs.RowValue.{termColumn}
 use Rattle.operator_values.specs.Reading.{RowsReading}
 use Rattle.operator_values.proofs.pair_value.Statement.{statement}
 use Rattle.operator_values.proofs.pair_value.Tie as tie
@@ -49,7 +49,7 @@ returns c =
     let a = d .before .before .before .before .before .before .before .before .before .before .before .before .args in
     c .cross-value .ensures
     ∙ same-value
-    (crossValue floats (columnAt (now (a .a-columns))) (columnAt (now (a .b-columns))) (value (now (a .a-weights))) (value (now (a .b-weights))) (inverseAt nan (a .n) (now (a .scratch)) (now (a .inverse))))
+    (crossValue floats (termColumn (now (a .a-columns))) (termColumn (now (a .b-columns))) (value (now (a .a-weights))) (value (now (a .b-weights))) (inverseAt nan (a .n) (now (a .scratch)) (now (a .inverse))))
     (d .before .before .before .at .ensures) (d .before .before .at2 .ensures) (d .before .at3 .ensures) (d .at4 .ensures)
 
 pub pair-value-spec : {M : Type 1} → statement M

@@ -3,6 +3,7 @@ use mathlib.Core.List.{List, _++_}
 use lib.ListN.{length}
 use denote.Ref.{now}
 use borrow.Author.Needs.{needs}
+use Rattle.refusal.specs.Bounds.{outputSteps}
 use Rattle.refusal.specs.Steps.{Step, verdict, Passed, append-refused, append-passed, passed-front}
 use Rattle.refusal.specs.FirstOf.{verdicts}
 use Rattle.refusal.specs.Refusal.{replyOf}
@@ -11,7 +12,7 @@ use Rattle.columns.specs.Factor.{FactorBounded, boundSteps-sound}
 use Rattle.columns.specs.Stored.{storedSteps, storedSteps-sound}
 use Rattle.columns.specs.Operator.{operatorRows, operatorBoundSteps, operatorSteps}
 use Rattle.selection.specs.Selection.{room, defaultLimit, fillSteps}
-use Rattle.operator_variances.specs.Transformed.{TransformedCall, transformedCall, columnCountSteps, outputSteps, transformedSteps}
+use Rattle.operator_variances.specs.Transformed.{TransformedCall, transformedCall, columnCountSteps, transformedSteps}
 use Rattle.operator_variances.proofs.check_transformed.Statement.{statement}
 use Rattle.operator_variances.proofs.check_transformed.Tie as tie
 
@@ -41,7 +42,7 @@ module _ (f : tie.After-first-of) where
       (room (a .result-starts) (a .result-rows) (a .result-values) (a .scratch))
 
   abbrev output : List Step
-  output = outputSteps handed (begin f .args .output)
+  output = outputSteps (operatorRows (handed .rowStarts)) (begin f .args .output)
 
   abbrev later : List Step
   later = columnCountSteps handed ++ (operator ++ (fill ++ output))

@@ -3,6 +3,7 @@ use mathlib.Core.List.{List, _++_}
 use lib.ListN.{length}
 use denote.Ref.{now}
 use borrow.Author.Needs.{needs}
+use Rattle.refusal.specs.Bounds.{outputSteps}
 use Rattle.refusal.specs.Steps.{Step, Passed, append-refused, append-passed, passed-front}
 use Rattle.refusal.specs.FirstOf.{verdicts}
 use Rattle.refusal.specs.Refusal.{replyOf}
@@ -10,7 +11,7 @@ use Rattle.columns.specs.Columns.{boundSteps, factorLists}
 use Rattle.columns.specs.Factor.{FactorBounded, boundSteps-sound}
 use Rattle.columns.specs.Stored.{storedSteps, storedSteps-sound}
 use Rattle.selection.specs.Selection.{room, defaultLimit, fillSteps}
-use Rattle.covariances.specs.Covariances.{CovarianceCall, operator, covarianceCall, covarianceBounds, countSteps, operatorsSteps, outputSteps, covarianceSteps}
+use Rattle.covariances.specs.Covariances.{CovarianceCall, operator, covarianceCall, covarianceBounds, countSteps, operatorsSteps, covarianceSteps}
 use Rattle.covariances.proofs.checks.check_covariances.Statement.{statement}
 use Rattle.covariances.proofs.checks.check_covariances.Tie as tie
 
@@ -40,7 +41,7 @@ module _ (f : tie.After-check-all-bounds) where
       (room (a .result-starts) (a .result-rows) (a .result-values) (a .scratch))
 
   abbrev output : List Step
-  output = outputSteps handed (begin f .args .output)
+  output = outputSteps (length (handed .aRows)) (begin f .args .output)
 
   abbrev later : List Step
   later = countSteps handed ++ (operatorsSteps handed ++ (fill ++ output))

@@ -10,13 +10,13 @@ use Rattle.columns.specs.Columns.{value}
 use Rattle.exact.specs.Exact.{floats}
 use Rattle.pair_places.specs.Position.{PairEntryInput, shift-fits}
 use Rattle.quadratic_form.specs.CrossValue.{withTerms, withTerms-none, withTerms-next}
-use Rattle.quadratic_form.specs.RowValue.{columnAt}
+use Rattle.quadratic_form.specs.RowValue.{termColumn}
 use Rattle.operator_values.proofs.cross_value.add_terms.Statement.{statement}
 use Rattle.operator_values.proofs.cross_value.add_terms.Tie as tie
 
 abbrev Inv-loop : tie.InvT-loop
 Inv-loop n a-columns a-weights a b-columns b-weights t f scratch inverse first x i positions base sum₀ b₀ sum b =
-    (t ≤ b) × (b ≤ f) × (sum ≡ withTerms floats (columnAt a-columns) (columnAt b-columns) (value a-weights) (value b-weights) (inverseAt nan n scratch inverse) t b a first)
+    (t ≤ b) × (b ≤ f) × (sum ≡ withTerms floats (termColumn a-columns) (termColumn b-columns) (value a-weights) (value b-weights) (inverseAt nan n scratch inverse) t b a first)
 
 abbrev μ-loop : tie.MeasureT-loop
 μ-loop n a-columns a-weights a b-columns b-weights t f scratch inverse first x i positions base sum₀ b₀ sum b = f - b
@@ -115,8 +115,8 @@ loop-again c =
     let q = t .before in
     let l = q .loop in
     let a = start (q .before) .args in
-    let i = columnAt (now (a .a-columns)) (a .a) in
-    let k = columnAt (now (a .b-columns)) (l .b) in
+    let i = termColumn (now (a .a-columns)) (a .a) in
+    let k = termColumn (now (a .b-columns)) (l .b) in
     let Z = inverseAt nan (a .n) (now (a .scratch)) (now (a .inverse)) in
     let w = value (now (a .a-weights)) in
     let v = value (now (a .b-weights)) in
@@ -127,7 +127,7 @@ loop-again c =
       omega (arith, l .inv .0),
       omega (arith, place t),
       ap₂ (λ (x y : Float). add binary64 x (mul binary64 (mul binary64 (w (a .a)) (v (l .b))) y)) (l .inv .2) entry
-          ∙ sym (withTerms-next floats (columnAt (now (a .a-columns))) (columnAt (now (a .b-columns))) w v Z (a .t) (l .b) (a .a) (a .first) (l .inv .0)),
+          ∙ sym (withTerms-next floats (termColumn (now (a .a-columns))) (termColumn (now (a .b-columns))) w v Z (a .t) (l .b) (a .a) (a .first) (l .inv .0)),
     )
 
 returns : tie.Need-returns Inv-loop μ-loop
@@ -136,7 +136,7 @@ returns c =
     let a = start (c .before .before) .args in
     let e : l .b ≡ a .f = omega (arith, c .loop-test .left, l .inv .1) in
     let Z = inverseAt nan (a .n) (now (a .scratch)) (now (a .inverse)) in
-    l .inv .2 ∙ ap (λ (k : ℕ). withTerms floats (columnAt (now (a .a-columns))) (columnAt (now (a .b-columns))) (value (now (a .a-weights))) (value (now (a .b-weights))) Z (a .t) k (a .a) (a .first)) e
+    l .inv .2 ∙ ap (λ (k : ℕ). withTerms floats (termColumn (now (a .a-columns))) (termColumn (now (a .b-columns))) (value (now (a .a-weights))) (value (now (a .b-weights))) Z (a .t) k (a .a) (a .first)) e
 
 pub add-terms-spec : {M : Type 1} → statement M
 add-terms-spec =

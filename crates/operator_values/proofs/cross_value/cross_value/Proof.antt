@@ -8,14 +8,14 @@ use Rattle.pairs.specs.Positions.{inverseAt}
 use Rattle.columns.specs.Columns.{value}
 use Rattle.exact.specs.Exact.{floats}
 use Rattle.quadratic_form.specs.CrossValue.{withTerms, sumBefore, sumBefore-start, sumBefore-next}
-use Rattle.quadratic_form.specs.RowValue.{columnAt}
+use Rattle.quadratic_form.specs.RowValue.{termColumn}
 use Rattle.operator_values.proofs.ReadingLaws.{one-place}
 use Rattle.operator_values.proofs.cross_value.cross_value.Statement.{statement}
 use Rattle.operator_values.proofs.cross_value.cross_value.Tie as tie
 
 abbrev Inv-loop : tie.InvT-loop
 Inv-loop n a-columns a-weights s e b-columns b-weights t f scratch inverse sum₀ a₀ sum a =
-    (s ≤ a) × (a ≤ e) × (sum ≡ sumBefore floats (columnAt a-columns) (columnAt b-columns) (value a-weights) (value b-weights) (inverseAt nan n scratch inverse) s t f a)
+    (s ≤ a) × (a ≤ e) × (sum ≡ sumBefore floats (termColumn a-columns) (termColumn b-columns) (value a-weights) (value b-weights) (inverseAt nan n scratch inverse) s t f a)
 
 abbrev μ-loop : tie.MeasureT-loop
 μ-loop n a-columns a-weights s e b-columns b-weights t f scratch inverse sum₀ a₀ sum a = e - a
@@ -27,7 +27,7 @@ start q = q .before .before .before .before .before .before .before
 abbrev sum-to : tie.Start Inv-loop μ-loop → ℕ → Float
 sum-to s =
     let a = s .args in
-    sumBefore floats (columnAt (now (a .a-columns))) (columnAt (now (a .b-columns))) (value (now (a .a-weights))) (value (now (a .b-weights))) (inverseAt nan (a .n) (now (a .scratch)) (now (a .inverse))) (a .s) (a .t) (a .f)
+    sumBefore floats (termColumn (now (a .a-columns))) (termColumn (now (a .b-columns))) (value (now (a .a-weights))) (value (now (a .b-weights))) (inverseAt nan (a .n) (now (a .scratch)) (now (a .inverse))) (a .s) (a .t) (a .f)
 
 loop-holds : tie.Need-loop-holds Inv-loop μ-loop
 loop-holds c =
@@ -49,8 +49,8 @@ loop-again c =
     let l = t .before .loop in
     let s = start (t .before) in
     let a = s .args in
-    let k = columnAt (now (a .a-columns)) in
-    let j = columnAt (now (a .b-columns)) in
+    let k = termColumn (now (a .a-columns)) in
+    let j = termColumn (now (a .b-columns)) in
     let w = value (now (a .a-weights)) in
     let v = value (now (a .b-weights)) in
     let Z = inverseAt nan (a .n) (now (a .scratch)) (now (a .inverse)) in (
