@@ -24,7 +24,8 @@ use Rattle.column_sums.specs.Sums.{inverseAt, sumBetween, sumBetween-cong, entr
 use Rattle.column_sums.specs.Stored.{StoreSumsInput, SumsStored}
 use Rattle.closure_route.specs.Finish.{SumsFinished, StoreDiagonalInput}
 use Rattle.closure_route.specs.Route.{RouteLists, routeSet, ClosureRouteInput, SolvedFrom, ColumnsSolved}
-use Rattle.closure_route.proofs.ColumnLaws.{placeIn, firstOf, routeTerms, routeColumn, column, row-below, row-inside, dependency, word-is, column-most, column-input, diagonal-row, diagonal-input}
+use Rattle.closure_route.proofs.ColumnLaws.{placeIn, firstOf, routeTerms, routeColumn, column, row-below, row-inside, dependency, word-is}
+use Rattle.closure_route.proofs.ColumnLaws.{column-most, column-input, diagonal-row, diagonal-input}
 
 -- the sum of column j over the entries r of the inverse
 abbrev sumOver : RouteLists → ℕ → (ℕ → Float) → Float

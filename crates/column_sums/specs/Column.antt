@@ -19,7 +19,7 @@ pub record SumTerms : Type 0 where
   pub values : List Float
   pub scratch : List ℕ
 
--- the same, and the places of the sums in the result: those of its rows from first to below last
+-- column j, or a part of it: what its sums are taken over, and where in the result they are stored, from first to below last, with the result's rows
 pub record SumColumn : Type 0 where
   pub n : ℕ
   pub j : ℕ

@@ -48,8 +48,8 @@ fn add_stored(
     inverse: &mut [f64],
 ) -> usize
     requires { ⌜ AddStoredInput (sumColumn n j q last p (p + 1) (now rows) (now values) (now «entry_rows») (now scratch)) (length (now inverse)) ⌝ }
-    ensures { λ m. ⌜ ProductAdded (sumColumn n j q last p (p + 1) (now (rows .entry)) (now (values .entry)) (now («entry_rows» .entry)) (now (scratch .entry))) m
-        (now (inverse .entry)) (now (inverse .exit)) ⌝ }
+    ensures { λ m. ⌜ ProductAdded (sumColumn n j q last p (p + 1) (now (rows .entry)) (now (values .entry)) (now («entry_rows» .entry)) (now (scratch .entry)))
+        m (now (inverse .entry)) (now (inverse .exit)) ⌝ }
 {
     let k = at(rows, p);
     if k <= j {
@@ -81,8 +81,8 @@ fn add_products(
     inverse: &mut [f64],
 )
     requires { ⌜ AddProductsInput (sumColumn n j first last s e (now rows) (now values) (now «entry_rows») (now scratch)) (now inverse) ⌝ }
-    ensures { λ _. ⌜ ProductsAdded (sumColumn n j first last s e (now (rows .entry)) (now (values .entry)) (now («entry_rows» .entry)) (now (scratch .entry))) e
-        (now (inverse .entry)) (now (inverse .exit)) ⌝ }
+    ensures { λ _. ⌜ ProductsAdded (sumColumn n j first last s e (now (rows .entry)) (now (values .entry)) (now («entry_rows» .entry)) (now (scratch .entry)))
+        e (now (inverse .entry)) (now (inverse .exit)) ⌝ }
 {
     let mut q = first;
     let mut p = s;
@@ -107,8 +107,8 @@ fn add_rest(
     inverse: &mut [f64],
 ) -> usize
     requires { ⌜ AddRestInput (sumColumn n j q (q + 1) p e (now rows) (now values) (now «entry_rows») (now scratch)) zeros (length (now inverse)) ⌝ }
-    ensures { λ m. ⌜ RestAdded (sumColumn n j q (q + 1) p e (now (rows .entry)) (now (values .entry)) (now («entry_rows» .entry)) (now (scratch .entry))) m
-        (now (inverse .entry)) (now (inverse .exit)) ⌝ }
+    ensures { λ m. ⌜ RestAdded (sumColumn n j q (q + 1) p e (now (rows .entry)) (now (values .entry)) (now («entry_rows» .entry)) (now (scratch .entry)))
+        m (now (inverse .entry)) (now (inverse .exit)) ⌝ }
 {
     let i = at(entry_rows, q);
     let from = first_from(i + 1, rows, p, e);
@@ -148,8 +148,8 @@ fn add_rests(
     inverse: &mut [f64],
 )
     requires { ⌜ AddRestsInput (sumColumn n j first last s e (now rows) (now values) (now «entry_rows») (now scratch)) zeros (length (now inverse)) ⌝ }
-    ensures { λ _. ⌜ RestsAdded (sumColumn n j first last s e (now (rows .entry)) (now (values .entry)) (now («entry_rows» .entry)) (now (scratch .entry))) last
-        (now (inverse .entry)) (now (inverse .exit)) ⌝ }
+    ensures { λ _. ⌜ RestsAdded (sumColumn n j first last s e (now (rows .entry)) (now (values .entry)) (now («entry_rows» .entry)) (now (scratch .entry)))
+        last (now (inverse .entry)) (now (inverse .exit)) ⌝ }
 {
     let mut p = s;
     let mut q = first;

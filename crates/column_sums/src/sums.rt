@@ -157,7 +157,8 @@ fn sum_rows(
     inverse: &[f64],
 ) -> f64
     requires { ⌜ SumRowsInput base first e (now rows) (length (now values)) (now scratch) (length (now inverse)) ⌝ }
-    ensures { λ x. ⌜ ProductsSummed (now (values .entry)) (now (inverse .entry)) first e (rowPositions base (now (rows .entry)) (now (scratch .entry))) start x ⌝ }
+    ensures { λ x. ⌜ ProductsSummed (now (values .entry)) (now (inverse .entry)) first e
+        (rowPositions base (now (rows .entry)) (now (scratch .entry))) start x ⌝ }
 {
     let mut sum = start;
     let mut p = first;

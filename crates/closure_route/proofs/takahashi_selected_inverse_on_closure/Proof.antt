@@ -15,7 +15,9 @@ use Rattle.closure_route.proofs.takahashi_selected_inverse_on_closure.T
 
 abbrev Inv-loop : tie.InvT-loop
 Inv-loop n starts rows values entry-starts entry-rows entry-values₀ scratch j₀ entry-values j =
-    (length entry-values ≡ length entry-values₀) × (j ≤ n) × ColumnsSolved n (columnMarking n scratch) (floatTable n starts rows values) j entry-values₀ entry-values
+    (length entry-values ≡ length entry-values₀)
+    × (j ≤ n)
+    × ColumnsSolved n (columnMarking n scratch) (floatTable n starts rows values) j entry-values₀ entry-values
 
 abbrev μ-loop : tie.MeasureT-loop
 μ-loop n starts rows values entry-starts entry-rows entry-values₀ scratch j₀ entry-values j = j

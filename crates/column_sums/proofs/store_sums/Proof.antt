@@ -84,7 +84,8 @@ returns c =
     let p = lowered (r .before .before .before .before) in
     let d = cleared p in
     let t = d .before .before in
-    from-stored (column (t .before)) (t .before .first-from .ensures) (sums-stored (sums t) (d .clear-part .ensures) (p .add-products .ensures) (r .add-rests .ensures))
+    from-stored (column (t .before)) (t .before .first-from .ensures)
+    (sums-stored (sums t) (d .clear-part .ensures) (p .add-products .ensures) (r .add-rests .ensures))
 
 same-length-2 : tie.Need-same-length-2
 same-length-2 c = let p = lowered (c .before) in p .add-products .ensures .long ∙ cleared p .clear-part .ensures .long

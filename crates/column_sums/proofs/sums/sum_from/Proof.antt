@@ -5,7 +5,7 @@ use lib.Ieee.{Float, nan}
 use denote.Ref.{now}
 use borrow.Author.Needs.{needs}
 use Rattle.pair_places.specs.Position.{shift-fits}
-use Rattle.column_sums.specs.Column.{sumTerms}
+use Rattle.column_sums.specs.Column.{SumTerms, sumTerms}
 use Rattle.column_sums.specs.Sums.{inverseAt, SumContinued, withProduct, sumBetween-next}
 use Rattle.column_sums.proofs.SumLaws.{term-input}
 use Rattle.column_sums.proofs.sums.sum_from.Statement.{statement}
@@ -70,8 +70,8 @@ returns c =
     let l = c .before .loop in
     let a = begin (c .before) .args in
     let e : l .p ≡ a .e = omega (arith, c .loop-test .left, l .inv .1) in
-    subst (λ (k : ℕ). SumContinued (sumTerms (a .n) (a .j) (a .first) k (now (a .rows)) (now (a .values)) (now (a .scratch))) (now (a .inverse)) (a .i) (a .start) (l .sum)) e
-    (l .inv .2)
+    let t : ℕ → SumTerms = λ k. sumTerms (a .n) (a .j) (a .first) k (now (a .rows)) (now (a .values)) (now (a .scratch)) in
+    subst (λ (k : ℕ). SumContinued (t k) (now (a .inverse)) (a .i) (a .start) (l .sum)) e (l .inv .2)
 
 pub sum-from-spec : {M : Type 1} → statement M
 sum-from-spec =
