@@ -33,8 +33,10 @@ unfolding nonempty onFirst
 on-first b c [] = refl
 on-first b c (l ∷ ls) = refl
 
-word-of : (e : Bool) (b c : ℕ) (t : List ℕ) → isBlank c ≡ e → (e ≡ false → nonempty (onFirst c (split isBlank t)) ≡ (c ∷ front inked t) ∷ fields (past inked t)) →
-    nonempty (onFirst b (cond e ([] ∷ split isBlank t) (onFirst c (split isBlank t)))) ≡ (b ∷ cond (not e) (c ∷ front inked t) []) ∷ fields (cond (not e) (past inked t) (c ∷ t))
+word-of : (e : Bool) (b c : ℕ) (t : List ℕ) → isBlank c ≡ e
+    → (e ≡ false → nonempty (onFirst c (split isBlank t)) ≡ (c ∷ front inked t) ∷ fields (past inked t))
+    → nonempty (onFirst b (cond e ([] ∷ split isBlank t) (onFirst c (split isBlank t))))
+    ≡ (b ∷ cond (not e) (c ∷ front inked t) []) ∷ fields (cond (not e) (past inked t) (c ∷ t))
 unfolding nonempty onFirst
 word-of true b c t d h = ap (λ (r : List (List ℕ)). (b ∷ []) ∷ r) (sym (fields-blank c t d))
 word-of false b c t d h = on-first b c (split isBlank t) ∙ ap (onFirst b) (h refl)
@@ -79,7 +81,9 @@ digit-inked b h =
 shape-other : (k : ℕ) (b : ℕ) (t : List ℕ) → isBlank b ≡ false → isDigit b ≡ false → shape k (b ∷ t) ≡ false
 unfolding shape
 shape-other zero b t h g = ap empty (past-stop isBlank b t h)
-shape-other (suc k) b t h g = ap (λ (u : List ℕ). not (empty (digitsOf u)) && shape k (undigit u)) (past-stop isBlank b t h) ∙ ap (λ (u : List ℕ). not (empty u) && shape k (undigit (b ∷ t))) (front-stop isDigit b t g)
+shape-other (suc k) b t h g =
+    ap (λ (u : List ℕ). not (empty (digitsOf u)) && shape k (undigit u)) (past-stop isBlank b t h)
+    ∙ ap (λ (u : List ℕ). not (empty u) && shape k (undigit (b ∷ t))) (front-stop isDigit b t g)
 
 -- where the bytes up to the next blank are digits, these are the run of digits
 digits-of : (e f : Bool) (b : ℕ) (t : List ℕ) → isDigit b ≡ e → isBlank b ≡ f → every isDigit (cond (not f) (b ∷ front inked t) []) ≡ true →
@@ -115,7 +119,8 @@ digits-not k (b ∷ t) p = other-of k (isDigit b) (isBlank b) b t refl refl p (d
 numbers-more : (k : ℕ) (f : List ℕ) (fs : List (List ℕ)) → areNumbers (suc k) (f ∷ fs) ≡ (every isDigit f && areNumbers k fs)
 unfolding areNumbers every
 numbers-more k f fs =
-    ap (λ (e : Bool). e && (every isDigit f && every (every isDigit) fs)) (suc-both (length fs) k) ∙ swap (eqb (length fs) k) (every isDigit f) (every (every isDigit) fs)
+    ap (λ (e : Bool). e && (every isDigit f && every (every isDigit) fs)) (suc-both (length fs) k)
+    ∙ swap (eqb (length fs) k) (every isDigit f) (every (every isDigit) fs)
   where
     suc-both : (a b : ℕ) → eqb (suc a) (suc b) ≡ eqb a b
     suc-both a b =
@@ -133,11 +138,13 @@ module _ (k : ℕ) (b : ℕ) (t : List ℕ) (ink : isBlank b ≡ false) where
   first-of true false d g h = h
   first-of false f d g h = refl
 
-  behind : (f : Bool) → every isDigit (front inked t) ≡ f → ((u : List ℕ) → shape k u ≡ areNumbers k (fields u)) → shape k (undigit t) ≡ cond f (areNumbers k (fields (past inked t))) false
+  behind : (f : Bool) → every isDigit (front inked t) ≡ f → ((u : List ℕ) → shape k u ≡ areNumbers k (fields u))
+      → shape k (undigit t) ≡ cond f (areNumbers k (fields (past inked t))) false
   behind true g h = h (undigit t) ∙ ap (λ (u : List ℕ). areNumbers k (fields u)) (digits-all t g .1)
   behind false g h = digits-not k t g
 
-  first-field : ((u : List ℕ) → shape k u ≡ areNumbers k (fields u)) → (not (empty (digitsOf (b ∷ t))) && shape k (undigit (b ∷ t))) ≡ areNumbers (suc k) (fields (b ∷ t))
+  first-field : ((u : List ℕ) → shape k u ≡ areNumbers k (fields u))
+      → (not (empty (digitsOf (b ∷ t))) && shape k (undigit (b ∷ t))) ≡ areNumbers (suc k) (fields (b ∷ t))
   unfolding front past every
   first-field h =
       first-of (isDigit b) (every isDigit (front inked t)) refl refl (behind (every isDigit (front inked t)) refl h)
@@ -157,7 +164,8 @@ unfolding shape
 shape-unblank zero t = ap empty (past-twice isBlank t)
 shape-unblank (suc k) t = ap (λ (u : List ℕ). not (empty (digitsOf u)) && shape k (undigit u)) (past-twice isBlank t)
 
-shape-of : (k : ℕ) → ((u : List ℕ) → shape k u ≡ areNumbers k (fields u)) → (u : List ℕ) → ((b : ℕ) (r : List ℕ) → u ≡ b ∷ r → isBlank b ≡ false) → shape (suc k) u ≡ areNumbers (suc k) (fields u)
+shape-of : (k : ℕ) → ((u : List ℕ) → shape k u ≡ areNumbers k (fields u)) → (u : List ℕ) → ((b : ℕ) (r : List ℕ) → u ≡ b ∷ r → isBlank b ≡ false)
+    → shape (suc k) u ≡ areNumbers (suc k) (fields u)
 unfolding shape past front areNumbers
 shape-of k h [] q =
     sym
@@ -169,14 +177,16 @@ shape-of k h (b ∷ t) q = shape-first k b t (q b t refl) h
 pub shape-fields : (k : ℕ) (t : List ℕ) → shape k t ≡ areNumbers k (fields t)
 unfolding shape
 shape-fields zero t = sym (numbers-none (fields t) ∙ fields-empty t)
-shape-fields (suc k) t = sym (shape-unblank (suc k) t) ∙ shape-of k (shape-fields k) (unblank t) (past-head isBlank t) ∙ ap (areNumbers (suc k)) (fields-unblank t)
+shape-fields (suc k) t =
+    sym (shape-unblank (suc k) t) ∙ shape-of k (shape-fields k) (unblank t) (past-head isBlank t) ∙ ap (areNumbers (suc k)) (fields-unblank t)
 
 -- and then the numbers are those of the fields
 module _ (b : ℕ) (t : List ℕ) (ink : isBlank b ≡ false) where
   digits-there : (k : ℕ) → shape (suc k) (b ∷ t) ≡ true → every isDigit (b ∷ front inked t) ≡ true
   digits-there k h =
       and-left (every isDigit (b ∷ front inked t)) (areNumbers k (fields (past inked t)))
-      (sym (numbers-more k (b ∷ front inked t) (fields (past inked t))) ∙ sym (ap (areNumbers (suc k)) (fields-word b t ink)) ∙ sym (shape-fields (suc k) (b ∷ t)) ∙ h)
+      (sym (numbers-more k (b ∷ front inked t) (fields (past inked t)))
+      ∙ sym (ap (areNumbers (suc k)) (fields-word b t ink)) ∙ sym (shape-fields (suc k) (b ∷ t)) ∙ h)
 
   run : every isDigit (b ∷ front inked t) ≡ true → (digitsOf (b ∷ t) ≡ b ∷ front inked t) × (undigit (b ∷ t) ≡ past inked t)
   unfolding front past every
@@ -188,17 +198,21 @@ module _ (b : ℕ) (t : List ℕ) (ink : isBlank b ≡ false) where
   first-number : (k : ℕ) → shape (suc k) (b ∷ t) ≡ true → nthNumber 0 (b ∷ t) ≡ number 0 (fields (b ∷ t))
   unfolding nthNumber
   first-number k h =
-      ap (λ (u : List ℕ). numeral 0 (digitsOf u)) (past-stop isBlank b t ink) ∙ ap (numeral 0) (run (digits-there k h) .0) ∙ sym (ap (number 0) (fields-word b t ink))
+      ap (λ (u : List ℕ). numeral 0 (digitsOf u)) (past-stop isBlank b t ink)
+      ∙ ap (numeral 0) (run (digits-there k h) .0) ∙ sym (ap (number 0) (fields-word b t ink))
 
   later-shape : (k : ℕ) → shape (suc k) (b ∷ t) ≡ true → shape k (past inked t) ≡ true
   unfolding shape
   later-shape k h =
-      ap (shape k) (sym (run (digits-there k h) .1) ∙ sym (ap undigit (past-stop isBlank b t ink))) ∙ and-right (fieldThere (b ∷ t)) (shape k (unfield (b ∷ t))) h
+      ap (shape k) (sym (run (digits-there k h) .1) ∙ sym (ap undigit (past-stop isBlank b t ink)))
+      ∙ and-right (fieldThere (b ∷ t)) (shape k (unfield (b ∷ t))) h
 
-  later-number : (k i : ℕ) → shape (suc k) (b ∷ t) ≡ true → nthNumber i (past inked t) ≡ number i (fields (past inked t)) → nthNumber (suc i) (b ∷ t) ≡ number (suc i) (fields (b ∷ t))
+  later-number : (k i : ℕ) → shape (suc k) (b ∷ t) ≡ true → nthNumber i (past inked t) ≡ number i (fields (past inked t))
+      → nthNumber (suc i) (b ∷ t) ≡ number (suc i) (fields (b ∷ t))
   unfolding nthNumber
   later-number k i h e =
-      ap (λ (u : List ℕ). nthNumber i (undigit u)) (past-stop isBlank b t ink) ∙ ap (nthNumber i) (run (digits-there k h) .1) ∙ e ∙ sym (ap (number (suc i)) (fields-word b t ink))
+      ap (λ (u : List ℕ). nthNumber i (undigit u)) (past-stop isBlank b t ink)
+      ∙ ap (nthNumber i) (run (digits-there k h) .1) ∙ e ∙ sym (ap (number (suc i)) (fields-word b t ink))
 
 number-unblank : (i : ℕ) (t : List ℕ) → nthNumber i (unblank t) ≡ nthNumber i t
 unfolding nthNumber
@@ -210,7 +224,9 @@ unfolding shape past front
 no-shape k h = false≢true h
 
 -- from a line to the same without the blanks in front
-number-through : (k i : ℕ) (t : List ℕ) → shape (suc k) t ≡ true → (shape (suc k) (unblank t) ≡ true → nthNumber i (unblank t) ≡ number i (fields (unblank t))) → nthNumber i t ≡ number i (fields t)
+number-through : (k i : ℕ) (t : List ℕ) → shape (suc k) t ≡ true
+    → (shape (suc k) (unblank t) ≡ true → nthNumber i (unblank t) ≡ number i (fields (unblank t)))
+    → nthNumber i t ≡ number i (fields t)
 number-through k i t h f = sym (number-unblank i t) ∙ f (shape-unblank (suc k) t ∙ h) ∙ ap (number i) (fields-unblank t)
 
 first-inked : (k : ℕ) (u : List ℕ) → ((b : ℕ) (r : List ℕ) → u ≡ b ∷ r → isBlank b ≡ false) → shape (suc k) u ≡ true → nthNumber 0 u ≡ number 0 (fields u)
@@ -226,4 +242,5 @@ pub number-fields : (i k : ℕ) → i ≤ k → (t : List ℕ) → shape (suc k)
 number-fields zero k l t h = number-through k 0 t h (first-inked k (unblank t) (past-head isBlank t))
 number-fields (suc i) zero l t h = absurd (omega (arith, l))
 number-fields (suc i) (suc k) l t h =
-    number-through (suc k) (suc i) t h (λ (s : shape (suc (suc k)) (unblank t) ≡ true). later-inked (suc k) i (unblank t) (past-head isBlank t) s (number-fields i k (omega (arith, l))))
+    number-through (suc k) (suc i) t h
+    (λ (s : shape (suc (suc k)) (unblank t) ≡ true). later-inked (suc k) i (unblank t) (past-head isBlank t) s (number-fields i k (omega (arith, l))))

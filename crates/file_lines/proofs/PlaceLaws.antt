@@ -9,7 +9,7 @@ use lib.Dec.{eqb, ltb}
 use lib.ListN.{length, getD, drop, drop-of-length-le}
 use borrow.Author.Tests.{lt-ltb, le-ltb, ltb-true, eq-eqb, ne-eqb}
 use Rattle.matrix_market.specs.Text.{empty, isBlank, isDigit, numeral}
-use Rattle.matrix_market.specs.File.{number}
+use Rattle.matrix_market.specs.File.{areNumbers, number}
 use Rattle.file_lines.specs.Scan.{lineOf, restOf, past, unblank, digitsOf, undigit, unfield, nthNumber, cut}
 use Rattle.file_lines.specs.Places.{Skipped, NumberAt, DigitsRead, FieldAt, fieldsAt, LineAt, EndAt, PairAt, TripleAt}
 use Rattle.file_lines.proofs.ScanLaws.{cut-early, numeral-more, numeral-end, past-more, past-stop, past-end, front-more, front-stop, front-end}
@@ -60,7 +60,8 @@ module _ (text : List ℕ) (p : ℕ) where
   number-start h = record { is = refl; small = omega arith; left = refl; counted = refl; within = h }
 
   module _ (value i : ℕ) (s : DigitsRead text p value i) where
-    pub number-more : (more : ℕ) → i < length text → isDigit (getD text i 0) ≡ true → more ≡ cut (value * 10 + (getD text i 0 - 48)) → DigitsRead text p more (i + 1)
+    pub number-more : (more : ℕ) → i < length text → isDigit (getD text i 0) ≡ true → more ≡ cut (value * 10 + (getD text i 0 - 48))
+        → DigitsRead text p more (i + 1)
     number-more more l h m =
         let d : digitsOf (drop i text) ≡ getD text i 0 ∷ digitsOf (drop (i + 1) text) = ap digitsOf (drop-next text i l) ∙ front-more isDigit _ _ h in
         record {
@@ -95,7 +96,8 @@ module _ (text : List ℕ) (p : ℕ) where
         done (ap digitsOf none ∙ front-end isDigit) (ap undigit none ∙ past-end isDigit ∙ sym none)
 
 -- ---- a field: blanks and a number
-pub field-at : (text : List ℕ) (p at value next : ℕ) (there : Bool) → Skipped isBlank text p at → NumberAt text at value next → there ≡ ltb at next → FieldAt text p there value next
+pub field-at : (text : List ℕ) (p at value next : ℕ) (there : Bool) → Skipped isBlank text p at → NumberAt text at value next → there ≡ ltb at next
+    → FieldAt text p there value next
 field-at text p at value next there s n t =
     record {
       found = t ∙ sym (n .there) ∙ ap (λ (l : List ℕ). not (empty (digitsOf l))) (s .left);
@@ -108,11 +110,17 @@ field-at text p at value next there s n t =
 
 -- ---- a line of k numbers
 module _ (k : ℕ) (text : List ℕ) (p value mid next : ℕ) (there formed : Bool) (f : FieldAt text p there value mid) where
+  -- whether the line has the form: by its first field, and what is behind it
+  shape-behind : (first : Bool) → there ≡ first → areNumbers (suc k) (fieldsAt text p) ≡ (first && shape k (lineOf (unfield (drop p text))))
+  shape-behind first h =
+      sym (shape-fields (suc k) (lineOf (drop p text))) ∙ shape-more (drop p text) k
+      ∙ ap (λ (b : Bool). b && shape k (lineOf (unfield (drop p text)))) (sym (f .found) ∙ h)
+
   -- no field
   pub line-broken : there ≡ false → p ≤ length text → LineAt (suc k) text p false p
   line-broken h w =
       record {
-        shaped = sym (sym (shape-fields (suc k) (lineOf (drop p text))) ∙ shape-more (drop p text) k ∙ ap (λ (b : Bool). b && shape k (lineOf (unfield (drop p text)))) (sym (f .found) ∙ h));
+        shaped = sym (shape-behind false h);
         left = λ e. absurd (false≢true e);
         past-it = λ e. absurd (false≢true e);
         within = w;
@@ -124,7 +132,7 @@ module _ (k : ℕ) (text : List ℕ) (p value mid next : ℕ) (there formed : Bo
       record {
         shaped =
             l .shaped ∙ sym (shape-fields k (lineOf (drop mid text))) ∙ ap (λ (t : List ℕ). shape k (lineOf t)) (f .left)
-            ∙ sym (sym (shape-fields (suc k) (lineOf (drop p text))) ∙ shape-more (drop p text) k ∙ ap (λ (b : Bool). b && shape k (lineOf (unfield (drop p text)))) (sym (f .found) ∙ h));
+            ∙ sym (shape-behind true h);
         left = λ e. l .left e ∙ ap restOf (f .left) ∙ unfield-rest (drop p text);
         past-it = λ e. omega (arith, l .past-it e, f .past-it h);
         within = l .within;
@@ -197,7 +205,12 @@ line-end text p ended next e =
 -- no number where one is due
 module _ (text : List ℕ) (p value mid : ℕ) (there : Bool) (f : FieldAt text p there value mid) (h : there ≡ false) (w : p ≤ length text) where
   pub pair-none : PairAt text p false 0 0 p
-  pair-none = record { line = line-broken 1 text p value mid 0 there false f h w; first-is = λ e. absurd (false≢true e); second-is = λ e. absurd (false≢true e) }
+  pair-none =
+      record {
+        line = line-broken 1 text p value mid 0 there false f h w;
+        first-is = λ e. absurd (false≢true e);
+        second-is = λ e. absurd (false≢true e);
+      }
 
   pub triple-none : TripleAt text p false 0 0 0 p
   triple-none =
@@ -219,7 +232,8 @@ module _ (text : List ℕ) (p a mid : ℕ) (there : Bool) (f : FieldAt text p th
         second-is = λ e. absurd (false≢true e);
       }
 
-  pub pair-whole : (b last next : ℕ) (half ended : Bool) → FieldAt text mid half b last → half ≡ true → EndAt text last ended next → PairAt text p ended a b next
+  pub pair-whole : (b last next : ℕ) (half ended : Bool) → FieldAt text mid half b last → half ≡ true → EndAt text last ended next
+      → PairAt text p ended a b next
   pair-whole b last next half ended g q e =
       let line = line-more 1 text p a mid next there ended f h (line-more 0 text mid b last next half ended g q (line-end text last ended next e)) in
       record {

@@ -20,20 +20,27 @@ module _ (text : List ℕ) (p : ℕ) where
   pub few-start : p ≤ length text → FewAt text p 0 p
   few-start h = record { read = number-start text p h; above = omega arith; most = omega arith }
 
-  pub few-more : (value i more next : ℕ) → FewAt text p value i → i < p + 4 → i < length text → isDigit (getD text i 0) ≡ true → more ≡ cut (value * 10 + (getD text i 0 - 48)) → next ≡ i + 1 → FewAt text p more next
+  pub few-more : (value i more next : ℕ) → FewAt text p value i → i < p + 4 → i < length text → isDigit (getD text i 0) ≡ true
+      → more ≡ cut (value * 10 + (getD text i 0 - 48)) → next ≡ i + 1 → FewAt text p more next
   few-more value i more next f m l h e n =
-      record { read = subst (DigitsRead text p more) (sym n) (number-more text p value i (f .read) more l h e); above = omega (arith, f .above); most = omega arith }
+      record {
+        read = subst (DigitsRead text p more) (sym n) (number-more text p value i (f .read) more l h e);
+        above = omega (arith, f .above);
+        most = omega arith;
+      }
 
 -- ---- the line
 -- the byte is one digit: no blank, and the first of a number
-digit-byte : (e : Bool) (text : List ℕ) (p : ℕ) → p < length text → isDigit (getD text p 0) ≡ e → not (empty (digitsOf (drop p text))) ≡ true → isDigit (getD text p 0) ≡ true
+digit-byte : (e : Bool) (text : List ℕ) (p : ℕ) → p < length text → isDigit (getD text p 0) ≡ e → not (empty (digitsOf (drop p text))) ≡ true
+    → isDigit (getD text p 0) ≡ true
 digit-byte true text p l d h = d
 digit-byte false text p l d h =
     let none : digitsOf (drop p text) ≡ [] = ap digitsOf (drop-next text p l) ∙ front-stop isDigit _ _ d in
     absurd (false≢true (ap (λ (r : List ℕ). not (empty r)) (sym none) ∙ h))
 
 -- a number from p on that another byte ends
-module _ (text : List ℕ) (p value next : ℕ) (few : FewAt text p value next) (more : next ≡ p → ⊥) (l : next < length text) (other : isDigit (getD text next 0) ≡ false) where
+module _ (text : List ℕ) (p value next : ℕ) (few : FewAt text p value next) (more : next ≡ p → ⊥)
+    (l : next < length text) (other : isDigit (getD text next 0) ≡ false) where
   pub few-number : NumberAt text p value next
   few-number = number-stop text p value next (few .read) l other
 
@@ -73,7 +80,8 @@ module _ (text : List ℕ) (p a mid b last : ℕ) (room : p + 10 ≤ length text
   one-blank =
       let gap-blank : isBlank (getD text mid 0) ≡ true = rw gap in
       let next-in : mid + 1 < length text = omega (arith, x .most, room) in
-      skip-stop isBlank text mid (mid + 1) (skip-more isBlank text mid mid (skip-start isBlank text mid (omega (arith, mid-in))) mid-in gap-blank) next-in (digit-inked _ second-digit)
+      skip-stop isBlank text mid (mid + 1) (skip-more isBlank text mid mid (skip-start isBlank text mid (omega (arith, mid-in))) mid-in gap-blank)
+      next-in (digit-inked _ second-digit)
 
   none-behind : Skipped isBlank text last last
   unfolding isBlank
@@ -89,12 +97,14 @@ module _ (text : List ℕ) (p a mid b last : ℕ) (room : p + 10 ≤ length text
   second-field : FieldAt text mid true b last
   second-field =
       let above : mid + 1 < last = omega (arith, y .above, later) in
-      field-at text mid (mid + 1) b last true one-blank (few-number text (mid + 1) b last y later last-in (not-digit _ (inr end))) (sym (lt-ltb (mid + 1) last above))
+      field-at text mid (mid + 1) b last true one-blank (few-number text (mid + 1) b last y later last-in (not-digit _ (inr end)))
+      (sym (lt-ltb (mid + 1) last above))
 
   pub plain-line : PlainAt text p true a b (last + 1)
   plain-line =
       record {
         inside = λ _. omega (arith, room);
         digit = λ _. first-digit;
-        pair = λ _. pair-whole text p a mid true first-field refl b last (last + 1) true true second-field refl (end-here text last last none-behind last-in end);
+        pair = λ _.
+            pair-whole text p a mid true first-field refl b last (last + 1) true true second-field refl (end-here text last last none-behind last-in end);
       }

@@ -98,7 +98,8 @@ module _ (test : ℕ → Bool) where
   front-end = refl
 
   -- twice is once
-  past-twice-of : (e : Bool) (b : ℕ) (t : List ℕ) → test b ≡ e → past test (past test t) ≡ past test t → past test (cond e (past test t) (b ∷ t)) ≡ cond e (past test t) (b ∷ t)
+  past-twice-of : (e : Bool) (b : ℕ) (t : List ℕ) → test b ≡ e → past test (past test t) ≡ past test t
+      → past test (cond e (past test t) (b ∷ t)) ≡ cond e (past test t) (b ∷ t)
   past-twice-of true b t d h = h
   past-twice-of false b t d h = past-stop b t d
 
@@ -108,7 +109,8 @@ module _ (test : ℕ → Bool) where
   past-twice (b ∷ t) = past-twice-of (test b) b t refl (past-twice t)
 
   -- the first byte behind the run fails the test
-  past-head-of : (e : Bool) (b c : ℕ) (t r : List ℕ) → test c ≡ e → (past test t ≡ b ∷ r → test b ≡ false) → cond e (past test t) (c ∷ t) ≡ b ∷ r → test b ≡ false
+  past-head-of : (e : Bool) (b c : ℕ) (t r : List ℕ) → test c ≡ e → (past test t ≡ b ∷ r → test b ≡ false) → cond e (past test t) (c ∷ t) ≡ b ∷ r
+      → test b ≡ false
   past-head-of true b c t r d h q = h q
   past-head-of false b c t r d h q = let z : c ≡ b = cc in ap test (sym z) ∙ d
 

@@ -16,8 +16,9 @@ use Rattle.refusal.specs.Bounds.{maxDimension, maxEntries}
 use Rattle.refusal.specs.Steps.{Step, Passed, Clear, passed-clear, clear-passed, passed-front, passed-back}
 use Rattle.matrix_market.specs.Text.{lines}
 use Rattle.matrix_market.specs.Examples.{told, sample, sample-passes}
-use Rattle.matrix_market.specs.File.{header, firstLine, sizeFields, entries, number, dimensionOf, pairOf, fileRequests, fileRows, fileColumns, requests-kept}
-use Rattle.matrix_market.specs.File.{sameBytes, sameBytes-equal, outsideIndex, outsidePair, outsideEntry, fileSizeSteps, fileEntrySteps, fileRoomSteps, fileSteps}
+use Rattle.matrix_market.specs.File.{header, firstLine, sizeFields, entries, number, dimensionOf, pairOf, fileRequests, fileRows, fileColumns}
+use Rattle.matrix_market.specs.File.{sameBytes, sameBytes-equal, outsideIndex, outsidePair, outsideEntry, requests-kept}
+use Rattle.matrix_market.specs.File.{fileSizeSteps, fileEntrySteps, fileRoomSteps, fileSteps}
 
 -- the header, sizes and requests within the bounds, as many entries as counted, each request inside on or below the diagonal, and room for them
 pub record AcceptedFile (text : List ℕ) (rows columns : ℕ) : Type 0 where

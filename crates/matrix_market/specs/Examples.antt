@@ -38,7 +38,7 @@ sizeTold : List ℕ → ℕ
 unfolding first fileSizeSteps every areNumbers nonempty split onFirst isBlank numeral isDigit
 sizeTold line = numberOf (verdict (fileSizeSteps (fields line)))
 
--- of the texts, each behind what it shows, those of which something else than k is told
+-- rows of a name and a text: the names of those of whose text another number than k is told
 wrong : (List ℕ → ℕ) → ℕ → List (String × List ℕ) → List String
 wrong tell k [] = []
 wrong tell k (e ∷ rest) = cond (eqb (tell (e .1)) k) (wrong tell k rest) (e .0 ∷ wrong tell k rest)
@@ -55,6 +55,7 @@ header-refused :
     ∷ ("an empty line first", bytes "\n%%MatrixMarket matrix coordinate pattern symmetric\n1 1 0\n")
     ∷ ("a space behind the header", headed " \n1 1 0\n")
     ∷ ("a carriage return behind the header", headed "\r\n1 1 0\n")
+    ∷ ("another header, then a size line of two numbers", bytes "%\n2 2\n")
     ∷ []) ≡ []
 unfolding wrong told headed bytes
 header-refused = refl
@@ -118,10 +119,17 @@ indices-refused :
     ∷ ("2^64 + 1 is not 1", headed "\n2 2 1\n18446744073709551617 1\n")
     ∷ ("row 1, column 2", headed "\n2 2 1\n1 2\n")
     ∷ ("the first entry of two", headed "\n2 2 2\n1 2\n1 1\n")
+    ∷ ("the second entry of two", headed "\n2 2 2\n1 1\n1 2\n")
+    ∷ ("the fifth entry, for which there is no place", headed "\n2 2 5\n1 1\n2 1\n2 2\n1 1\n1 2\n")
     ∷ ("an entry of size 0", headed "\n0 0 1\n1 1\n")
     ∷ []) ≡ []
 unfolding wrong told headed bytes
 indices-refused = refl
+
+-- ---- 7: a list too short
+room-refused : wrong told 7 (("five entries for four places", headed "\n2 2 5\n1 1\n2 1\n2 2\n1 1\n1 1\n") ∷ []) ≡ []
+unfolding wrong told headed bytes
+room-refused = refl
 
 -- ---- files that are accepted
 accepted-files :
@@ -154,7 +162,7 @@ long-zeros : told (headed "\n2 2 1\n" ++ (replicate 400 48 ++ bytes "2 1\n")) �
 unfolding told headed
 long-zeros = refl
 
--- ---- 7, and what is read: a comment, blank lines, tabs, a leading zero, a repeat and no last line end
+-- ---- what is read: a file with a comment, blank lines, tabs, a leading zero, a repeat and no last line end
 unfoldable pub sample : List ℕ
 unfolding headed
 sample = headed "\n%a comment\n\n \t\n 3\t3  4 \n1 1\n\t03 2\n\n2  2\t\n3 2 "

@@ -69,7 +69,8 @@ module _ (ends : ℕ → Bool) where
   on-first-solid b [] h p = rw h
   on-first-solid b (l ∷ ls) h p = rw h p
 
-  split-of : (e : Bool) (b : ℕ) (t : List ℕ) → ends b ≡ e → every (solid ends) (split ends t) ≡ true → every (solid ends) (cond e ([] ∷ split ends t) (onFirst b (split ends t))) ≡ true
+  split-of : (e : Bool) (b : ℕ) (t : List ℕ) → ends b ≡ e → every (solid ends) (split ends t) ≡ true
+      → every (solid ends) (cond e ([] ∷ split ends t) (onFirst b (split ends t))) ≡ true
   unfolding every
   split-of true b t d p = p
   split-of false b t d p = on-first-solid b (split ends t) d p
@@ -81,8 +82,9 @@ module _ (ends : ℕ → Bool) where
   split-solid (b ∷ t) = split-of (ends b) b t refl (split-solid t)
 
   module _ (e : ℕ) (is-end : ends e ≡ true) where
-    part-of : (x : Bool) (b : ℕ) (l r : List ℕ) → ends b ≡ x → (not x && solid ends l) ≡ true → (solid ends l ≡ true → split ends (l ++ (e ∷ r)) ≡ l ∷ split ends r) →
-        cond x ([] ∷ split ends (l ++ (e ∷ r))) (onFirst b (split ends (l ++ (e ∷ r)))) ≡ (b ∷ l) ∷ split ends r
+    part-of : (x : Bool) (b : ℕ) (l r : List ℕ) → ends b ≡ x → (not x && solid ends l) ≡ true
+        → (solid ends l ≡ true → split ends (l ++ (e ∷ r)) ≡ l ∷ split ends r)
+        → cond x ([] ∷ split ends (l ++ (e ∷ r))) (onFirst b (split ends (l ++ (e ∷ r)))) ≡ (b ∷ l) ∷ split ends r
     unfolding onFirst
     part-of true b l r d p h = absurd (false≢true p)
     part-of false b l r d p h = ap (onFirst b) (h p)
@@ -128,7 +130,8 @@ unfolding onFirst joined
 joined-first e b [] h = absurd (false≢true (sym h))
 joined-first e b (l ∷ ls) h = refl
 
-joined-of : (x : Bool) (b : ℕ) (s : List (List ℕ)) (t : List ℕ) → eqb b 10 ≡ x → empty s ≡ false → joined 10 s ≡ t → joined 10 (cond x ([] ∷ s) (onFirst b s)) ≡ b ∷ t
+joined-of : (x : Bool) (b : ℕ) (s : List (List ℕ)) (t : List ℕ) → eqb b 10 ≡ x → empty s ≡ false → joined 10 s ≡ t
+    → joined 10 (cond x ([] ∷ s) (onFirst b s)) ≡ b ∷ t
 unfolding joined
 joined-of true b s t d n h = ap₂ _∷_ (sym (eqb-true b 10 d)) h
 joined-of false b s t d n h = joined-first 10 b s n ∙ ap (λ (l : List ℕ). b ∷ l) h

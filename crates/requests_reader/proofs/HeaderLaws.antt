@@ -1,24 +1,21 @@
--- How the functions that read the header, comments and the size line go on by a byte or a line.
+-- How the functions that read the header and comments go on by a byte or a line.
 -- Assumes nothing.
 use Prim.Native.Nat.{ℕ, _+_, _≤_, _<_}
 use native.Mathlib.Omega.{arith}
 use mathlib.Core.Path.{_≡_, refl, sym, ap, ap₂, _∙_}
-use mathlib.Core.Bool.{Bool, true, false, cond, not, _||_, false≢true}
+use mathlib.Core.Bool.{Bool, true, false, cond, _||_, false≢true}
 use mathlib.Core.List.{List, [], _∷_}
-use lib.Dec.{eqb, ltb}
+use lib.Dec.{eqb}
 use lib.ListN.{length, getD, drop, drop-of-length-le}
-use borrow.Author.Tests.{eqb-true, eq-eqb, ne-eqb, lt-ltb, le-ltb}
+use borrow.Author.Tests.{eqb-true, eq-eqb, ne-eqb}
 use Rattle.lists.specs.Test.{or-left}
-use Rattle.refusal.specs.Bounds.{maxDimension, maxEntries}
-use Rattle.refusal.specs.Steps.{Step, refused, verdict, first-hit, first-skip, first-end}
 use Rattle.matrix_market.specs.Text.{split, lines, fields, empty}
-use Rattle.matrix_market.specs.File.{sameBytes, comment, skipped, fromSize, areNumbers, number, fileSizeSteps}
+use Rattle.matrix_market.specs.File.{sameBytes, comment, skipped, fromSize}
 use Rattle.file_lines.specs.Scan.{lineOf, restOf}
-use Rattle.file_lines.specs.Places.{EndAt, fieldsAt, TripleAt}
+use Rattle.file_lines.specs.Places.{EndAt}
 use Rattle.file_lines.proofs.ScanLaws.{unblank-line, lines-next, drop-next, rest-none, rest-end, rest-more, headByte, headByte-end, headByte-is}
 use Rattle.file_lines.proofs.FieldLaws.{fields-empty}
-use Rattle.requests_reader.specs.HeaderLines.{RestAt, OverAt, SizeAt, LabelAt, SizeRead}
-use Rattle.requests_reader.proofs.CutLaws.{above-cut}
+use Rattle.requests_reader.specs.HeaderLines.{RestAt, OverAt, SizeAt, LabelAt}
 
 -- ---- the first line against another, byte by byte
 pub sameBytes-end : (t : List ℕ) → sameBytes (lineOf t) [] ≡ eqb (headByte t) 10
@@ -111,7 +108,9 @@ module _ (text : List ℕ) (p : ℕ) (l : p < length text) where
   pub over-other : (ended : Bool) (next : ℕ) → (getD text p 0 ≡ 37 → ⊥) → EndAt text p ended next → OverAt text p ended next
   over-other ended next h e =
       record {
-        found = e .found ∙ ap empty (sym (unblank-line (drop p text))) ∙ sym (fields-empty (lineOf (drop p text))) ∙ ap (λ (b : Bool). b || empty (fields (lineOf (drop p text)))) (sym (first-byte ∙ ne-eqb _ _ h));
+        found =
+            e .found ∙ ap empty (sym (unblank-line (drop p text))) ∙ sym (fields-empty (lineOf (drop p text)))
+            ∙ ap (λ (b : Bool). b || empty (fields (lineOf (drop p text)))) (sym (first-byte ∙ ne-eqb _ _ h));
         left = e .left;
         past-it = λ q. e .past-it q l;
         within = e .within;
@@ -143,7 +142,9 @@ module _ (text : List ℕ) (p : ℕ) where
       pub skip-comments-stop : over ≡ false → SizeAt text p i
       skip-comments-stop h =
           record {
-            left = ap lines (drop-next text i l) ∙ sym (fromSize-stop _ _ (here ∙ h)) ∙ ap (λ (t : List ℕ). fromSize (lines t)) (sym (drop-next text i l)) ∙ s .left;
+            left =
+                ap lines (drop-next text i l) ∙ sym (fromSize-stop _ _ (here ∙ h))
+                ∙ ap (λ (t : List ℕ). fromSize (lines t)) (sym (drop-next text i l)) ∙ s .left;
             within = s .within;
           }
 
@@ -171,7 +172,8 @@ module _ (text label : List ℕ) where
       pub first-line-short : length text ≤ i → LabelAt text label false 0
       first-line-short h =
           let none : drop i text ≡ [] = drop-of-length-le text h in
-          differs i (sym (s .is) ∙ ap (sameBytes (lineOf (drop i text))) (drop-next label i l) ∙ sameBytes-short (drop i text) _ _ (ap headByte none ∙ headByte-end))
+          differs i
+          (sym (s .is) ∙ ap (sameBytes (lineOf (drop i text))) (drop-next label i l) ∙ sameBytes-short (drop i text) _ _ (ap headByte none ∙ headByte-end))
 
       module _ (k : i < length text) where
         both : sameBytes (lineOf (drop i text)) (drop i label) ≡ sameBytes (lineOf (getD text i 0 ∷ drop (i + 1) text)) (getD label i 0 ∷ drop (i + 1) label)
@@ -219,84 +221,3 @@ module _ (text label : List ℕ) where
 
         pub first-line-long : (getD text i 0 ≡ 10 → ⊥) → LabelAt text label false 0
         first-line-long h = differs i (done ∙ ne-eqb _ _ (λ e. h (sym byte ∙ e)))
-
--- ---- the size line
--- refused, with nothing told of it
-pub size-not : (text : List ℕ) (p : ℕ) (accepted : Bool) (n count next : ℕ) → (accepted ≡ false) × (n ≡ 0) × (next ≡ 0) → verdict (fileSizeSteps (fieldsAt text p)) ≡ refused 16
-    → SizeRead text p accepted n count next
-size-not text p accepted n count next e h =
-    record {
-      refuses = λ _. h;
-      passes = λ q. absurd (false≢true (sym (e .0) ∙ q));
-      n-is = λ q. absurd (false≢true (sym (e .0) ∙ q));
-      count-is = λ q. absurd (false≢true (sym (e .0) ∙ q));
-      small = omega (arith, e .1);
-      left = λ q. absurd (false≢true (sym (e .0) ∙ q));
-      within = omega (arith, e .2);
-    }
-
-module _ (text : List ℕ) (p : ℕ) (formed : Bool) (a b c next : ℕ) (t : TripleAt text p formed a b c next) where
-  abbrev steps : List Step
-  steps = fileSizeSteps (fieldsAt text p)
-
-  pub size-broken : formed ≡ false → verdict steps ≡ refused 16
-  unfolding fileSizeSteps
-  size-broken h = first-hit 16 _ tt (ap not (sym (t .line .shaped) ∙ h))
-
-  module _ (f : formed ≡ true) where
-    shaped : not (areNumbers 3 (fieldsAt text p)) ≡ false
-    shaped = ap not (sym (t .line .shaped) ∙ f)
-
-    first-above : ltb maxDimension a ≡ ltb maxDimension (number 0 (fieldsAt text p))
-    first-above = ap (ltb maxDimension) (t .first-is f) ∙ above-cut maxDimension (omega arith) (number 0 (fieldsAt text p))
-
-    pub size-large : maxDimension < a → verdict steps ≡ refused 16
-    unfolding fileSizeSteps
-    size-large h = first-skip 16 _ tt shaped (first-hit 16 _ tt (sym first-above ∙ lt-ltb _ _ h))
-
-    module _ (l : a ≤ maxDimension) where
-      within-bound : ltb maxDimension (number 0 (fieldsAt text p)) ≡ false
-      within-bound = sym first-above ∙ le-ltb _ _ l
-
-      first-exact : number 0 (fieldsAt text p) ≡ a
-      first-exact = omega (arith, t .first-is f)
-
-      pub size-unequal : (a ≡ b → ⊥) → verdict steps ≡ refused 16
-      unfolding fileSizeSteps
-      size-unequal h =
-          let differ : number 0 (fieldsAt text p) ≡ number 1 (fieldsAt text p) → ⊥ = λ e. h (omega (arith, e, l, first-exact, t .second-is f)) in
-          first-skip 16 _ tt shaped (first-skip 16 _ tt within-bound (first-hit 16 _ tt (ap not (ne-eqb _ _ differ))))
-
-      module _ (q : a ≡ b) where
-        equal : not (eqb (number 0 (fieldsAt text p)) (number 1 (fieldsAt text p))) ≡ false
-        equal =
-            let e : number 0 (fieldsAt text p) ≡ number 1 (fieldsAt text p) = omega (arith, q, l, first-exact, t .second-is f) in
-            ap not (eq-eqb _ _ e)
-
-        third-above : ltb maxEntries c ≡ ltb maxEntries (number 2 (fieldsAt text p))
-        third-above = ap (ltb maxEntries) (t .third-is f) ∙ above-cut maxEntries (omega arith) (number 2 (fieldsAt text p))
-
-        pub size-many : maxEntries < c → verdict steps ≡ refused 16
-        unfolding fileSizeSteps
-        size-many h =
-            first-skip 16 _ tt shaped
-            (first-skip 16 _ tt within-bound
-            (first-skip 16 _ tt equal
-            (first-hit 16 _ tt (sym third-above ∙ lt-ltb _ _ h))))
-
-        pub size-passes : c ≤ maxEntries → SizeRead text p true a c next
-        unfolding fileSizeSteps
-        size-passes h =
-            record {
-              refuses = λ e. absurd (false≢true (sym e));
-              passes = λ _.
-                  first-skip 16 _ tt shaped
-                  (first-skip 16 _ tt within-bound
-                  (first-skip 16 _ tt equal
-                  (first-skip 16 _ tt (sym third-above ∙ le-ltb _ _ h) (first-end tt))));
-              n-is = λ _. first-exact;
-              count-is = λ _. omega (arith, h, t .third-is f);
-              small = l;
-              left = λ _. t .line .left f;
-              within = t .line .within;
-            }

@@ -1,5 +1,6 @@
 pub mod CutLaws
 pub mod HeaderLaws
+pub mod SizeLaws
 pub mod OverwriteLaws
 pub mod EntryLaws
 pub mod StoreLaws

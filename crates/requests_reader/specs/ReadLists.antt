@@ -59,7 +59,8 @@ module _ (text rows₀ columns₀ rows columns : List ℕ) (n count : ℕ) (r : 
     row-at = ap (λ (s : List ℕ). getD s k 0) rows-written ∙ overwrite-at (fileRows text) rows₀ k 0 (omega (arith, l, count-is, accepted .rows-long))
 
     column-at : getD columns k 0 ≡ getD (fileColumns text) k 0
-    column-at = ap (λ (s : List ℕ). getD s k 0) columns-written ∙ overwrite-at (fileColumns text) columns₀ k 0 (omega (arith, l, count-is, accepted .columns-long))
+    column-at =
+        ap (λ (s : List ℕ). getD s k 0) columns-written ∙ overwrite-at (fileColumns text) columns₀ k 0 (omega (arith, l, count-is, accepted .columns-long))
 
     row-inside : getD rows k 0 < n
     row-inside = omega (arith, row-at, n-is, accepted .inside k (omega (arith, l, count-is)))

@@ -9,21 +9,50 @@ use Rattle.file_lines.proofs.PlainLaws.{few-start, few-more}
 use Rattle.file_lines.proofs.few_digits.Statement.{statement}
 use Rattle.file_lines.proofs.few_digits.Tie as tie
 
+-- the start, seen from behind each digit
+abbrev start1 : tie.After-digit-more → tie.Start
+start1 c = c .before .before .before .before .before
+
+abbrev start2 : tie.After-digit-more2 → tie.Start
+start2 c = start1 (c .before .before .before .before)
+
+abbrev start3 : tie.After-digit-more3 → tie.Start
+start3 c = start2 (c .before .before .before .before)
+
+abbrev start4 : tie.After-digit-more4 → tie.Start
+start4 c = start3 (c .before .before .before .before)
+
 -- one digit read
-one : (c : tie.After-digit-more) → FewAt (now (c .before .before .before .before .before .args .text)) (c .before .before .before .before .before .args .p) (c .digit-more .result) (c .before .before .before .before .before .args .p + 1)
-one c = few-more _ _ _ _ _ _ (few-start _ _ (search needs)) (search needs) (search needs) (sym (c .before .before .digit .ensures) ∙ not-false (c .before .before .digit .result) (c .before .if1 .left)) (c .digit-more .ensures) (omega arith)
+one : (c : tie.After-digit-more) → let a = start1 c .args in FewAt (now (a .text)) (a .p) (c .digit-more .result) (a .p + 1)
+one c =
+    let e = c .before in
+    let g = e .before in
+    few-more _ _ _ _ _ _ (few-start _ _ (search needs)) (search needs) (search needs)
+    (sym (g .digit .ensures) ∙ not-false (g .digit .result) (e .if1 .left)) (c .digit-more .ensures) (omega arith)
 
 -- two digits read
-two : (c : tie.After-digit-more2) → FewAt (now (c .before .before .before .before .before .before .before .before .before .args .text)) (c .before .before .before .before .before .before .before .before .before .args .p) (c .digit-more2 .result) (c .before .before .before .before .before .before .before .before .before .args .p + 2)
-two c = few-more _ _ _ _ _ _ (one (c .before .before .before .before)) (search needs) (search needs) (sym (c .before .before .digit2 .ensures) ∙ not-false (c .before .before .digit2 .result) (c .before .if2 .left)) (c .digit-more2 .ensures) (omega arith)
+two : (c : tie.After-digit-more2) → let a = start2 c .args in FewAt (now (a .text)) (a .p) (c .digit-more2 .result) (a .p + 2)
+two c =
+    let e = c .before in
+    let g = e .before in
+    few-more _ _ _ _ _ _ (one (g .before .before)) (search needs) (search needs)
+    (sym (g .digit2 .ensures) ∙ not-false (g .digit2 .result) (e .if2 .left)) (c .digit-more2 .ensures) (omega arith)
 
 -- three digits read
-three : (c : tie.After-digit-more3) → FewAt (now (c .before .before .before .before .before .before .before .before .before .before .before .before .before .args .text)) (c .before .before .before .before .before .before .before .before .before .before .before .before .before .args .p) (c .digit-more3 .result) (c .before .before .before .before .before .before .before .before .before .before .before .before .before .args .p + 3)
-three c = few-more _ _ _ _ _ _ (two (c .before .before .before .before)) (search needs) (search needs) (sym (c .before .before .digit3 .ensures) ∙ not-false (c .before .before .digit3 .result) (c .before .if3 .left)) (c .digit-more3 .ensures) (omega arith)
+three : (c : tie.After-digit-more3) → let a = start3 c .args in FewAt (now (a .text)) (a .p) (c .digit-more3 .result) (a .p + 3)
+three c =
+    let e = c .before in
+    let g = e .before in
+    few-more _ _ _ _ _ _ (two (g .before .before)) (search needs) (search needs)
+    (sym (g .digit3 .ensures) ∙ not-false (g .digit3 .result) (e .if3 .left)) (c .digit-more3 .ensures) (omega arith)
 
 -- four digits read
-four : (c : tie.After-digit-more4) → FewAt (now (c .before .before .before .before .before .before .before .before .before .before .before .before .before .before .before .before .before .args .text)) (c .before .before .before .before .before .before .before .before .before .before .before .before .before .before .before .before .before .args .p) (c .digit-more4 .result) (c .before .before .before .before .before .before .before .before .before .before .before .before .before .before .before .before .before .args .p + 4)
-four c = few-more _ _ _ _ _ _ (three (c .before .before .before .before)) (search needs) (search needs) (sym (c .before .before .digit4 .ensures) ∙ not-false (c .before .before .digit4 .result) (c .before .if4 .left)) (c .digit-more4 .ensures) (omega arith)
+four : (c : tie.After-digit-more4) → let a = start4 c .args in FewAt (now (a .text)) (a .p) (c .digit-more4 .result) (a .p + 4)
+four c =
+    let e = c .before in
+    let g = e .before in
+    few-more _ _ _ _ _ _ (three (g .before .before)) (search needs) (omega (arith, start4 c .pre))
+    (sym (g .digit4 .ensures) ∙ not-false (g .digit4 .result) (e .if4 .left)) (c .digit-more4 .ensures) (omega arith)
 
 shared-slice-read-a : tie.Need-shared-slice-read-a
 shared-slice-read-a c = search needs

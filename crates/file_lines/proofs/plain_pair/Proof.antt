@@ -65,7 +65,8 @@ returns-6 c =
     let first = e2 .before in
     let e1 = first .before in
     let s = e1 .before .before in
-    plain-line _ _ _ _ _ _ (omega (arith, e1 .if1 .left, s .pre)) (first .few-digits .ensures) (e2 .if2 .left) (e3 .if3 .left) (second .few-digits2 .ensures) (e4 .if4 .left) (c .if5 .left)
+    plain-line _ _ _ _ _ _ (omega (arith, e1 .if1 .left, s .pre)) (first .few-digits .ensures) (e2 .if2 .left) (e3 .if3 .left)
+    (second .few-digits2 .ensures) (e4 .if4 .left) (c .if5 .left)
 
 pub plain-pair-spec : {M : Type 1} → statement M
 plain-pair-spec =

@@ -24,7 +24,9 @@ blank-requires : tie.Need-blank-requires Inv-loop μ-loop
 blank-requires c κs = search needs
 
 returns : tie.Need-returns Inv-loop μ-loop
-returns c = skip-stop _ _ _ _ (c .before .before .before .before .loop .inv) (search needs) (sym (c .before .blank .ensures) ∙ not-true (c .before .blank .result) (c .if1 .taken))
+returns c =
+    let d = c .before in
+    skip-stop _ _ _ _ (d .before .before .before .loop .inv) (search needs) (sym (d .blank .ensures) ∙ not-true (d .blank .result) (c .if1 .taken))
 
 add-i : tie.Need-add-i Inv-loop μ-loop
 add-i c = search needs
@@ -33,7 +35,9 @@ loop-less : tie.Need-loop-less Inv-loop μ-loop
 loop-less c = search needs
 
 loop-again : tie.Need-loop-again Inv-loop μ-loop
-loop-again c = skip-more _ _ _ _ (c .before .before .before .before .loop .inv) (search needs) (sym (c .before .blank .ensures) ∙ not-false (c .before .blank .result) (c .if1 .left))
+loop-again c =
+    let d = c .before in
+    skip-more _ _ _ _ (d .before .before .before .loop .inv) (search needs) (sym (d .blank .ensures) ∙ not-false (d .blank .result) (c .if1 .left))
 
 returns-2 : tie.Need-returns-2 Inv-loop μ-loop
 returns-2 c = skip-end _ _ _ _ (c .before .loop .inv) (search needs)
