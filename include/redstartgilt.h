@@ -20,7 +20,13 @@
 extern "C" {
 #endif
 
-/* Refusals; 0 is none. */
+/* Refusals; 0 is none. No call of this header gives 19 to 24, which are named for calls that are not in it:
+ *   19  a kept diagonal other than 1 of a factor of whole numbers
+ *   20  a number beyond the size that the call computes with exactly: 2^53 for entries, 2^30 for ranges, 2^40 for tracks
+ *   21  weights: a low one above its high one, one beyond 1,024 in size, or more than 64 terms
+ *   22  a width of 0, above 1,024 or above the track's length
+ *   23  a kept diagonal other than 1 beside pivots
+ *   24  an empty request list of a dimension above 0 that is to be written as a file */
 enum {
     REDSTARTGILT_ACCEPTED = 0,
     REDSTARTGILT_TOO_LARGE = 1,
@@ -40,7 +46,13 @@ enum {
     REDSTARTGILT_OTHER_HEADER = 15,
     REDSTARTGILT_MALFORMED_FILE = 16,
     REDSTARTGILT_FILE_INDEX_OUTSIDE = 17,
-    REDSTARTGILT_NOT_FINITE_ENTRY = 18
+    REDSTARTGILT_NOT_FINITE_ENTRY = 18,
+    REDSTARTGILT_DIAGONAL_NOT_ONE = 19,
+    REDSTARTGILT_NUMBER_TOO_LARGE = 20,
+    REDSTARTGILT_BAD_WEIGHTS = 21,
+    REDSTARTGILT_BAD_WIDTH = 22,
+    REDSTARTGILT_PIVOT_DIAGONAL_NOT_ONE = 23,
+    REDSTARTGILT_NO_REQUESTS = 24
 };
 
 /* Statuses of a call that is not refused. */
@@ -112,6 +124,13 @@ redstartgilt_selected redstartgilt_selected_inverse_entries(
     size_t dimension, const uint32_t *request_rows, size_t request_rows_len, const uint32_t *request_columns, size_t request_columns_len,
     uint32_t *result_starts, size_t result_starts_len, uint32_t *result_rows, size_t result_rows_len, double *result_values, size_t result_values_len,
     uint32_t *scratch, size_t scratch_len);
+
+/* Whether a factor's lists are well formed and its kept entries finite, which every call with a factor checks first.
+ * Refuses with 1 for n above 2,048 or more than 1,048,576 rows, then with 2, 3 and 18 as selected entries does. It reads
+ * every start, row and value. Writes nothing. A factor that it accepts may still be refused with 6 by a call that needs
+ * the diagonal of each column. */
+uint32_t redstartgilt_check_factor(
+    size_t n, const uint32_t *starts, size_t starts_len, const uint32_t *rows, size_t rows_len, const double *values, size_t values_len);
 
 /* The entry at (row, column) of a filled result; the two may be exchanged. The dimension is starts_len - 1, so lend only
  * the n + 1 filled starts; rows and values may be longer than filled. Refuses with 2 where there are no starts, then

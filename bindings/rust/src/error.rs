@@ -73,11 +73,26 @@ pub enum Error {
     /// assert_eq!(Error::from_number(18), Some(Error::NotFiniteEntry(None)));
     /// ```
     NotFiniteEntry(Option<(usize, usize)>),
+    /// 19: a diagonal entry other than 1 in a factor of whole numbers; an entry of 0 counts as none. No call gives it
+    /// yet, nor one of those below.
+    DiagonalNotOne,
+    /// 20: a number beyond the size that the call computes with exactly: 2^53 for entries, 2^30 for ranges of weights,
+    /// 2^40 for tracks.
+    NumberTooLarge,
+    /// 21: weights within ranges, with a low one above its high one, one beyond ±1,024, or more than 64 terms.
+    BadWeights,
+    /// 22: a width of 0, above 1,024, or above the length of the track.
+    BadWidth,
+    /// 23: a diagonal entry other than 1 in a factor with pivots; an entry of 0.0 counts as none.
+    PivotDiagonalNotOne,
+    /// 24: requests without a pair, of a dimension above 0, that are to be written as a file, where they would mean all
+    /// diagonals.
+    NoRequests,
 }
 
 impl Error {
-    /// Every refusal, by number; the last without an entry.
-    pub const ALL: [Error; 18] = [
+    /// Every refusal, by number; 18 without an entry.
+    pub const ALL: [Error; 24] = [
         Error::TooLarge,
         Error::BrokenStarts,
         Error::BrokenRows,
@@ -96,6 +111,12 @@ impl Error {
         Error::MalformedFile,
         Error::FileIndexOutside,
         Error::NotFiniteEntry(None),
+        Error::DiagonalNotOne,
+        Error::NumberTooLarge,
+        Error::BadWeights,
+        Error::BadWidth,
+        Error::PivotDiagonalNotOne,
+        Error::NoRequests,
     ];
 
     /// The refusal's number.
@@ -119,6 +140,12 @@ impl Error {
             Error::MalformedFile => sys::REDSTARTGILT_MALFORMED_FILE,
             Error::FileIndexOutside => sys::REDSTARTGILT_FILE_INDEX_OUTSIDE,
             Error::NotFiniteEntry(_) => sys::REDSTARTGILT_NOT_FINITE_ENTRY,
+            Error::DiagonalNotOne => sys::REDSTARTGILT_DIAGONAL_NOT_ONE,
+            Error::NumberTooLarge => sys::REDSTARTGILT_NUMBER_TOO_LARGE,
+            Error::BadWeights => sys::REDSTARTGILT_BAD_WEIGHTS,
+            Error::BadWidth => sys::REDSTARTGILT_BAD_WIDTH,
+            Error::PivotDiagonalNotOne => sys::REDSTARTGILT_PIVOT_DIAGONAL_NOT_ONE,
+            Error::NoRequests => sys::REDSTARTGILT_NO_REQUESTS,
         }
     }
 
@@ -177,6 +204,19 @@ impl Error {
                  column"
             }
             Error::NotFiniteEntry(_) => "an entry of the factor, on or below its diagonal, is not finite",
+            Error::DiagonalNotOne => "a diagonal entry of a factor of whole numbers is not 1",
+            Error::NumberTooLarge => {
+                "a number is beyond the size that is computed with exactly: 2^53 for entries, 2^30 for ranges of weights, \
+                 2^40 for tracks"
+            }
+            Error::BadWeights => {
+                "bad weights: a low one is above its high one, one is beyond 1,024 in size, or there are more than 64"
+            }
+            Error::BadWidth => "bad width: it must be from 1 to 1,024, and no more than the length of the track",
+            Error::PivotDiagonalNotOne => "a diagonal entry of a factor with pivots is not 1",
+            Error::NoRequests => {
+                "no requests: a file without entries would mean all diagonals, so an empty list is not written as one"
+            }
         }
     }
 

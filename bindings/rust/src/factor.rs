@@ -56,11 +56,8 @@ impl CholeskyFactor {
             values,
             orig_to_perm: None,
         };
-        // The pattern list checks the factor first and its scratch, which is short on purpose, after it.
-        match lent::from_cholesky_factor(factor.lists(), &mut [], &mut [], &mut []) {
-            Ok(_) | Err(Error::TooShort) => Ok(factor),
-            Err(error) => Err(error),
-        }
+        lent::check_factor(factor.lists())?;
+        Ok(factor)
     }
 
     /// A factor from entries (row, column, value) in any order.

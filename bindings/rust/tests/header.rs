@@ -34,9 +34,17 @@ fn header() -> String {
     lines.collect::<Vec<_>>().join("\n")
 }
 
-/// `sys` without comments.
+/// `sys` and its modules without comments.
 fn sys() -> String {
-    let whole = text("src/sys.rs");
+    let folder = Path::new(env!("CARGO_MANIFEST_DIR")).join("src/sys");
+    let modules = std::fs::read_dir(&folder).unwrap_or_else(|error| panic!("{}: {error}", folder.display()));
+    let files = modules
+        .map(|module| module.expect("listed").path())
+        .collect::<BTreeSet<_>>();
+    let whole = files
+        .iter()
+        .map(|file| std::fs::read_to_string(file).expect("a module's text"));
+    let whole = text("src/sys.rs") + &whole.collect::<String>();
     let lines = whole.lines().filter(|line| !line.trim_start().starts_with("//"));
     lines.collect::<Vec<_>>().join("\n")
 }
@@ -143,7 +151,7 @@ fn sys_numbers() -> BTreeSet<String> {
 #[test]
 fn functions() {
     assert_eq!(sys_functions(), header_functions());
-    assert_eq!(sys_functions().len(), 21);
+    assert_eq!(sys_functions().len(), 22);
 }
 
 #[test]
@@ -155,5 +163,5 @@ fn structs() {
 #[test]
 fn numbers() {
     assert_eq!(sys_numbers(), header_numbers());
-    assert_eq!(sys_numbers().len(), 21);
+    assert_eq!(sys_numbers().len(), 27);
 }

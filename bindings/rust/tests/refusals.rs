@@ -20,7 +20,7 @@ fn numbers_and_words() {
         assert_eq!(error.to_string(), format!("refusal {number}: {}", error.reason()));
     }
     assert_eq!(Error::from_number(0), None);
-    assert_eq!(Error::from_number(19), None);
+    assert_eq!(Error::from_number(25), None);
 }
 
 #[test]
@@ -473,7 +473,7 @@ const SOUND: Beside<'static> = Beside {
 };
 
 /// The refusal of each call that takes a factor. A refused call must leave its lists as they were.
-fn refusals(factor: FactorLists<'_>, beside: Beside<'_>) -> [Option<Error>; 6] {
+fn refusals(factor: FactorLists<'_>, beside: Beside<'_>) -> [Option<Error>; 7] {
     std::array::from_fn(|call| {
         let mut lists = Lent::new(beside.lengths);
         let (result, scratch, output) = lists.result();
@@ -495,7 +495,8 @@ fn refusals(factor: FactorLists<'_>, beside: Beside<'_>) -> [Option<Error>; 6] {
                 factor, operator, operator, row_pairs, row_pairs, result, scratch, output,
             )
             .err(),
-            _ => lent::from_cholesky_factor(factor, scratch, result.starts, result.rows).err(),
+            5 => lent::from_cholesky_factor(factor, scratch, result.starts, result.rows).err(),
+            _ => lent::check_factor(factor).err(),
         };
         assert!(refused.is_none() || lists.untouched(), "{call}");
         refused
@@ -512,7 +513,7 @@ fn entries_that_are_not_finite() {
             values[place] = value;
             let factor = FactorLists { values: &values, ..F2 };
             let refused = Error::NotFiniteEntry(Some(entry));
-            assert_eq!(refusals(factor, SOUND), [Some(refused); 6], "{value} at {entry:?}");
+            assert_eq!(refusals(factor, SOUND), [Some(refused); 7], "{value} at {entry:?}");
             let made = CholeskyFactor::new(2, vec![0, 2, 3], vec![0, 1, 1], values.to_vec());
             assert_eq!(made, Err(refused));
             let (row, column) = entry;
@@ -533,7 +534,7 @@ fn entries_that_are_not_finite() {
                 values: &values,
                 ..F2
             };
-            assert_eq!(refusals(factor, SOUND), [Some(Error::NotFiniteEntry(Some(entry))); 6]);
+            assert_eq!(refusals(factor, SOUND), [Some(Error::NotFiniteEntry(Some(entry))); 7]);
         }
     }
 }
@@ -542,7 +543,7 @@ fn entries_that_are_not_finite() {
 fn above_the_diagonal_anything_is_accepted() {
     for value in NOT_FINITE {
         let factor = CholeskyFactor::new(2, vec![0, 2, 4], vec![0, 1, 0, 1], vec![1.0, 2.0, value, 1.0]).unwrap();
-        assert_eq!(refusals(factor.lists(), SOUND), [None; 6]);
+        assert_eq!(refusals(factor.lists(), SOUND), [None; 7]);
         assert_eq!(selected_inverse_diag(&factor).unwrap().values, [5.0, 1.0]);
         let kept = SparseSymmetricPattern::from_cholesky_factor(&factor);
         assert_eq!(kept, SparseSymmetricPattern::from_cholesky_factor(&f2()));
@@ -566,7 +567,7 @@ fn entries_that_are_not_finite_in_order() {
             FactorLists { n: 2_049, ..broken },
             FactorLists { rows: &long, ..broken },
         ] {
-            assert_eq!(refusals(factor, SOUND), [Some(Error::TooLarge); 6]);
+            assert_eq!(refusals(factor, SOUND), [Some(Error::TooLarge); 7]);
         }
         let many_rows = OperatorLists {
             row_starts: &long[..2_050],
@@ -578,28 +579,28 @@ fn entries_that_are_not_finite_in_order() {
                     requests: &long,
                     ..SOUND
                 },
-                [1, 1, 18, 18, 18, 18],
+                [1, 1, 18, 18, 18, 18, 18],
             ),
             (
                 Beside {
                     operator: many_rows,
                     ..SOUND
                 },
-                [18, 18, 18, 1, 1, 18],
+                [18, 18, 18, 1, 1, 18, 18],
             ),
             (
                 Beside {
                     operator: OperatorLists { columns: &long, ..SUM },
                     ..SOUND
                 },
-                [18, 18, 18, 1, 1, 18],
+                [18, 18, 18, 1, 1, 18, 18],
             ),
             (
                 Beside {
                     row_pairs: &long,
                     ..SOUND
                 },
-                [18, 18, 18, 18, 1, 18],
+                [18, 18, 18, 18, 1, 18, 18],
             ),
         ] {
             assert_eq!(refusals(broken, beside).map(number), numbers);
@@ -608,12 +609,12 @@ fn entries_that_are_not_finite_in_order() {
             starts: &[0, 2, 2],
             ..broken
         };
-        assert_eq!(refusals(starts, SOUND), [Some(Error::BrokenStarts); 6]);
+        assert_eq!(refusals(starts, SOUND), [Some(Error::BrokenStarts); 7]);
         let rows = FactorLists {
             rows: &[0, 1, 2],
             ..broken
         };
-        assert_eq!(refusals(rows, SOUND), [Some(Error::BrokenRows); 6]);
+        assert_eq!(refusals(rows, SOUND), [Some(Error::BrokenRows); 7]);
 
         let values = [value, 2.0, 0.0];
         let broken = FactorLists { values: &values, ..F2 };
@@ -626,7 +627,7 @@ fn entries_that_are_not_finite_in_order() {
                     operator: OperatorLists { ncols: 3, ..SUM },
                     ..SOUND
                 },
-                [4, 4, 4, 4, 4, 0],
+                [4, 4, 4, 4, 4, 0, 0],
             ),
             (
                 F2,
@@ -639,7 +640,7 @@ fn entries_that_are_not_finite_in_order() {
                     },
                     ..SOUND
                 },
-                [5, 5, 10, 9, 9, 0],
+                [5, 5, 10, 9, 9, 0, 0],
             ),
             (
                 F2,
@@ -648,21 +649,21 @@ fn entries_that_are_not_finite_in_order() {
                     row_pairs: &[1],
                     ..SOUND
                 },
-                [0, 0, 11, 0, 9, 0],
+                [0, 0, 11, 0, 9, 0, 0],
             ),
-            (bare, SOUND, [6, 6, 6, 6, 6, 0]),
+            (bare, SOUND, [6, 6, 6, 6, 6, 0, 0]),
             (
                 F2,
                 Beside {
                     lengths: [0; 5],
                     ..SOUND
                 },
-                [7; 6],
+                [7, 7, 7, 7, 7, 7, 0],
             ),
         ] {
             assert_eq!(refusals(factor, beside).map(number), numbers);
             let refused = Error::NotFiniteEntry(Some((0, 0)));
-            assert_eq!(refusals(broken, beside), [Some(refused); 6]);
+            assert_eq!(refusals(broken, beside), [Some(refused); 7]);
         }
     }
     // Triplets: one outside is told first.
@@ -673,6 +674,53 @@ fn entries_that_are_not_finite_in_order() {
     assert_eq!(
         CholeskyFactor::from_triplets(2, &[(0, 1, f64::NAN), (1, 1, f64::NAN), (0, 0, -1.0)]),
         Err(Error::NotFiniteEntry(Some((1, 1))))
+    );
+}
+
+/// 1, 2, 3 and 18 in this order, each with the faults of all later ones; a column without a diagonal is none.
+#[test]
+fn checked_factors() {
+    let values = [f64::NAN, 2.0, 1.0];
+    let last = FactorLists { values: &values, ..F2 };
+    let rows = FactorLists {
+        rows: &[1, 0, 2],
+        ..last
+    };
+    let starts = FactorLists {
+        starts: &[0, 2, 2],
+        ..rows
+    };
+    let large = FactorLists { n: 2_049, ..starts };
+    for (factor, refused) in [
+        (large, Error::TooLarge),
+        (starts, Error::BrokenStarts),
+        (rows, Error::BrokenRows),
+        (last, Error::NotFiniteEntry(Some((0, 0)))),
+    ] {
+        assert_eq!(lent::check_factor(factor), Err(refused));
+        let made = CholeskyFactor::new(
+            factor.n,
+            factor.starts.to_vec(),
+            factor.rows.to_vec(),
+            factor.values.to_vec(),
+        );
+        assert_eq!(made, Err(refused));
+    }
+    let most = FactorLists { n: 2_048, ..starts };
+    assert_eq!(lent::check_factor(most), Err(Error::BrokenStarts));
+    for values in [[0.0; 3], [-1.0, 2.0, -0.0], [1.0, 2.0, 1.0]] {
+        assert_eq!(lent::check_factor(FactorLists { values: &values, ..F2 }), Ok(()));
+    }
+    let nothing = FactorLists {
+        n: 0,
+        starts: &[0],
+        rows: &[],
+        values: &[],
+    };
+    assert_eq!(lent::check_factor(nothing), Ok(()));
+    assert_eq!(
+        lent::check_factor(FactorLists { starts: &[], ..nothing }),
+        Err(Error::BrokenStarts)
     );
 }
 

@@ -75,10 +75,14 @@ Exit status:
   10 + N  the library refuses with number N:
 ";
 
+/// The last refusal that the help lists: no call gives a later one yet.
+const LAST_REFUSAL: u32 = redstartgilt::sys::REDSTARTGILT_NOT_FINITE_ENTRY;
+
 /// The help with the list of refusals.
 pub fn help() -> String {
     let mut text = HELP.to_string();
-    for error in redstartgilt::Error::ALL {
+    let given = |error: &redstartgilt::Error| error.number() <= LAST_REFUSAL;
+    for error in redstartgilt::Error::ALL.into_iter().filter(given) {
         let status = u32::from(crate::failure::REFUSED) + error.number();
         text.push_str(&format!("  {status}  {error}\n"));
     }
