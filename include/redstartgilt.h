@@ -145,7 +145,7 @@ redstartgilt_entry redstartgilt_get(
  * places the search in the column looks at, repeats included. The search looks at the first place of its part and,
  * unless the row stands there, at place m/2, rounded down, of its m; then it goes on in what lies below that place, the
  * first among it, or above. So looks is 1 where the row stands first in its column, as a diagonal of a filled result
- * does, and never more than twice the binary digits of the column's number of rows. An absent row has its looks too;
+ * does where it is present, and never more than twice the binary digits of the column's number of rows. An absent row has its looks too;
  * looks is 0 where the search is not reached, which is on 2, on 3 and for an index outside. */
 redstartgilt_counted_entry redstartgilt_get_counted(
     const uint32_t *starts, size_t starts_len, const uint32_t *rows, size_t rows_len, const double *values, size_t values_len,
@@ -326,8 +326,9 @@ redstartgilt_pairs redstartgilt_from_cholesky_factor(
     uint32_t *scratch, size_t scratch_len, uint32_t *pair_rows, size_t pair_rows_len, uint32_t *pair_columns, size_t pair_columns_len);
 
 /* The pairs (a, b), a >= b, of columns of one operator row, equal ones too, each once, ascending by row then column. T is
- * that of ncols. Refuses with 1 for ncols above 2,048, more than 2,048 operator rows or 1,048,576 columns, with 9 as
- * operator variances does, and with 7 as the call above, whose lengths and scratch it shares. */
+ * that of ncols. Scratch needs ceil(T/32) words, the outputs a place for each pair, at most T: a row of k columns alone
+ * has k(k+1)/2. Refuses with 1 for ncols above 2,048, more than 2,048 operator rows or 1,048,576 columns, with 9 as
+ * operator variances does, and with 7 as the call above, which leaves scratch and outputs alike. */
 redstartgilt_pairs redstartgilt_from_transformed_operator(
     size_t ncols, const uint32_t *row_starts, size_t row_starts_len, const uint32_t *columns, size_t columns_len, const double *weights, size_t weights_len,
     uint32_t *scratch, size_t scratch_len, uint32_t *pair_rows, size_t pair_rows_len, uint32_t *pair_columns, size_t pair_columns_len);

@@ -26,8 +26,8 @@ pub fn get(entries: EntryLists<'_>, row: usize, column: usize) -> Result<f64, Er
 ///
 /// The search looks at the first place of its part and, unless the row stands there, at place m/2 of its m; then it goes
 /// on in what lies below that place or above. So there is 1 look where the row stands first in its column, as a diagonal
-/// does, and never more than twice the binary digits of the column's number of rows. An absent row has its looks too;
-/// there are 0 where the column is not searched.
+/// does where it is present, and never more than twice the binary digits of the column's number of rows. An absent row
+/// has its looks too; there are 0 where the column is not searched.
 ///
 /// ```
 /// use redstartgilt::lent::{self, EntryLists};
