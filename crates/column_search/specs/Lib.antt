@@ -1,2 +1,2 @@
--- Finding a row in a column of a result, and the checks of its columns.
+-- Finding a row in a column of a result and a pair in the result, and the checks of its columns.
 pub mod Reply

@@ -1,7 +1,9 @@
-// The place of a row in a column of a result, and how many places a search looks at.
+// The place of a row in a column of a result and of a pair in the result, and how many places a search looks at.
 pub mod halving;
 pub mod order;
+pub mod pair_place;
 pub mod result_check;
+pub mod within;
 
 ghost use mathlib.Core.Path.{_≡_};
 ghost use Prim.Native.Nat.{_+_, _-_, _^_, _<_};

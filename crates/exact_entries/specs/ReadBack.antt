@@ -21,6 +21,7 @@ use Rattle.takahashi.specs.Recurrence.{at}
 use Rattle.result.specs.Place.{Stands}
 use Rattle.result.specs.Lookup.{dimension, lookupOf, WellFormed}
 use Rattle.result.specs.Laws.{lookup-ordered, lookup-at, lookup-absent, lookup-outside}
+use Rattle.result.specs.Counted.{lookupLooks, diagonal-looks}
 use Rattle.entries.specs.Entries.{columnCount, position, entryStarts, entryRows, entryValues, entryStarts-length, entryRows-length, entryValues-length}
 use Rattle.entries.specs.Position.{columnCount-mono, position-first, position-in, position-rises, position-found, entryRows-at, entryValues-at}
 use Rattle.selection.specs.Selection.{LentOf, Filling, ListsAfter, passed-starts, complete-rows, complete-values}
@@ -105,6 +106,15 @@ module _ {A : Type 0} (n : ℕ) (S : ℕ → ℕ → Bool) (Z : ℕ → ℕ → 
         };
   }
 
+  -- a diagonal of the set stands first in its column, and its lookup looks at one place
+  pub filled-looks : (c : ℕ) → c < n → S c c ≡ true → lookupLooks starts rows′ (length values′) c c ≡ 1
+  filled-looks c l t =
+      let s = start-is c (omega arith) in
+      let e = start-is (c + 1) (omega arith) in
+      let q = position-first n S c in
+      diagonal-looks starts rows′ (length values′) filled-result c (omega (arith, dimension-is)) (omega (arith, position-in n S c c (le-refl c) l t))
+      (ap (row rows′) (s ∙ sym q) ∙ member-row c c (le-refl c) l t)
+
   module _ (r c : ℕ) (h : c ≤ r) (l : r < n) where
     read-member : S r c ≡ true → lookupOf blank starts rows′ values′ r c ≡ answered (Z r c)
     read-member t =
@@ -170,3 +180,9 @@ module _ {A : Type 0} (blank : A) (f : Filling A) (lent : LentOf A) (rows-fit : 
   lookup-left row col =
       left-are (λ s r v. lookupOf blank s r v row col ≡ readBack (f .n) (f .set) (f .table) row col)
       (lookup-filled (f .n) (f .set) (f .table) blank (lent .resultRows) (lent .resultValues) rows-fit values-fit row col)
+
+  -- a diagonal of the set at the first place that the search looks at
+  pub looks-left : (c : ℕ) → c < f .n → f .set c c ≡ true → lookupLooks (take (f .n + 1) (left .resultStarts)) (left .resultRows) (length (left .resultValues)) c c ≡ 1
+  looks-left c l t =
+      left-are (λ s r v. lookupLooks s r (length v) c c ≡ 1)
+      (filled-looks (f .n) (f .set) (f .table) blank (lent .resultRows) (lent .resultValues) rows-fit values-fit c l t)

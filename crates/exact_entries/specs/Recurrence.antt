@@ -27,8 +27,9 @@ use Rattle.diagnostics.specs.declared.SelectedInverseStatus.the-variants.{Compl
 use Rattle.closed_set.specs.FactorPattern.{factor-pattern}
 use Rattle.entries.specs.Entries.{belowStep, diagonalStep}
 use Rattle.result.specs.Lookup.{lookup}
+use Rattle.result.specs.Counted.{lookupLooks}
 use Rattle.result.specs.Halving.{lookupWithin, within-lookup}
-use Rattle.exact_entries.specs.ReadBack.{readBack, covered, result-left, lookup-left}
+use Rattle.exact_entries.specs.ReadBack.{readBack, covered, result-left, lookup-left, looks-left}
 use Rattle.selection.specs.Selection.{Selection, selection, Lent, Room, roomOf, Accepted, selectedSet, selectedSize, selectedComplete, selectedAnswer, selectedTable, selectedPattern}
 use Rattle.selection.specs.Selection.{fillingOf, ResultLists}
 use Rattle.selection.specs.Status.{selected-complete}
@@ -110,6 +111,14 @@ module _ (x : Selection) (lent : Lent) (A : Accepted x (roomOf lent)) where
     found-within h =
         within-lookup nan (take (x .factor .n + 1) (left .resultStarts)) (left .resultRows) (left .resultValues)
         (result-left nan (fillingOf x) lent (omega (arith, most, A .rows-room)) (omega (arith, most, A .values-room)) steps passed L (le-leb _ _ h))
+
+    -- and a diagonal of the set at the first place that it looks at
+    pub found-looks : selectedSize x ≤ x .limit → (c : ℕ) → Selected x c c
+        → lookupLooks (take (x .factor .n + 1) (left .resultStarts)) (left .resultRows) (length (left .resultValues)) c c ≡ 1
+    found-looks h c p =
+        looks-left nan (fillingOf x) lent (omega (arith, most, A .rows-room)) (omega (arith, most, A .values-room)) steps passed L (le-leb _ _ h) c
+        (needed-range pat (x .requests) (x .factor .n) selected-pattern (A .requests) p .1)
+        (needed-member (x .factor .n) pat (x .requests) selected-pattern (A .requests) p)
 
     -- the recurrence is what reads back
     pub reads-recurrence : ReadsRecurrence x left (selectedTable x)

@@ -6,8 +6,8 @@ ghost use lib.Ieee.{nan};
 ghost use Rattle.lists.specs.Overwrite.{overwrite};
 ghost use Rattle.columns.specs.Kept.{f0};
 ghost use Rattle.result.specs.Lookup.{dimension, diagonalOf, markOf, diagonals, coverage, WellFormed};
-use super::ordered::Entry;
-use super::ordered::column_value;
+use column_search::Place;
+use column_search::find_in_column;
 
 // A diagonal, 0.0 where it is not covered, and its mark.
 struct MarkedDiagonal {
@@ -22,11 +22,14 @@ fn diagonal(starts: &[u32], rows: &[u32], values: &[f64], c: usize) -> MarkedDia
     ensures { λ d. ⌜ d .value ≡ diagonalOf nan f0 (now (starts .entry)) (now (rows .entry)) (now (values .entry)) c ⌝ }
     ensures { λ d. ⌜ d .mark ≡ markOf nan (now (starts .entry)) (now (rows .entry)) (now (values .entry)) c ⌝ }
 {
-    let found = column_value(starts, rows, values, c, c);
-    let entry = found.entry;
-    match entry {
-        Entry::Value(d) => MarkedDiagonal { value: d, mark: 1 },
-        Entry::Refused(_) => MarkedDiagonal {
+    let found = find_in_column(starts, rows, c, c);
+    let place = found.place;
+    match place {
+        Place::At(p) => MarkedDiagonal {
+            value: values[p],
+            mark: 1,
+        },
+        Place::Absent => MarkedDiagonal {
             value: 0.0,
             mark: 0,
         },

@@ -10,11 +10,12 @@ ghost use Rattle.result.specs.Counted.{lookupLooks};
 ghost use Rattle.result.specs.Lookup.{lookup};
 ghost use Rattle.lookup.specs.DiagonalList.{DiagonalsListed};
 ghost use Rattle.lookup.specs.Reply.{entryReply};
+use column_search::pair_place::pair_place;
 use column_search::result_check::check_result;
 use diagonal_list::write_diagonals;
 use ordered::CountedEntry;
 use ordered::Entry;
-use ordered::get_ordered;
+use ordered::value_at;
 use refusal::Checked;
 use refusal::Refusal;
 
@@ -29,10 +30,12 @@ pub fn get_counted(
     ensures { λ found. ⌜ entryReply (found .entry) ≡ lookup (now (starts .entry)) (now (rows .entry)) (now (values .entry)) row col ⌝ }
     ensures { λ found. ⌜ found .looks ≡ lookupLooks (now (starts .entry)) (now (rows .entry)) (length (now (values .entry))) row col ⌝ }
 {
-    if row < col {
-        return get_ordered(starts, rows, values, col, row);
+    let found = pair_place(starts, rows, values.len(), row, col);
+    let place = found.place;
+    CountedEntry {
+        entry: value_at(values, place),
+        looks: found.looks,
     }
-    get_ordered(starts, rows, values, row, col)
 }
 
 // The entry alone.

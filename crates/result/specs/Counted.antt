@@ -3,14 +3,15 @@
 use Prim.Native.Nat.{ℕ, _+_, _-_, _*_, _≤_, _<_, max, min}
 use native.Mathlib.Omega.{arith}
 use native.Mathlib.Nat.{max-eq-left, max-eq-right, min-eq-left, min-eq-right, le-refl, add-zero}
-use mathlib.Core.Path.{_≡_, ap, ap₂, subst, _∙_}
-use mathlib.Core.List.{List}
-use lib.ListN.{length, take, drop, length-drop}
+use mathlib.Core.Path.{_≡_, ap, ap₂, _∙_}
+use mathlib.Core.Bool.{Bool, true, false}
+use mathlib.Core.List.{List, [], _∷_}
+use lib.ListN.{length, take, drop, length-take, length-drop}
 use lib.Seq.{length-take-le, getD-take, getD-drop}
-use Rattle.refusal.specs.Steps.{Passed, verdict, refused, first, settle}
+use Rattle.refusal.specs.Steps.{Step, Passed, decide, verdict, refused, first, settle}
 use Rattle.columns.specs.Columns.{start, row}
-use Rattle.result.specs.Digits.{binaryDigits}
-use Rattle.result.specs.Looks.{looks, looks-first, looks-most}
+use Rattle.result.specs.Digits.{binaryDigits, digits-below}
+use Rattle.result.specs.Looks.{looks, looks-first, looks-bounded}
 use Rattle.result.specs.Lookup.{dimension, columnFaults, searchSteps, WellFormed}
 use Rattle.result.specs.Laws.{columnFaults-passed, search-none, search-outside, search-broken, search-row, search-passed}
 
@@ -25,6 +26,16 @@ entryLooks starts rows values r c = settle 0 (first (searchSteps starts rows val
 -- the same with row and column exchanged if row < column; `values` is the number of values
 abbrev pub lookupLooks : List ℕ → List ℕ → ℕ → ℕ → ℕ → ℕ
 lookupLooks starts rows values row col = entryLooks starts rows values (max row col) (min row col)
+
+-- what is settled for 0, or is at most b
+settled : (steps : List Step) (x b : ℕ) → x ≤ b → settle 0 (first steps x) ≤ b
+unfolding first
+settled [] x b h = h
+settled (s ∷ steps) x b h = of (s .1) (settled steps x b h)
+  where
+    of : (t : Bool) → settle 0 (first steps x) ≤ b → settle 0 (decide t (s .0) (first steps x)) ≤ b
+    of true h = omega arith
+    of false h = h
 
 module _ (starts rows : List ℕ) (values : ℕ) where
   pub looks-ordered : (row col : ℕ) → col ≤ row → lookupLooks starts rows values row col ≡ entryLooks starts rows values row col
@@ -69,11 +80,11 @@ module _ (starts rows : List ℕ) (values : ℕ) where
         ∙ entryLooks-searched c c (W .some) l (columnFaults-passed starts rows values c C) l
         ∙ looks-first (columnRows starts rows c) c (omega (arith, n, h)) (getD-take m (drop s rows) 0 0 (omega arith) ∙ getD-drop s rows 0 0 ∙ ap (row rows) (add-zero s) ∙ e)
 
-    -- and no lookup more than twice the binary digits of its column's number of rows
-    pub lookup-looks : (r c : ℕ) → c ≤ r → r < dimension starts → lookupLooks starts rows values r c ≤ 2 * binaryDigits (start starts (c + 1) - start starts c)
-    lookup-looks r c o l =
-        let C = W .column c (omega arith) in
-        let m = start starts (c + 1) - start starts c in
-        let n : length (columnRows starts rows c) ≡ m = length-take-le m (drop (start starts c) rows) (simp length-drop (omega (arith, C .stored))) in
-        rw (looks-ordered r c o, entryLooks-searched r c (W .some) (omega arith) (columnFaults-passed starts rows values c C) l)
-        (subst (λ (k : ℕ). looks (columnRows starts rows c) r ≤ 2 * binaryDigits k) n (looks-most (columnRows starts rows c) r))
+  -- whatever the lists are, no lookup looks more than twice the binary digits of its column's number of rows
+  pub lookup-looks : (row col : ℕ) → let c = min row col in lookupLooks starts rows values row col ≤ 2 * binaryDigits (start starts (c + 1) - start starts c)
+  unfolding entryLooks
+  lookup-looks row col =
+      let c = min row col in
+      let m = start starts (c + 1) - start starts c in
+      settled (searchSteps starts rows values (max row col) c) (looks (columnRows starts rows c) (max row col)) (2 * binaryDigits m)
+      (looks-bounded (binaryDigits m) (columnRows starts rows c) (max row col) (omega (arith, length-take m (drop (start starts c) rows), digits-below m)))

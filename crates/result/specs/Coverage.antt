@@ -15,7 +15,7 @@ use Rattle.columns.specs.Columns.{start}
 use Rattle.columns.specs.Kept.{f0}
 use Rattle.result.specs.Place.{holds, holds-stands, placeIn-absent}
 use Rattle.result.specs.Lookup.{dimension, finds, valueAt, lookup, markOf, diagonals, coverage, WellFormed}
-use Rattle.result.specs.Laws.{diagonals-at, lookup-place, lookup-at}
+use Rattle.result.specs.Laws.{diagonals-at, lookup-column, lookup-at}
 
 module _ (starts rows : List ℕ) (values : List Float) where
   pub coverage-length : length (coverage starts rows values) ≡ dimension starts
@@ -53,4 +53,4 @@ module _ (starts rows : List ℕ) (values : List Float) where
         of true e =
             let f = holds-stands rows c (start starts c) (start starts (c + 1)) e in
             absurd (omega (arith, h, marked-found _ (lookup-at nan starts rows values W c c (le-refl c) inside (f .0) (f .1)) .0))
-        of false e = lookup-place nan starts rows values W c c (le-refl c) inside ∙ ap (valueAt nan values) (placeIn-absent rows c _ _ e)
+        of false e = lookup-column nan starts rows values W c c (le-refl c) inside ∙ ap (valueAt nan values) (placeIn-absent rows c _ _ e)

@@ -13,8 +13,8 @@ use Rattle.columns.specs.Kept.{f0}
 use Rattle.result.specs.Digits.{digitsIn, binaryDigits}
 use Rattle.result.specs.Looks.{looksIn, looks}
 use Rattle.result.specs.Counted.{entryLooks, lookupLooks}
-use Rattle.result.specs.Halving.{halvingIn, candidate, standing, halvedPlace, columnWithin, entryWithin, lookupWithin}
-use Rattle.result.specs.Lookup.{columnFaults, searchSteps, entrySteps, entryOf, lookup, resultSteps, diagSteps, diagonals, coverage}
+use Rattle.result.specs.Halving.{halvingIn, candidate, standing, halvedPlace, columnWithin, placeWithin, lookupPlaceWithin, lookupWithin}
+use Rattle.result.specs.Lookup.{columnFaults, searchSteps, entrySteps, entryPlace, lookupPlace, entryOf, lookup, resultSteps, diagSteps, diagonals, coverage}
 
 -- F2's result has F2's starts and rows, and these values
 abbrev pub F2-inverse : List Float
@@ -39,6 +39,15 @@ F2-outside = refl
 F2-diagonals : diagonals F2-starts F2-rows F2-inverse ≡ whole 5 ∷ whole 1 ∷ []
 unfolding diagonals tabulate entryOf entrySteps searchSteps columnFaults first any anyIn placeFrom
 F2-diagonals = refl
+
+-- the places in the values, however many they are
+F2-place : lookupPlace F2-starts F2-rows 3 0 1 ≡ answered 1
+unfolding entryPlace entrySteps searchSteps columnFaults first any anyIn placeFrom
+F2-place = refl
+
+F2-short-place : lookupPlace F2-starts F2-rows 2 1 1 ≡ refused 2
+unfolding entryPlace entrySteps searchSteps columnFaults first any anyIn placeFrom
+F2-short-place = refl
 
 -- only (1, 1) is covered
 uncovered : lookup (0 ∷ 0 ∷ 1 ∷ []) (1 ∷ []) (whole 1 ∷ []) 0 0 ≡ refused 8
@@ -149,6 +158,10 @@ F2-below-looks : lookupLooks F2-starts F2-rows 3 0 1 ≡ 2
 unfolding entryLooks searchSteps columnFaults first any anyIn looksIn
 F2-below-looks = refl
 
+F2-diagonal-looks : lookupLooks F2-starts F2-rows 3 1 1 ≡ 1
+unfolding entryLooks searchSteps columnFaults first any anyIn looksIn
+F2-diagonal-looks = refl
+
 -- ---- the lookup within its lists
 -- in rows that do not ascend a row can be passed by, and another be met
 passed-by : halvedPlace (1 ∷ 8 ∷ 3 ∷ 9 ∷ []) 8 0 4 ≡ refused 8
@@ -169,7 +182,11 @@ run-missed : halvedPlace (4 ∷ 9 ∷ 6 ∷ 7 ∷ []) 5 0 4 ≡ refused 8
 unfolding halvedPlace candidate standing
 run-missed = refl
 
+within-place-outside : lookupPlaceWithin F2-starts F2-rows 3 0 2 ≡ refused 8
+unfolding placeWithin columnWithin halvedPlace
+within-place-outside = refl
+
 -- equal rows that the lookup refuses with 3
 within-unsorted : lookupWithin (0 ∷ 2 ∷ []) (0 ∷ 0 ∷ []) (whole 1 ∷ whole 2 ∷ []) 0 0 ≡ answered (whole 1)
-unfolding entryWithin columnWithin halvedPlace
+unfolding placeWithin columnWithin halvedPlace
 within-unsorted = refl

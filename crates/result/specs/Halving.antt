@@ -17,8 +17,8 @@ use Rattle.refusal.specs.Steps.{Reply, refused, answered}
 use Rattle.columns.specs.Columns.{start, row}
 use Rattle.columns.specs.Factor.{Ascends}
 use Rattle.result.specs.Place.{isRow, placeIn, Stands, holds, placeIn-at, placeIn-absent, holds-stands, stands-holds}
-use Rattle.result.specs.Lookup.{dimension, valueAt, lookupOf, WellFormed}
-use Rattle.result.specs.Laws.{columnFaults-passed, entryOf-place, lookup-outside}
+use Rattle.result.specs.Lookup.{dimension, lookupPlace, valueAt, lookupOf, WellFormed}
+use Rattle.result.specs.Laws.{refused-answered, lookupPlace-column, lookupPlace-outside, lookup-place}
 
 -- of `size` places from base on: the middle one is taken for the base unless its row is above r, then the places left are halved again, at most k times
 unfoldable pub halvingIn : ℕ → List ℕ → ℕ → ℕ → ℕ → ℕ
@@ -52,21 +52,21 @@ columnWithin starts rows values r c =
     cond (ltb (length rows) (start starts (c + 1))) (refused 8)
     (cond (ltb values (start starts (c + 1))) (refused 8) (halvedPlace rows r (start starts c) (start starts (c + 1))))
 
-module _ {A : Type 0} (blank : A) where
-  -- the value there, r at least c; 8 where r is outside
-  unfoldable pub entryWithin : List ℕ → List ℕ → List A → ℕ → ℕ → Reply A
-  entryWithin starts rows values r c = cond (leb (dimension starts) r) (refused 8) (valueAt blank values (columnWithin starts rows (length values) r c))
+-- the same, r at least c; 8 where r is outside
+unfoldable pub placeWithin : List ℕ → List ℕ → ℕ → ℕ → ℕ → Reply ℕ
+placeWithin starts rows values r c = cond (leb (dimension starts) r) (refused 8) (columnWithin starts rows values r c)
 
-  -- the same with row and column exchanged if row < column
-  abbrev pub lookupWithinOf : List ℕ → List ℕ → List A → ℕ → ℕ → Reply A
-  lookupWithinOf starts rows values row col = entryWithin starts rows values (max row col) (min row col)
+-- the same with row and column exchanged if row < column
+abbrev pub lookupPlaceWithin : List ℕ → List ℕ → ℕ → ℕ → ℕ → Reply ℕ
+lookupPlaceWithin starts rows values row col = placeWithin starts rows values (max row col) (min row col)
+
+-- the value there
+abbrev pub lookupWithinOf : {A : Type 0} → A → List ℕ → List ℕ → List A → ℕ → ℕ → Reply A
+lookupWithinOf blank starts rows values row col = valueAt blank values (lookupPlaceWithin starts rows (length values) row col)
 
 -- in lists of floats
 abbrev pub lookupWithin : List ℕ → List ℕ → List Float → ℕ → ℕ → Reply Float
 lookupWithin = lookupWithinOf nan
-
-refused-answered : {k p : ℕ} → refused k ≡ answered p → ⊥
-refused-answered e = let z : _≡_ {A = ℕ} 0 1 = cc in omega arith
 
 answered-same : {p q : ℕ} → answered p ≡ answered q → p ≡ q
 answered-same e = cc
@@ -351,26 +351,36 @@ module _ (starts rows : List ℕ) (values r c : ℕ) where
     ]
   ]
 
-module _ {A : Type 0} (blank : A) (starts rows : List ℕ) (values : List A) where
-  module _ (r c : ℕ) where
-    pub entryWithin-outside : dimension starts ≤ r → entryWithin blank starts rows values r c ≡ refused 8
-    unfolding entryWithin
-    entryWithin-outside h = rw (le-leb _ _ h) refl
+  pub placeWithin-outside : dimension starts ≤ r → placeWithin starts rows values r c ≡ refused 8
+  unfolding placeWithin
+  placeWithin-outside h = rw (le-leb _ _ h) refl
 
-    pub entryWithin-inside : r < dimension starts → entryWithin blank starts rows values r c ≡ valueAt blank values (columnWithin starts rows (length values) r c)
-    unfolding entryWithin
-    entryWithin-inside h = rw (lt-leb _ _ h) refl
+  pub placeWithin-column : r < dimension starts → placeWithin starts rows values r c ≡ columnWithin starts rows values r c
+  unfolding placeWithin
+  placeWithin-column h = rw (lt-leb _ _ h) refl
 
-  -- in a well-formed result it is the lookup
-  pub within-lookup : WellFormed starts rows (length values) → (row col : ℕ) → lookupWithinOf blank starts rows values row col ≡ lookupOf blank starts rows values row col
-  within-lookup W row col = elim (decLt (max row col) (dimension starts)) [
-    | yes l ↦
-        let c = min row col in
-        let o : c ≤ max row col = omega arith in
-        let C = W .column c (omega arith) in
-        entryWithin-inside (max row col) c l
-        ∙ ap (valueAt blank values)
-        (columnWithin-place starts rows (length values) (max row col) c (C .stored) (C .weighed) ∙ halvedPlace-placeIn rows (start starts c) (start starts (c + 1)) (C .ascends) (max row col))
-        ∙ sym (entryOf-place blank starts rows values (max row col) c (W .some) (omega arith) (columnFaults-passed starts rows (length values) c C) l)
-    | no l ↦ entryWithin-outside (max row col) (min row col) (omega arith) ∙ sym (lookup-outside blank starts rows values W row col (omega arith))
+  -- and so here
+  pub placeWithin-inside : (p : ℕ) → placeWithin starts rows values r c ≡ answered p → p < values
+  placeWithin-inside p f = elim (decLt r (dimension starts)) [
+    | yes h ↦ columnWithin-inside p (sym (placeWithin-column h) ∙ f)
+    | no h ↦ absurd (refused-answered (sym (placeWithin-outside (omega arith)) ∙ f))
   ]
+
+-- in a well-formed result it is the place that the lookup finds
+pub within-place : {starts rows : List ℕ} {values : ℕ} → WellFormed starts rows values → (row col : ℕ)
+    → lookupPlaceWithin starts rows values row col ≡ lookupPlace starts rows values row col
+within-place {starts} {rows} {values} W row col = elim (decLt (max row col) (dimension starts)) [
+  | yes l ↦
+      let c = min row col in
+      let C = W .column c (omega arith) in
+      placeWithin-column starts rows values (max row col) c l
+      ∙ columnWithin-place starts rows values (max row col) c (C .stored) (C .weighed)
+      ∙ halvedPlace-placeIn rows (start starts c) (start starts (c + 1)) (C .ascends) (max row col)
+      ∙ sym (lookupPlace-column starts rows values W row col l)
+  | no l ↦ placeWithin-outside starts rows values (max row col) (min row col) (omega arith) ∙ sym (lookupPlace-outside starts rows values W row col (omega arith))
+]
+
+-- so that it is the lookup
+pub within-lookup : {A : Type 0} (blank : A) (starts rows : List ℕ) (values : List A) → WellFormed starts rows (length values) → (row col : ℕ)
+    → lookupWithinOf blank starts rows values row col ≡ lookupOf blank starts rows values row col
+within-lookup blank starts rows values W row col = ap (valueAt blank values) (within-place W row col) ∙ sym (lookup-place blank starts rows values row col)

@@ -48,6 +48,14 @@ searchSteps starts rows values r c =
 unfoldable pub entrySteps : List ℕ → List ℕ → ℕ → ℕ → ℕ → List Step
 entrySteps starts rows values r c = searchSteps starts rows values r c ++ absentStep starts rows r c ∷ []
 
+-- the place that the lookup of row r and column c finds, r at least c: a refusal, or the row's place
+unfoldable pub entryPlace : List ℕ → List ℕ → ℕ → ℕ → ℕ → Reply ℕ
+entryPlace starts rows values r c = first (entrySteps starts rows values r c) (placeOf rows r (start starts c) (start starts (c + 1)))
+
+-- the same with row and column exchanged if row < column
+abbrev pub lookupPlace : List ℕ → List ℕ → ℕ → ℕ → ℕ → Reply ℕ
+lookupPlace starts rows values row col = entryPlace starts rows values (max row col) (min row col)
+
 -- a reply that is an answer
 abbrev pub finds : {A : Type 0} → Reply A → Bool
 finds (answered a) = true

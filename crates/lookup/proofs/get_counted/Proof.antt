@@ -1,36 +1,32 @@
-use borrow.Author.Needs.{needs}
-use native.Mathlib.Omega.{arith}
-use Prim.Native.Nat.{_≤_}
-use mathlib.Core.Path.{sym, _∙_}
+use Prim.Native.Nat.{max, min}
+use mathlib.Core.Path.{ap, sym, _∙_}
 use lib.ListN.{length}
 use lib.Ieee.{nan}
-use Rattle.result.specs.Laws.{lookup-ordered, lookup-exchanged}
-use Rattle.result.specs.Counted.{looks-ordered, looks-exchanged}
+use borrow.Author.Needs.{needs}
+use Rattle.result.specs.Lookup.{valueAt}
+use Rattle.result.specs.Laws.{entryPlace-inside, lookup-place}
 use Rattle.lookup.proofs.get_counted.Statement.{statement}
 use Rattle.lookup.proofs.get_counted.Tie as tie
 
-get-ordered-requires : tie.Need-get-ordered-requires
-get-ordered-requires c κs = search needs
+pair-place-requires : tie.Need-pair-place-requires
+pair-place-requires c κs = search needs
+
+value-at-requires : tie.Need-value-at-requires
+value-at-requires c κs =
+    let a = c .before .before .before .before .args in
+    record {
+      below = λ p q.
+          entryPlace-inside (a .starts .now) (a .rows .now) (length (a .values .now)) (max (a .row) (a .col)) (min (a .row) (a .col)) p (sym (c .pair-place .ensures .0) ∙ q);
+    }
 
 returns : tie.Need-returns
 returns c =
-    let a = c .before .before .before .before .before .args in
-    let h : a .row ≤ a .col = omega (arith, c .before .if1 .taken) in (
-      c .get-ordered .ensures .0 ∙ sym (lookup-exchanged nan (a .starts .now) (a .rows .now) (a .values .now) (a .row) (a .col) h),
-      c .get-ordered .ensures .1 ∙ sym (looks-exchanged (a .starts .now) (a .rows .now) (length (a .values .now)) (a .row) (a .col) h),
-    )
-
-get-ordered-requires-2 : tie.Need-get-ordered-requires-2
-get-ordered-requires-2 c κs = search needs
-
-returns-2 : tie.Need-returns-2
-returns-2 c =
-    let a = c .before .before .before .before .before .args in
-    let h : a .col ≤ a .row = omega (arith, c .before .if1 .left) in (
-      c .get-ordered2 .ensures .0 ∙ sym (lookup-ordered nan (a .starts .now) (a .rows .now) (a .values .now) (a .row) (a .col) h),
-      c .get-ordered2 .ensures .1 ∙ sym (looks-ordered (a .starts .now) (a .rows .now) (length (a .values .now)) (a .row) (a .col) h),
+    let d = c .before in
+    let a = d .before .before .before .before .args in (
+      c .value-at .ensures ∙ ap (valueAt nan (a .values .now)) (d .pair-place .ensures .0)
+          ∙ sym (lookup-place nan (a .starts .now) (a .rows .now) (a .values .now) (a .row) (a .col)),
+      d .pair-place .ensures .1,
     )
 
 pub get-counted-spec : {M : Type 1} → statement M
-get-counted-spec =
-    tie.close (tie.spec get-ordered-requires returns get-ordered-requires-2 returns-2)
+get-counted-spec = tie.close (tie.spec pair-place-requires value-at-requires returns)

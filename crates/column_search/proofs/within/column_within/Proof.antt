@@ -1,8 +1,8 @@
 use borrow.Author.Needs.{needs}
 use mathlib.Core.Path.{ap₂, sym, _∙_}
 use Rattle.result.specs.Halving.{columnWithin-rows, columnWithin-values, columnWithin-place, halvedPlace}
-use Rattle.lookup.proofs.well_formed.column_place.Statement.{statement}
-use Rattle.lookup.proofs.well_formed.column_place.Tie as tie
+use Rattle.column_search.proofs.within.column_within.Statement.{statement}
+use Rattle.column_search.proofs.within.column_within.Tie as tie
 
 add-at : tie.Need-add-at
 add-at c = search needs
@@ -40,8 +40,8 @@ returns-3 c =
     ∙ ap₂ (halvedPlace (a .rows .now) (a .r)) (s .at2 .ensures) (d .at .ensures)
     ∙ sym (columnWithin-place (a .starts .now) (a .rows .now) (a .values) (a .r) (a .c) (rw (d .at .ensures) at (e .if1 .left)) (rw (d .at .ensures) at (f .if2 .left)))
 
-pub column-place-spec : {M : Type 1} → statement M
-column-place-spec =
+pub column-within-spec : {M : Type 1} → statement M
+column-within-spec =
     tie.close
     (tie.spec
     add-at
