@@ -265,7 +265,8 @@ redstartgilt_selected redstartgilt_selected_inverse_transformed_covariances(
  *
  * The reply has the number of pairs; 0 is the answer for a pair that is not in the set. The chain lists are then as they
  * were, and may be of any length. Otherwise each needs a place for each pair of the chain. Row + column rises from pair to
- * pair, so 2n places are enough for every chain. Scratch needs 2T + 4n words, of any contents. Refuses, in this order:
+ * pair, so 2n - 1 places are enough for every chain. Scratch needs 2T + 4n words, of any contents. Refuses, in this
+ * order:
  *   1, 2, 3, 18, 4, 5, 6   as selected entries does
  *   7   scratch too short
  *   5   row or column n or more, as every one is where n is 0
@@ -279,10 +280,10 @@ redstartgilt_selected redstartgilt_selected_inverse_transformed_covariances(
  * Of the factor with columns (1, 2, 3), (1) and (1), with (0, 0) requested, the chain to (2, 1):
  *   const uint32_t starts[] = {0, 3, 4, 5}, rows[] = {0, 1, 2, 1, 2}, request_rows[] = {0}, request_columns[] = {0};
  *   const double values[] = {1.0, 2.0, 3.0, 1.0, 1.0};
- *   uint32_t scratch[24], chain_rows[6], chain_columns[6];
+ *   uint32_t scratch[24], chain_rows[5], chain_columns[5];
  *   redstartgilt_pairs reply = redstartgilt_dependency_chain(
  *       3, starts, 4, rows, 5, values, 5, 3, request_rows, 1, request_columns, 1, 2, 1,
- *       scratch, 24, chain_rows, 6, chain_columns, 6);
+ *       scratch, 24, chain_rows, 5, chain_columns, 5);
  * gives refusal 0 and 3 pairs, (0, 0), (1, 0) and (2, 1). */
 redstartgilt_pairs redstartgilt_dependency_chain(
     size_t n, const uint32_t *starts, size_t starts_len, const uint32_t *rows, size_t rows_len, const double *values, size_t values_len,

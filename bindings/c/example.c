@@ -137,8 +137,8 @@ int main(void)
     /* Why (1, 1) is computed for (0, 0): a chain from the request to it. With (1, 1) alone requested nothing leads to
      * (1, 0), and 0 pairs say so. */
     uint32_t chain_scratch[14]; /* 2T + 4n */
-    uint32_t chain_rows[4];     /* 2n are enough for every chain */
-    uint32_t chain_columns[4];
+    uint32_t chain_rows[3];     /* 2n - 1 are enough for every chain */
+    uint32_t chain_columns[3];
     redstartgilt_pairs chain = redstartgilt_dependency_chain(
         2, starts, COUNT(starts), rows, COUNT(rows), values, COUNT(values),
         2, request_rows, COUNT(request_rows), request_columns, COUNT(request_columns),

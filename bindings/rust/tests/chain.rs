@@ -85,7 +85,7 @@ fn the_longest_chain() {
     assert_eq!(chain.len(), 2 * n - 1);
     let sums = chain.iter().map(|(row, column)| row + column);
     assert!(sums.eq(0..2 * n - 1));
-    assert!(chain.len() <= lent::chain_places(n));
+    assert_eq!(chain.len(), lent::chain_places(n));
 }
 
 /// The closed set passes the default limit, and every limit below it.

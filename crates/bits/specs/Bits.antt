@@ -6,7 +6,7 @@ use native.Mathlib.Nat.{div-eq-of-lt, div-one, one-mul, not-suc-le-zero, le-of-s
 use native.Mathlib.Numerals.{one-add, add-one}
 use native.Mathlib.Decide.{ℕ-discrete, decLt}
 use mathlib.Core.Path.{_≡_, refl, sym, ap, ap₂, subst, _∙_}
-use mathlib.Core.Bool.{Bool, true, false, _||_}
+use mathlib.Core.Bool.{Bool, false, _||_, or-true, or-false}
 use mathlib.Core.Logic.{_≢_}
 use mathlib.Core.List.{List}
 use lib.Dec.{eqb}
@@ -141,14 +141,6 @@ pub bit-set : (s : List ℕ) (p : ℕ) → p / 32 < length s → (q : ℕ) → b
 unfolding bitAt
 bit-set s p l q = elim (ℕ-discrete p q) [ yes e ↦ same e | no d ↦ other d ]
   where
-    or-true : (a : Bool) → true ≡ (a || true)
-    or-true true = refl
-    or-true false = refl
-
-    or-false : (a : Bool) → a ≡ (a || false)
-    or-false true = refl
-    or-false false = refl
-
     new : ℕ
     new = bitOr (getD s (p / 32) 0) (2 ^ (p % 32))
 
@@ -157,10 +149,10 @@ bit-set s p l q = elim (ℕ-discrete p q) [ yes e ↦ same e | no d ↦ other d 
         ap (bitAt (withBit s p)) (sym e)
         ∙ ap (λ (w : ℕ). eqb (digit w (p % 32)) 1) (getD-set-same s (p / 32) new 0 l)
         ∙ eq-eqb _ 1 (digit-same (getD s (p / 32) 0) (p % 32))
-        ∙ or-true (bitAt s q) ∙ ap (λ (b : Bool). bitAt s q || b) (sym (eq-eqb p q e))
+        ∙ sym (or-true (bitAt s q)) ∙ ap (λ (b : Bool). bitAt s q || b) (sym (eq-eqb p q e))
 
     other : p ≢ q → bitAt (withBit s p) q ≡ (bitAt s q || eqb p q)
-    other d = kept ∙ or-false (bitAt s q) ∙ ap (λ (b : Bool). bitAt s q || b) (sym (ne-eqb p q d))
+    other d = kept ∙ sym (or-false (bitAt s q)) ∙ ap (λ (b : Bool). bitAt s q || b) (sym (ne-eqb p q d))
       where
         kept : bitAt (withBit s p) q ≡ bitAt s q
         kept = elim (ℕ-discrete (q / 32) (p / 32)) [

@@ -5,9 +5,9 @@ use Prim.Native.Nat.{ℕ, zero, suc, _+_, _-_, _*_, _≤_, _<_, min, max}
 use native.Mathlib.Omega.{arith}
 use native.Mathlib.Nat.{not-suc-le-zero}
 use native.Mathlib.Decide.{decLe}
-use mathlib.Core.Path.{_≡_, refl, ap, ap₂, subst₂}
+use mathlib.Core.Path.{_≡_, refl, sym, ap, ap₂, subst, subst₂}
 use mathlib.Core.Bool.{Bool, true, _&&_, _||_}
-use mathlib.Core.Logic.{_↔_, ⊎-elim}
+use mathlib.Core.Logic.{_⊎_, inl, inr, _↔_, ⊎-elim}
 use mathlib.Core.List.{List}
 use lib.ListN.{length, getD}
 use lib.Dec.{eqb}
@@ -22,6 +22,10 @@ descends desc c d = any (λ k. eqb (getD (desc c) k 0) d) (length (desc c))
 pub data Needed (desc : ℕ → List ℕ) (req : ℕ → ℕ → Bool) : ℕ → ℕ → Type 0 where
   request : {r c : ℕ} → req r c ≡ true → Needed desc req r c
   dependency : {r c : ℕ} (d : ℕ) → Needed desc req r c → descends desc c d ≡ true → Needed desc req (max r d) (min r d)
+
+-- (r, c) is a dependency of (a, b): (a, d) put in order, for a descendant d of b
+abbrev pub Leads : (ℕ → List ℕ) → ℕ → ℕ → ℕ → ℕ → Type 0
+Leads desc a b r c = (d : ℕ) × (descends desc b d ≡ true) × (r ≡ max a d) × (c ≡ min a d)
 
 -- a set that holds the dependencies of its pairs
 abbrev pub Closed : ℕ → (ℕ → List ℕ) → (ℕ → ℕ → Bool) → Type 0
@@ -66,26 +70,87 @@ module _ (desc : ℕ → List ℕ) (c : ℕ) where
 
 module _ (desc : ℕ → List ℕ) (req : ℕ → ℕ → Bool) where
   -- (r, c) is a dependency of a pair of column j that is at most k dependencies from a requested one
-  abbrev next : ℕ → ℕ → ℕ → ℕ → Bool
-  next k r c j = (descends desc j c && reach desc req k r j) || (descends desc j r && reach desc req k c j)
+  abbrev near : ℕ → ℕ → ℕ → ℕ → Bool
+  near k r c j = (descends desc j c && reach desc req k r j) || (descends desc j r && reach desc req k c j)
 
-  sound : (k r c : ℕ) → c ≤ r → reach desc req k r c ≡ true → Needed desc req r c
+  pub reach-request : (k r c : ℕ) → req r c ≡ true → reach desc req k r c ≡ true
   unfolding reach
-  sound zero r c h e = request e
-  sound (suc k) r c h e =
-      ⊎-elim (λ p. request p)
-      (λ p. via (λ a b l q. sound k a b l q) (any-found (next k r c) (suc c) p))
+  reach-request zero r c e = e
+  reach-request (suc k) r c e = or-left (req r c) _ e
+
+  -- a dependency of a pair within k is within k + 1
+  pub reach-step : (k a b r c : ℕ) → b ≤ a → b ≤ c → Leads desc a b r c → reach desc req k a b ≡ true → reach desc req (suc k) r c ≡ true
+  unfolding reach
+  reach-step k a b r c h l (d, m, p, q) e =
+      or-right (req r c) _ (any-hit (near k r c) (suc c) b (omega arith) (elim (decLe a d) [ yes u ↦ lo u | no u ↦ hi (omega arith) ]))
+    where
+      lo : a ≤ d → near k r c b ≡ true
+      lo u =
+          let x : d ≡ r = omega arith in
+          let y : a ≡ c = omega arith in
+          or-right (descends desc b c && reach desc req k r b) _
+          (and-both (descends desc b r) _ (subst (λ (i : ℕ). descends desc b i ≡ true) x m) (subst (λ (i : ℕ). reach desc req k i b ≡ true) y e))
+
+      hi : d < a → near k r c b ≡ true
+      hi u =
+          let x : d ≡ c = omega arith in
+          let y : a ≡ r = omega arith in
+          or-left _ _
+          (and-both (descends desc b c) _ (subst (λ (i : ℕ). descends desc b i ≡ true) x m) (subst (λ (i : ℕ). reach desc req k i b ≡ true) y e))
+
+  -- a pair within k + 1 is requested, or is a dependency of a pair within k
+  pub reach-found : (k r c : ℕ) → c ≤ r → reach desc req (suc k) r c ≡ true
+      → (req r c ≡ true) ⊎ ((a : ℕ) × (b : ℕ) × (b ≤ a) × (b ≤ c) × (a ≤ r) × Leads desc a b r c × (reach desc req k a b ≡ true))
+  unfolding reach
+  reach-found k r c h e =
+      ⊎-elim (λ p. inl p)
+      (λ p. inr (via (any-found (near k r c) (suc c) p)))
       (or-cases (req r c) _ e)
     where
-      via : ((a b : ℕ) → b ≤ a → reach desc req k a b ≡ true → Needed desc req a b) → (j : ℕ) × (j < suc c) × (next k r c j ≡ true) → Needed desc req r c
-      via before w =
-          let j = w .0 in
+      via : (j : ℕ) × (j < suc c) × (near k r c j ≡ true)
+          → (a : ℕ) × (b : ℕ) × (b ≤ a) × (b ≤ c) × (a ≤ r) × Leads desc a b r c × (reach desc req k a b ≡ true)
+      via (j, l, t) =
           ⊎-elim
-          (λ p. subst₂ (λ (a b : ℕ). Needed desc req a b) (omega arith) (omega arith)
-          (dependency c (before r j (omega arith) (and-right (descends desc j c) _ p)) (and-left _ _ p)))
-          (λ p. subst₂ (λ (a b : ℕ). Needed desc req a b) (omega arith) (omega arith)
-          (dependency r (before c j (omega arith) (and-right (descends desc j r) _ p)) (and-left _ _ p)))
-          (or-cases (descends desc j c && reach desc req k r j) _ (w .2))
+          (λ p. (r, j, omega arith, omega arith, omega arith, (c, and-left _ _ p, omega arith, omega arith), and-right (descends desc j c) _ p))
+          (λ p. (c, j, omega arith, omega arith, omega arith, (r, and-left _ _ p, omega arith, omega arith), and-right (descends desc j r) _ p))
+          (or-cases (descends desc j c && reach desc req k r j) _ t)
+
+  reach-more : (k r c : ℕ) → reach desc req k r c ≡ true → reach desc req (suc k) r c ≡ true
+  unfolding reach
+  reach-more zero r c e = or-left (req r c) _ e
+  reach-more (suc k) r c e =
+      ⊎-elim (λ p. or-left (req r c) _ p)
+      (λ p. or-right (req r c) _ (via (λ a b q. reach-more k a b q) (any-found (near k r c) (suc c) p)))
+      (or-cases (req r c) _ e)
+    where
+      via : ((a b : ℕ) → reach desc req k a b ≡ true → reach desc req (suc k) a b ≡ true) → (j : ℕ) × (j < suc c) × (near k r c j ≡ true)
+          → any (near (suc k) r c) (suc c) ≡ true
+      via f (j, l, t) =
+          any-hit (near (suc k) r c) (suc c) j l
+          (⊎-elim
+          (λ p. or-left _ _ (and-both (descends desc j c) _ (and-left _ _ p) (f r j (and-right (descends desc j c) _ p))))
+          (λ p. or-right (descends desc j c && reach desc req (suc k) r j) _ (and-both (descends desc j r) _ (and-left _ _ p) (f c j (and-right (descends desc j r) _ p))))
+          (or-cases (descends desc j c && reach desc req k r j) _ t))
+
+  -- what is within j is within any more
+  pub reach-mono : (j k r c : ℕ) → j ≤ k → reach desc req j r c ≡ true → reach desc req k r c ≡ true
+  reach-mono j zero r c h e = let z : j ≡ 0 = omega arith in subst (λ (i : ℕ). reach desc req i r c ≡ true) z e
+  reach-mono j (suc k) r c h e = elim (decLe j k) [
+    | yes l ↦ reach-more k r c (reach-mono j k r c l e)
+    | no l ↦ let z : j ≡ suc k = omega arith in subst (λ (i : ℕ). reach desc req i r c ≡ true) z e
+  ]
+
+  -- a dependency of a needed pair is needed
+  pub leads-needed : (a b r c : ℕ) → Leads desc a b r c → Needed desc req a b → Needed desc req r c
+  leads-needed a b r c (d, m, p, q) s = subst₂ (λ (x y : ℕ). Needed desc req x y) (sym p) (sym q) (dependency d s m)
+
+  pub reach-needed : (k r c : ℕ) → c ≤ r → reach desc req k r c ≡ true → Needed desc req r c
+  unfolding reach
+  reach-needed zero r c h e = request e
+  reach-needed (suc k) r c h e =
+      ⊎-elim (λ p. request p)
+      (λ w. leads-needed (w .0) (w .1) r c (w .5) (reach-needed k (w .0) (w .1) (w .2) (w .6)))
+      (reach-found k r c h e)
 
   -- needed pairs are in order, and below n
   pub needed-range : (n : ℕ) → Pattern n desc → Ranged n req → {r c : ℕ} → Needed desc req r c → (c ≤ r) × (r < n)
@@ -98,44 +163,20 @@ module _ (desc : ℕ → List ℕ) (req : ℕ → ℕ → Bool) where
   abbrev rank : ℕ → ℕ → ℕ
   rank r c = 2 * c + min 1 (r - c)
 
-  step : (k r c d : ℕ) → c ≤ r → c < d → descends desc c d ≡ true → reach desc req k r c ≡ true → reach desc req (suc k) (max r d) (min r d) ≡ true
-  unfolding reach
-  step k r c d h l m e =
-      or-right (req (max r d) (min r d)) _
-      (any-hit (next k (max r d) (min r d)) (suc (min r d)) c (omega arith) (elim (decLe r d) [ yes q ↦ lo q | no q ↦ hi (omega arith) ]))
-    where
-      lo : r ≤ d → next k (max r d) (min r d) c ≡ true
-      lo q =
-          let e₁ : max r d ≡ d = omega arith in
-          let e₂ : min r d ≡ r = omega arith in
-          or-right (descends desc c (min r d) && reach desc req k (max r d) c) _
-          (and-both (descends desc c (max r d)) (reach desc req k (min r d) c) (rw e₁ m) (rw e₂ e))
-
-      hi : d < r → next k (max r d) (min r d) c ≡ true
-      hi q =
-          let e₁ : max r d ≡ r = omega arith in
-          let e₂ : min r d ≡ d = omega arith in
-          or-left _ _ (and-both (descends desc c (min r d)) (reach desc req k (max r d) c) (rw e₂ m) (rw e₁ e))
-
-  requests : (k r c : ℕ) → req r c ≡ true → reach desc req k r c ≡ true
-  unfolding reach
-  requests zero r c e = e
-  requests (suc k) r c e = or-left (req r c) _ e
-
   complete : (n : ℕ) → Pattern n desc → Ranged n req → {r c : ℕ} → Needed desc req r c → (k : ℕ) → rank r c < k → reach desc req k r c ≡ true
-  complete n P R {r} {c} (request e) k h = requests k r c e
+  complete n P R {r} {c} (request e) k h = reach-request k r c e
   complete n P R (dependency {r} {c} d s e) zero h = absurd (not-suc-le-zero h)
   complete n P R (dependency {r} {c} d s e) (suc k) h =
       let g = needed-range n P R s in
       let b = P .below c d (omega arith) e in
-      step k r c d (g .0) b e (complete n P R s k (omega arith))
+      reach-step k r c (max r d) (min r d) (g .0) (omega (arith, g .0)) (d, e, refl, refl) (complete n P R s k (omega arith))
 
 -- ---- what it tests holds the requested pairs, is closed, and is least
 
 module _ (n : ℕ) (desc : ℕ → List ℕ) (req : ℕ → ℕ → Bool) (P : Pattern n desc) (R : Ranged n req) where
   pub member-needed : (r c : ℕ) → c ≤ r → r < n → (member n desc req r c ≡ true) ↔ Needed desc req r c
   unfolding member
-  member-needed r c h l = ((λ e. sound desc req _ r c h e), (λ s. complete desc req n P R s _ (omega arith)))
+  member-needed r c h l = ((λ e. reach-needed desc req _ r c h e), (λ s. complete desc req n P R s _ (omega arith)))
 
   pub needed-member : {r c : ℕ} → Needed desc req r c → member n desc req r c ≡ true
   needed-member {r} {c} s = let g = needed-range desc req n P R s in member-needed r c (g .0) (g .1) .1 s
@@ -164,13 +205,13 @@ module _ (n : ℕ) (desc desc′ : ℕ → List ℕ) (req req′ : ℕ → ℕ �
   unfolding reach
   reach-cong zero r c h l = q r c h l
   reach-cong (suc k) r c h l =
-      ap₂ _||_ (q r c h l) (any-cong (next desc req k r c) (next desc′ req′ k r c) (suc c) (agree (λ a b m o. reach-cong k a b m o)))
+      ap₂ _||_ (q r c h l) (any-cong (near desc req k r c) (near desc′ req′ k r c) (suc c) (agree (λ a b m o. reach-cong k a b m o)))
     where
       same : (j d : ℕ) → j < n → descends desc j d ≡ descends desc′ j d
       same j d m = ap (λ (x : List ℕ). any (λ i. eqb (getD x i 0) d) (length x)) (p j m)
 
       agree : ((a b : ℕ) → b ≤ a → a < n → reach desc req k a b ≡ reach desc′ req′ k a b) → (j : ℕ) → j < suc c
-          → next desc req k r c j ≡ next desc′ req′ k r c j
+          → near desc req k r c j ≡ near desc′ req′ k r c j
       agree before j m =
           ap₂ _||_
           (ap₂ _&&_ (same j c (omega arith)) (before r j (omega arith) l))

@@ -3,13 +3,13 @@
 use Prim.Native.Nat.{ℕ, _+_, _≤_, _<_, min, max}
 use native.Mathlib.Omega.{arith}
 use mathlib.Core.Path.{_≡_, refl, sym, ap, subst, subst₂, _∙_}
-use mathlib.Core.List.{List, [], _∷_, _++_}
+use mathlib.Core.List.{List, []}
 use mathlib.Core.Bool.{Bool}
 use lib.Ieee.{Float}
 use lib.ListN.{length, getD}
 use borrow.Author.Tests.{lt-ltb, le-ltb}
 use Rattle.lists.specs.Overwrite.{overwrite, overwrite-none, cleared}
-use Rattle.refusal.specs.Steps.{Step, Reply, refused, answered, verdict, first, after, settle, Passed, first-hit, first-skip, first-end, first-refused, first-passed}
+use Rattle.refusal.specs.Steps.{Step, Reply, refused, answered, verdict, after, settle, Passed, first-hit, first-skip, first-end, first-refused, first-passed}
 use Rattle.refusal.specs.Steps.{append-refused, append-passed, after-refused, after-passed}
 use Rattle.pairs.specs.Pair.{pairTotal}
 use Rattle.pairs.specs.Scratch.{chainWords, chainWords-levels}

@@ -1,6 +1,6 @@
 -- What a call for a chain that is not refused has, and what its answer means.
 -- Assumes nothing.
-use Prim.Native.Nat.{ℕ, _+_, _*_, _≤_, _<_, min, max}
+use Prim.Native.Nat.{ℕ, _+_, _-_, _*_, _≤_, _<_, min, max}
 use native.Mathlib.Omega.{arith}
 use mathlib.Core.Path.{_≡_}
 use mathlib.Core.Bool.{Bool}
@@ -20,7 +20,7 @@ use Rattle.closed_set.specs.ClosedSet.{Needed, Pattern, Ranged}
 use Rattle.closed_set.specs.Requests.{Requests, requested, requested-ranged}
 use Rattle.closed_set.specs.FactorPattern.{factor-pattern}
 use Rattle.chains.specs.Chain.{Shown}
-use Rattle.chains.specs.ChainOf.{chain-shown, chain-empty}
+use Rattle.chains.specs.ChainOf.{chain-shown, chain-empty, chainOf-most}
 use Rattle.selection.specs.RequestSteps.{requestBoundSteps, requestSteps-sound}
 use Rattle.levels.specs.Levels.{levelWord}
 use Rattle.levels.specs.Written.{BackInput}
@@ -77,6 +77,12 @@ module _ (x : ChainCall) (s : List ℕ) (p : Passed (askedSteps x (length s))) w
   pub asked-shown : Needed desc req (max (x .row) (x .column)) (min (x .row) (x .column))
       → Shown desc req (chainTo x) (max (x .row) (x .column)) (min (x .row) (x .column))
   asked-shown needed = chain-shown (x .factor .n) desc req asked-pattern asked-ranged needed
+
+  -- of at most 2n - 1 pairs
+  pub asked-most : length (chainTo x) ≤ 2 * x .n - 1
+  asked-most =
+      let I = asked-accepted x s p in
+      chainOf-most (x .n) desc req asked-pattern asked-ranged (max (x .row) (x .column)) (min (x .row) (x .column)) (I .ordered) (I .inside)
 
   -- no pairs exactly if it is not in the set
   pub asked-none : (chainTo x ≡ []) ↔ (Needed desc req (max (x .row) (x .column)) (min (x .row) (x .column)) → ⊥)

@@ -2,3 +2,5 @@
 pub mod Reply
 pub mod Chain
 pub mod Laws
+pub mod Answer
+pub mod Worked

@@ -11,7 +11,7 @@ use lib.Dec.{lit≤, lit<}
 use lib.IntN.{ℤ, pos, negsuc, negℤ, _-ℤ_, _*ℤ_, zero-*ℤ}
 use lib.Ieee.{Float, fin, binary64, add, sub, mul, div, neg, toBits}
 use Rattle.integers.specs.Integer.{pos-nonzero}
-use Rattle.integers.specs.Matrix.{Matrix}
+use Rattle.integers.specs.Matrix.{Matrix, identity, transpose, product}
 use Rattle.integers.specs.Inverse.{Inverse, WholeInverse, numerators, denominator}
 use Rattle.takahashi.specs.Entries.{Ascend}
 use Rattle.takahashi.specs.Recurrence.{Entry, Rows, dot, at, Lower, RecurrenceClosed, lower-closed, table, Solves, table-solves}
@@ -42,9 +42,9 @@ float-table n desc = table floats float-off float-on n (λ j. one-float) desc
 
 -- ---- F2
 -- starts 0 2 3, rows 0 1 1, values 1 2 1
-abbrev F2 : ℕ → List (Entry ℤ)
-F2 zero = one 1 (pos 2)
-F2 (suc j) = []
+abbrev pub F2-entries : ℕ → List (Entry ℤ)
+F2-entries zero = one 1 (pos 2)
+F2-entries (suc j) = []
 
 -- the same in floats
 abbrev F2-floats : ℕ → List (Entry Float)
@@ -55,11 +55,11 @@ F2-table : triangle₂ (float-table 2 F2-floats) ≡ fin false 5 (pos 0) ∷ fin
 unfolding add sub mul div neg
 F2-table = refl
 
-F2-exact : triangle₂ (unit-table 2 F2) ≡ pos 5 ∷ negsuc 1 ∷ pos 1 ∷ []
+F2-exact : triangle₂ (unit-table 2 F2-entries) ≡ pos 5 ∷ negsuc 1 ∷ pos 1 ∷ []
 F2-exact = refl
 
-F2-inverse : triangle₂ (numerators 2 (pos 1) (factor ones F2)) ≡ pos 5 ∷ negsuc 1 ∷ pos 1 ∷ []
-F2-inverse = refl
+F2-numerators : triangle₂ (numerators 2 (pos 1) (factor ones F2-entries)) ≡ pos 5 ∷ negsuc 1 ∷ pos 1 ∷ []
+F2-numerators = refl
 
 -- ---- F3
 -- starts 0 3 4 5, rows 0 1 2 1 2, values 1 2 3 1 1
@@ -86,11 +86,11 @@ F3-bits = refl
 F3-exact : triangle₃ (unit-table 3 F3) ≡ pos 14 ∷ negsuc 1 ∷ negsuc 2 ∷ pos 1 ∷ pos 0 ∷ pos 1 ∷ []
 F3-exact = refl
 
-F3-inverse : triangle₃ (numerators 3 (pos 1) (factor ones F3)) ≡ pos 14 ∷ negsuc 1 ∷ negsuc 2 ∷ pos 1 ∷ pos 0 ∷ pos 1 ∷ []
-F3-inverse = refl
+F3-numerators : triangle₃ (numerators 3 (pos 1) (factor ones F3)) ≡ pos 14 ∷ negsuc 1 ∷ negsuc 2 ∷ pos 1 ∷ pos 0 ∷ pos 1 ∷ []
+F3-numerators = refl
 
 -- ---- a fact of two columns, and of the pairs of two columns, case by case
-columns₂ : (G : ℕ → Type 0) → G 0 → G 1 → (j : ℕ) → j < 2 → G j
+pub columns₂ : (G : ℕ → Type 0) → G 0 → G 1 → (j : ℕ) → j < 2 → G j
 columns₂ G a b zero h = a
 columns₂ G a b (suc zero) h = b
 columns₂ G a b (suc (suc j)) h = absurd (omega arith)
@@ -104,26 +104,38 @@ pairs₂ G a b c (suc zero) (suc (suc j)) p = absurd (omega arith)
 pairs₂ G a b c (suc (suc i)) j p = absurd (omega arith)
 
 -- ---- `exact-case` at F2, over all its pairs
-F2-closed : RecurrenceClosed 2 F2 (Lower 2)
-F2-closed = lower-closed 2 F2 (columns₂ (λ j. Rows 2 j (F2 j)) (lit< tt, lit< tt, tt) tt)
+F2-closed : RecurrenceClosed 2 F2-entries (Lower 2)
+F2-closed = lower-closed 2 F2-entries (columns₂ (λ j. Rows 2 j (F2-entries j)) (lit< tt, lit< tt, tt) tt)
 
-F2-within : WithinBound 2 F2 (Lower 2)
+pub F2-within : WithinBound 2 F2-entries (Lower 2)
 F2-within = record {
   entry = pairs₂ (λ i j. Small (z i j)) (lit≤ tt) (lit≤ tt) (lit≤ tt);
-  product-below = pairs₂ (λ i j. j < i → Products Small (λ k. at z i k) (F2 j)) (λ h. (lit≤ tt, tt)) (λ h. (lit≤ tt, tt)) (λ h. tt);
-  sum-below = pairs₂ (λ i j. j < i → RunningSums Small (λ k. at z i k) (pos 0) (F2 j)) (λ h. (lit≤ tt, tt)) (λ h. (lit≤ tt, tt)) (λ h. tt);
-  product-diagonal = λ j p. columns₂ (λ j. Products Small (λ k. z k j) (F2 j)) (lit≤ tt, tt) tt j (p .1);
-  sum-diagonal = λ j p. columns₂ (λ j. RunningSums Small (λ k. z k j) (pos 0) (F2 j)) (lit≤ tt, tt) tt j (p .1);
+  product-below = pairs₂ (λ i j. j < i → Products Small (λ k. at z i k) (F2-entries j)) (λ h. (lit≤ tt, tt)) (λ h. (lit≤ tt, tt)) (λ h. tt);
+  sum-below = pairs₂ (λ i j. j < i → RunningSums Small (λ k. at z i k) (pos 0) (F2-entries j)) (λ h. (lit≤ tt, tt)) (λ h. (lit≤ tt, tt)) (λ h. tt);
+  product-diagonal = λ j p. columns₂ (λ j. Products Small (λ k. z k j) (F2-entries j)) (lit≤ tt, tt) tt j (p .1);
+  sum-diagonal = λ j p. columns₂ (λ j. RunningSums Small (λ k. z k j) (pos 0) (F2-entries j)) (lit≤ tt, tt) tt j (p .1);
 }
   where
     z : Matrix
-    z = unit-table 2 F2
+    z = unit-table 2 F2-entries
 
-F2-case : (X : Matrix) → WholeInverse 2 (factor ones F2) X
-    → (i j : ℕ) → Lower 2 i j → Whole (float-table 2 F2-floats i j) (X i j) × (unit-table 2 F2 i j ≡ X i j)
-F2-case X is =
-    exact-case 2 F2 (columns₂ (λ j. Ascend 2 (suc j) (F2 j)) (lit≤ tt, lit< tt, tt) tt) (Lower 2) F2-closed F2-within X is
-    (λ j. one-float) F2-floats (λ j h. refl) (columns₂ (λ j. Alike 0 (F2-floats j) (F2 j)) (refl, refl, tt) tt) (float-table 2 F2-floats)
+-- the inverse of L * Lᵀ
+abbrev pub F2-matrix : Matrix
+F2-matrix zero zero = pos 5
+F2-matrix zero (suc j) = negsuc 1
+F2-matrix (suc i) zero = negsuc 1
+F2-matrix (suc i) (suc j) = pos 1
+
+abbrev inverts : ℕ → ℕ → Type 0
+inverts i j = product 2 (product 2 (factor ones F2-entries) (transpose (factor ones F2-entries))) F2-matrix i j ≡ identity i j
+
+pub F2-inverse : WholeInverse 2 (factor ones F2-entries) F2-matrix
+F2-inverse i j h l = columns₂ (λ i. (j : ℕ) → j < 2 → inverts i j) (columns₂ (inverts 0) refl refl) (columns₂ (inverts 1) refl refl) i h j l
+
+F2-case : (i j : ℕ) → Lower 2 i j → Whole (float-table 2 F2-floats i j) (F2-matrix i j) × (unit-table 2 F2-entries i j ≡ F2-matrix i j)
+F2-case =
+    exact-case 2 F2-entries (columns₂ (λ j. Ascend 2 (suc j) (F2-entries j)) (lit≤ tt, lit< tt, tt) tt) (Lower 2) F2-closed F2-within F2-matrix F2-inverse
+    (λ j. one-float) F2-floats (λ j h. refl) (columns₂ (λ j. Alike 0 (F2-floats j) (F2-entries j)) (refl, refl, tt) tt) (float-table 2 F2-floats)
     (table-solves floats float-off float-on 2 (λ j. one-float) F2-floats (columns₂ (λ j. Rows 2 j (F2-floats j)) (lit< tt, lit< tt, tt) tt))
 
 -- ---- `dyadic` in quarters, s = 2: the factor with the rows 2 0 and 1 1, over all its pairs

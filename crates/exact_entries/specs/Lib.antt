@@ -4,3 +4,4 @@ pub mod Columns
 pub mod Recurrence
 pub mod ExactEntries
 pub mod Count
+pub mod Worked

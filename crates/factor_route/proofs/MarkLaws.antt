@@ -4,7 +4,7 @@ use Prim.Native.Nat.{ℕ, _+_, _≤_, _<_}
 use native.Mathlib.Omega.{arith}
 use native.Mathlib.Nat.{le-of-lt}
 use mathlib.Core.Path.{_≡_, refl, sym, ap, ap₂, subst, _∙_}
-use mathlib.Core.Bool.{Bool, true, false, cond, not, _&&_}
+use mathlib.Core.Bool.{Bool, true, false, cond, not, _&&_, and-false}
 use mathlib.Core.List.{List, [], _∷_, _++_, map}
 use lib.Dec.{ltb}
 use lib.ListN.{length, set, length-append, length-map}
@@ -35,11 +35,7 @@ module _ (c r : ℕ) (l : Float) (m : ℕ) (marker : List ℕ) (weights sums : L
 
   pub entry-zero : eq l f0 ≡ true → EntryMarked c r l m m marker weights sums marker weights sums
   unfolding ne
-  entry-zero e = same (ap (λ (b : Bool). ltb c r && not b) e ∙ none (ltb c r))
-    where
-      none : (b : Bool) → (b && false) ≡ false
-      none true = refl
-      none false = refl
+  entry-zero e = same (ap (λ (b : Bool). ltb c r && not b) e ∙ and-false (ltb c r))
 
   pub entry-kept : c < r → eq l f0 ≡ false → EntryMarked c r l m (m + 1) marker weights sums (set marker r m) (set weights m l) (set sums m f0)
   unfolding ne

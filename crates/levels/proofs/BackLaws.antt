@@ -3,10 +3,9 @@
 use Prim.Native.Nat.{ℕ, _+_, _≤_, _<_}
 use native.Mathlib.Omega.{arith}
 use native.Mathlib.Decide.{decLt}
-use mathlib.Core.Path.{_≡_, refl, sym, ap, subst, _∙_}
-use mathlib.Core.Bool.{Bool, true, false, cond, _&&_, _||_}
+use mathlib.Core.Path.{_≡_, sym, ap, subst, _∙_}
+use mathlib.Core.Bool.{Bool, true, false, cond, _||_}
 use mathlib.Core.List.{List}
-use lib.ListN.{length}
 use borrow.Author.Tests.{leb-false}
 use Rattle.lists.specs.Test.{any, any-below, anyIn-below, same-truth, not-so, or-left, or-right}
 use Rattle.columns.specs.Columns.{start, row, outsideAt}
@@ -14,7 +13,7 @@ use Rattle.columns.specs.Kept.{keptBelow, pattern}
 use Rattle.columns.specs.Factor.{Factor, FirstFrom, factor-column}
 use Rattle.closed_set.specs.ClosedSet.{descends}
 use Rattle.closed_set.specs.FactorPattern.{entry-descends, descends-entry}
-use Rattle.chains.specs.Least.{least, least-most, least-is, least-none}
+use Rattle.chains.specs.Least.{least-most, least-is, least-none}
 use Rattle.levels.specs.Back.{aboveAt, besideAt, backColumn, backRow}
 
 module _ {n : ℕ} {starts rows : List ℕ} {values : ℕ} (nz : ℕ → Bool) (F : Factor n starts rows values) (j d p : ℕ) (h : j < n)

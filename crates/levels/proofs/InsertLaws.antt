@@ -5,28 +5,21 @@ use native.Mathlib.Omega.{arith}
 use native.Mathlib.Nat.{not-suc-le-zero, eq-or-lt-of-le, le-of-suc-le-suc}
 use native.Mathlib.Numerals.{add-one}
 use mathlib.Core.Path.{_≡_, refl, sym, ap, ap₂, subst, subst₂, _∙_}
-use mathlib.Core.Bool.{Bool, true, false, cond, _&&_}
+use mathlib.Core.Bool.{Bool, true, false}
 use mathlib.Core.Logic.{⊎-elim}
 use mathlib.Core.List.{List}
 use lib.Dec.{eqb, ltb}
 use lib.ListN.{length, getD, set, drop, length-set}
 use lib.Seq.{getD-set-same, getD-set-other, drop-set-lt}
 use borrow.Author.Tests.{eqb-true, eq-eqb, lt-ltb, le-ltb}
-use Rattle.lists.specs.Test.{and-left, and-right, and-both, not-so}
+use Rattle.lists.specs.Test.{and-left, and-right, and-both}
 use Rattle.lists.specs.Sum.{bit, sumTo-zero, sumTo-one}
 use Rattle.lists.specs.Overwrite.{cleared, filled-at, filled-length, filled-later}
 use Rattle.refusal.specs.Bounds.{maxDimension}
 use Rattle.pairs.specs.Pair.{pairTotal, ordered}
 use Rattle.pairs.specs.Scratch.{packed, rowOf, columnOf}
 use Rattle.pairs.specs.ColumnOrder.{columnPlace, columnPlace-below, columnPlace-same, setSize, setSize-sum, setSize-cong, setSize-most}
-use Rattle.levels.specs.Levels.{levelWord, levelled, levelQueue, raised, QueuedLevel, Levelled, Raised, raised-stays, raised-in, raised-other, raised-cong}
-
--- a pair the other way round
-pub ordered-turned : (a b r c : ℕ) → ordered a b r c ≡ ordered b a r c
-ordered-turned a b r c =
-    let e₁ : max a b ≡ max b a = omega arith in
-    let e₂ : min a b ≡ min b a = omega arith in
-    ap₂ (λ (p q : ℕ). eqb p r && eqb q c) e₁ e₂
+use Rattle.levels.specs.Levels.{levelWord, levelled, levelQueue, raised, QueuedLevel, Levelled, Raised, raised-stays, raised-in, raised-other}
 
 module _ (n r c level : ℕ) (h : c ≤ r) (l : r < n) where
   high : max r c ≡ r

@@ -5,7 +5,7 @@ use native.Mathlib.Omega.{arith}
 use native.Mathlib.Nat.{add-zero}
 use mathlib.Core.Path.{_≡_, refl, sym, ap, ap₂, subst, _∙_}
 use mathlib.Core.List.{List, [], _∷_, _++_, map, append-nil}
-use lib.ListN.{length, set, drop, length-set, length-append}
+use lib.ListN.{length, set, length-set, length-append}
 use lib.Seq.{drop-set-lt}
 use Rattle.lists.specs.Overwrite.{overwrite, splice, splice-none, splice-more, splice-before, splice-first, splice-length}
 use Rattle.levels.specs.Back.{backRow, backColumn, levelsBack, levelsBack-none, levelsBack-next, levelsBack-length}

@@ -10,9 +10,9 @@ use lib.ListN.{length}
 use native.Mathlib.Decide.{decLt}
 use borrow.Author.Tests.{eq-eqb, ne-eqb, eqb-true}
 use Rattle.lists.specs.Test.{same-truth, and-left, and-right, and-both, not-so}
-use Rattle.closed_set.specs.ClosedSet.{descends, reach, member, Needed, Pattern, Ranged, needed-range, needed-member, member-needed}
+use Rattle.closed_set.specs.ClosedSet.{descends, reach, member, Needed, Pattern, Ranged, reach-needed, needed-range, needed-member, member-needed}
 use Rattle.chains.specs.Least.{least, least-most, least-cong}
-use Rattle.chains.specs.Distance.{distance, distance-most, reach-needed, reach-distance, distance-step, distance-reach}
+use Rattle.chains.specs.Distance.{distance, distance-most, reach-distance, distance-step, distance-reach}
 use Rattle.chains.specs.Levels.{levelAt}
 use Rattle.chains.specs.Before.{above, beside, beforeColumn, beforeRow}
 use Rattle.chains.specs.Chain.{length-snoc}

@@ -15,10 +15,10 @@ use Rattle.pairs.specs.Scratch.{rowOf, columnOf, packed, row-packed, column-pac
 use Rattle.columns.specs.Columns.{start, row}
 use Rattle.columns.specs.Kept.{keptBelow, pattern}
 use Rattle.columns.specs.Factor.{Factor}
-use Rattle.closed_set.specs.ClosedSet.{descends-at, descends-found, reach, member, Pattern, Ranged, Needed, needed-range}
+use Rattle.closed_set.specs.ClosedSet.{descends-at, descends-found, reach, member, Pattern, Ranged, Needed, Leads, needed-range}
 use Rattle.closed_set.specs.FactorPattern.{entry-descends, descends-entry}
 use Rattle.closed_set.specs.Requests.{Requests}
-use Rattle.chains.specs.Distance.{Leads, distance, reach-distance, distance-request}
+use Rattle.chains.specs.Distance.{distance, reach-distance, distance-request}
 use Rattle.chains.specs.Levels.{levelAt, After, reach-level, level-last, levelAt-own, levelAt-stays, levelAt-new}
 use Rattle.levels.specs.Levels.{levelWord, levelQueue, Levelled, raised, Raised, raised-stays, raised-in, raised-out}
 

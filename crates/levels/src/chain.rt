@@ -1,7 +1,7 @@
 // The chain to a pair, back through the levels of the closed set's pairs.
 ghost use mathlib.Core.Bool.{_&&_};
 ghost use mathlib.Core.Path.{_≡_};
-ghost use Prim.Native.Nat.{_<_, _≤_, _-_};
+ghost use Prim.Native.Nat.{_<_, _-_};
 ghost use lib.Dec.{eqb};
 ghost use lib.ListN.{length};
 ghost use Rattle.lists.specs.Overwrite.{overwrite};

@@ -5,7 +5,7 @@ use native.Mathlib.Omega.{arith}
 use native.Mathlib.Nat.{not-suc-le-zero, eq-or-lt-of-le, le-of-suc-le-suc}
 use native.Mathlib.Numerals.{add-one}
 use mathlib.Core.Path.{_≡_, refl, sym, ap, ap₂, subst, subst₂, _∙_}
-use mathlib.Core.Bool.{Bool, true, false, _&&_, _||_, false≢true}
+use mathlib.Core.Bool.{Bool, true, false, _&&_, _||_, or-false, false≢true}
 use mathlib.Core.Logic.{⊎-elim}
 use mathlib.Core.List.{List}
 use lib.Dec.{eqb}
@@ -17,16 +17,12 @@ use Rattle.lists.specs.Sum.{bit, sumTo-zero, sumTo-one}
 use Rattle.lists.specs.Overwrite.{cleared, filled-at, filled-length, filled-later}
 use Rattle.bits.specs.Bits.{bitAt, bitWords, withBit, bit-clear, bit-same, bit-set, word-below}
 use Rattle.refusal.specs.Bounds.{maxDimension}
-use Rattle.pairs.specs.Pair.{pairTotal, ordered}
+use Rattle.pairs.specs.Pair.{pairTotal, ordered, ordered-turned}
 use Rattle.pairs.specs.Scratch.{queueStart, queueStart-words, queueStart-mark, packed, rowOf, columnOf}
 use Rattle.pairs.specs.ColumnOrder.{columnPlace, columnMarking, columnPlace-below, columnPlace-same, setSize, setSize-sum, setSize-cong, setSize-most}
 use Rattle.marked_pairs.specs.MarkedPairs.{queueWord, Queued, Marked, Gained, MarkedPairs, Inserted, also-cong}
 
 -- ---- one pair
-
-or-none : (a : Bool) → a ≡ (a || false)
-or-none true = refl
-or-none false = refl
 
 module _ (n a b : ℕ) (h : b ≤ a) (l : a < n) where
   -- its place is that of no other pair
@@ -60,20 +56,9 @@ module _ (n a b : ℕ) (h : b ≤ a) (l : a < n) where
         setSize-sum n (columnMarking n (withBit s p)) (λ q. bit (bitAt (withBit s p) q)) (λ r c k m. refl)
         ∙ sumTo-one (λ q. bit (bitAt s q)) (λ q. bit (bitAt (withBit s p) q)) (pairTotal n) p (omega (arith, columnPlace-below n a b h l))
         (ap bit new)
-        (ap bit (bit-set s p place-word p ∙ or-true (bitAt s p) (eqb p p) (eq-eqb p p refl)))
-        (λ q m d. ap bit (bit-set s p place-word q ∙ ap (λ (x : Bool). bitAt s q || x) (ne-eqb p q (λ f. d (sym f))) ∙ sym (or-none (bitAt s q))))
+        (ap bit (bit-set s p place-word p ∙ or-right (bitAt s p) (eqb p p) (eq-eqb p p refl)))
+        (λ q m d. ap bit (bit-set s p place-word q ∙ ap (λ (x : Bool). bitAt s q || x) (ne-eqb p q (λ f. d (sym f))) ∙ or-false (bitAt s q)))
         ∙ ap (λ (k : ℕ). k + 1) (sym (setSize-sum n (columnMarking n s) (λ q. bit (bitAt s q)) (λ r c k m. refl)))
-      where
-        or-true : (x y : Bool) → y ≡ true → (x || y) ≡ true
-        or-true true y q = refl
-        or-true false y q = q
-
--- a pair the other way round
-pub ordered-turned : (a b r c : ℕ) → ordered a b r c ≡ ordered b a r c
-ordered-turned a b r c =
-    let e₁ : max a b ≡ max b a = omega arith in
-    let e₂ : min a b ≡ min b a = omega arith in
-    ap₂ (λ (p q : ℕ). eqb p r && eqb q c) e₁ e₂
 
 -- the same for a pair given in either order
 module _ (n a b : ℕ) {r c : ℕ} (high : max a b ≡ r) (low : min a b ≡ c) where
@@ -105,7 +90,7 @@ module _ (n a b : ℕ) {r c : ℕ} (high : max a b ≡ r) (low : min a b ≡ c) 
       held x y true q =
           or-same (columnMarking n s x y) _
           (ap₂ (columnMarking n s) (sym (eqb-true r x (and-left (eqb r x) _ q))) (sym (eqb-true c y (and-right (eqb r x) _ q))) ∙ old)
-      held x y false q = or-none (columnMarking n s x y) ∙ ap (λ (t : Bool). columnMarking n s x y || t) (sym q)
+      held x y false q = sym (or-false (columnMarking n s x y)) ∙ ap (λ (t : Bool). columnMarking n s x y || t) (sym q)
 
   -- one that is not marked is inserted: its bit and its word are written
   module _ {s : List ℕ} {count p : ℕ} (small : n ≤ maxDimension) (h : c ≤ r) (l : r < n) (M : Marked n s count) (e : p ≡ columnPlace n r c) (new : bitAt s p ≡ false) where

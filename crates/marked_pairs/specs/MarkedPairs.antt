@@ -3,7 +3,7 @@
 use Prim.Native.Nat.{ℕ, _+_, _≤_, _<_, min, max}
 use native.Mathlib.Omega.{arith}
 use mathlib.Core.Path.{_≡_, refl, sym, ap, _∙_}
-use mathlib.Core.Bool.{Bool, true, false, _||_}
+use mathlib.Core.Bool.{Bool, true, false, _||_, or-false, or-assoc}
 use mathlib.Core.List.{List}
 use lib.ListN.{length, getD, drop}
 use Rattle.lists.specs.Test.{any, anyIn, any-next, anyIn-next}
@@ -72,19 +72,11 @@ count-most {n} {s} M = omega (arith, M .size, setSize-most n (columnMarking n s)
 
 -- ---- words that mark more
 
-or-none : (a : Bool) → a ≡ (a || false)
-or-none true = refl
-or-none false = refl
-
-or-assoc : (a b c : Bool) → ((a || b) || c) ≡ (a || (b || c))
-or-assoc true b c = refl
-or-assoc false b c = refl
-
 -- none more
 pub gained-none : (n : ℕ) (S : ℕ → ℕ → Bool) (s : List ℕ) → ((r c : ℕ) → S r c ≡ false) → Gained n S s s
 gained-none n S s e = record {
   long = refl;
-  marks = λ r c h l. or-none (columnMarking n s r c) ∙ ap (λ (b : Bool). columnMarking n s r c || b) (sym (e r c));
+  marks = λ r c h l. sym (or-false (columnMarking n s r c)) ∙ ap (λ (b : Bool). columnMarking n s r c || b) (sym (e r c));
   later = refl;
 }
 

@@ -5,18 +5,17 @@ use native.Mathlib.Omega.{arith}
 use native.Mathlib.Nat.{eq-or-lt-of-le, mul-suc, suc-mul, mul-le-mul, zero-mul}
 use native.Mathlib.Numerals.{add-one}
 use native.Mathlib.Decide.{decLe}
-use mathlib.Core.Path.{_≡_, refl, sym, ap, subst, _∙_}
-use mathlib.Core.Bool.{Bool, true, false, _&&_}
-use mathlib.Core.Logic.{_⊎_, inl, inr, ⊎-elim}
+use mathlib.Core.Path.{_≡_, refl, sym, ap, ap₂, subst, _∙_}
+use mathlib.Core.Bool.{Bool, true, _&&_}
+use mathlib.Core.Logic.{_⊎_, ⊎-elim}
 use mathlib.Core.List.{List}
 use lib.Dec.{eqb}
-use lib.ListN.{length}
 use borrow.Author.Tests.{eqb-true, eq-eqb}
 use Rattle.lists.specs.Test.{and-left, and-right, and-both}
-use Rattle.lists.specs.Sum.{bit, sumTo, sumTo-none, sumTo-next, sumTo-add, sumTo-eq, sumTo-mono}
+use Rattle.lists.specs.Sum.{bit, sumTo, sumTo-add, sumTo-eq}
 use Rattle.lists.specs.Select.{tally-sum}
 use Rattle.refusal.specs.Bounds.{maxDimension}
-use Rattle.lists.specs.Cells.{cells, cellCount, cells-length, cells-cong, cellCount-cong}
+use Rattle.lists.specs.Cells.{cells, cellCount, cells-cong, cellCount-cong}
 
 -- T, the number of pairs
 unfoldable pub pairTotal : ℕ → ℕ
@@ -156,3 +155,10 @@ ordered-is a b r c e = (sym (eqb-true _ _ (and-left (eqb (max a b) r) _ e)), sym
 
 pub is-ordered : (a b r c : ℕ) → r ≡ max a b → c ≡ min a b → ordered a b r c ≡ true
 is-ordered a b r c p q = and-both _ _ (eq-eqb _ _ (sym p)) (eq-eqb _ _ (sym q))
+
+-- a pair the other way round
+pub ordered-turned : (a b r c : ℕ) → ordered a b r c ≡ ordered b a r c
+ordered-turned a b r c =
+    let e₁ : max a b ≡ max b a = omega arith in
+    let e₂ : min a b ≡ min b a = omega arith in
+    ap₂ (λ (p q : ℕ). eqb p r && eqb q c) e₁ e₂

@@ -5,7 +5,7 @@ use native.Mathlib.Omega.{arith}
 use mathlib.Core.List.{List, [], _∷_}
 use mathlib.Core.Path.{_≡_, refl}
 use lib.Dec.{lit<, lit≤}
-use lib.IntN.{ℤ, pos, negsuc}
+use lib.IntN.{pos, negsuc}
 use lib.Ieee.{Float, ofBits, ofInt, ne, add, sub, mul, div, neg}
 use Rattle.lists.specs.Select.{select, picked}
 use Rattle.lists.specs.Tabulate.{tabulate}
@@ -14,6 +14,7 @@ use Rattle.columns.specs.Examples.{whole, F2-starts, F2-rows, F2-values}
 use Rattle.takahashi.specs.Recurrence.{at}
 use Rattle.exact.specs.Multiple.{Whole, Small}
 use Rattle.exact.specs.Exact.{floats}
+use Rattle.exact.specs.Examples.{F2-matrix}
 use Rattle.entries.specs.Entries.{floatTable}
 use Rattle.quadratic_form.specs.CrossValue.{addTerms, addPlaces}
 use Rattle.quadratic_form.specs.RowValue.{termColumn, rowValue, operatorValues, operatorsValue}
@@ -39,13 +40,7 @@ F2-cross : operatorsValue (0 ∷ 1 ∷ []) (0 ∷ []) (whole 3 ∷ []) (0 ∷ 1 
 unfolding addTerms addPlaces floatTable select picked ofBits ofInt ne add sub mul div neg
 F2-cross = refl
 
--- the inverse of F2's L·Lᵀ, and that row's wᵀXw
-abbrev F2-matrix : ℕ → ℕ → ℤ
-F2-matrix zero zero = pos 5
-F2-matrix zero (suc j) = negsuc 1
-F2-matrix (suc i) zero = negsuc 1
-F2-matrix (suc i) (suc j) = pos 1
-
+-- with the inverse of F2's L·Lᵀ, that row's wᵀXw
 F2-quadratic : quadratic (termColumn (0 ∷ 1 ∷ [])) (λ p. pos 1) F2-matrix 0 2 ≡ pos 2
 F2-quadratic = refl
 
@@ -75,12 +70,12 @@ F2-whole = record {
       (F2-matrix (termColumn (0 ∷ 1 ∷ []) (0 + i)) (termColumn (0 ∷ 1 ∷ []) (0 + j)))) refl refl refl refl;
 }
 
-F2-within : RowWithin (termColumn (0 ∷ 1 ∷ [])) (λ p. pos 1) F2-matrix 0 2
-F2-within = record {
+pub F2-row-within : RowWithin (termColumn (0 ∷ 1 ∷ [])) (λ p. pos 1) F2-matrix 0 2
+F2-row-within = record {
   weights = λ i j h l. lit≤ tt;
   terms = places₂ (λ i j. Small (exactTerm (termColumn (0 ∷ 1 ∷ [])) (termColumn (0 ∷ 1 ∷ [])) (λ p. pos 1) (λ p. pos 1) F2-matrix 0 2 0 2 i j)) (lit≤ tt) (lit≤ tt) (lit≤ tt) (lit≤ tt);
   sums = places₂ (λ i j. Small (runningSum (termColumn (0 ∷ 1 ∷ [])) (termColumn (0 ∷ 1 ∷ [])) (λ p. pos 1) (λ p. pos 1) F2-matrix 0 2 0 2 i (suc j))) (lit≤ tt) (lit≤ tt) (lit≤ tt) (lit≤ tt);
 }
 
 F2-exact : Whole (rowValue floats (termColumn (0 ∷ 1 ∷ [])) (value F2-weights) (floatTable 2 F2-starts F2-rows F2-values) 0 2) (pos 2)
-F2-exact = rowValue-exact (termColumn (0 ∷ 1 ∷ [])) (value F2-weights) (floatTable 2 F2-starts F2-rows F2-values) (λ p. pos 1) F2-matrix 0 2 F2-whole F2-within
+F2-exact = rowValue-exact (termColumn (0 ∷ 1 ∷ [])) (value F2-weights) (floatTable 2 F2-starts F2-rows F2-values) (λ p. pos 1) F2-matrix 0 2 F2-whole F2-row-within

@@ -2,8 +2,9 @@
 -- Assumes nothing.
 use Prim.Native.Nat.{ℕ, _+_, _≤_, _<_, max, min}
 use native.Mathlib.Omega.{arith}
-use mathlib.Core.Path.{_≡_, refl}
+use mathlib.Core.Path.{_≡_, refl, sym, subst₂}
 use mathlib.Core.Bool.{Bool, true}
+use mathlib.Core.Logic.{_↔_}
 use mathlib.Core.List.{List}
 use lib.ListN.{length, getD}
 use Rattle.lists.specs.Test.{any, anyIn, any-hit, any-found, anyIn-hit, anyIn-found}
@@ -47,35 +48,6 @@ pub record CrossInput (n : ℕ) (aStarts aColumns bStarts bColumns aRows bRows s
   pub pairs : OperatorPairs n aStarts aColumns (length aColumns) bStarts bColumns (length bColumns) aRows bRows
   pub room : queueStart n + pairTotal n ≤ length s
 
-module _ {n : ℕ} {aStarts aColumns : List ℕ} {aWeights : ℕ} {bStarts bColumns : List ℕ} {bWeights : ℕ} {aRows bRows : List ℕ}
-    (O : OperatorPairs n aStarts aColumns aWeights bStarts bColumns bWeights aRows bRows) where
-  -- a request is in order, and below n
-  pub record CrossPlaces (r c : ℕ) : Type 0 where
-    pub high : r < n
-    pub order : c ≤ r
-
-  places-of : (r c : ℕ) → crossRequested aStarts aColumns bStarts bColumns aRows bRows r c ≡ true → CrossPlaces r c
-  unfolding crossRequested
-  places-of r c e =
-      let f = any-found (λ p. pairSet aStarts aColumns bStarts bColumns aRows bRows p r c) (length aRows) e in
-      let p = f .0 in
-      let i = getD aRows p 0 in
-      let j = getD bRows p 0 in
-      let g = anyIn-found (λ a. withColumns (getD aColumns a 0) bColumns (start bStarts j) (start bStarts (j + 1)) r c) (start aStarts i) (start aStarts (i + 1)) (f .2) in
-      let h = anyIn-found (λ b. ordered (getD aColumns (g .0) 0) (getD bColumns b 0) r c) (start bStarts j) (start bStarts (j + 1)) (g .3) in
-      let o = ordered-is (getD aColumns (g .0) 0) (getD bColumns (h .0) 0) r c (h .3) in
-      let i< = O .inside p (f .1) in
-      let j< = O .inside₂ p (f .1) in
-      let end = starts-end (O .first .starts-rise) (i + 1) (omega arith) in
-      let end₂ = starts-end (O .second .starts-rise) (j + 1) (omega arith) in
-      let x = O .first .inside (g .0) (omega (arith, g .2)) in
-      let y = O .second .inside (h .0) (omega (arith, h .2)) in
-      record { high = omega (arith, o .0); order = omega (arith, o .0, o .1) }
-
-  -- they are in order, and below n
-  pub crossRequested-ranged : Ranged n (crossRequested aStarts aColumns bStarts bColumns aRows bRows)
-  crossRequested-ranged = record { ordered = λ r c e. places-of r c e .order; inside = λ r c e. places-of r c e .high }
-
 -- a place of the one row and one of the other make a request
 pub cross-requested : (aStarts aColumns bStarts bColumns aRows bRows : List ℕ) (p a b : ℕ) → p < length aRows
     → start aStarts (getD aRows p 0) ≤ a → a < start aStarts (getD aRows p 0 + 1) → start bStarts (getD bRows p 0) ≤ b → b < start bStarts (getD bRows p 0 + 1)
@@ -83,3 +55,68 @@ pub cross-requested : (aStarts aColumns bStarts bColumns aRows bRows : List ℕ)
 unfolding crossRequested
 cross-requested aStarts aColumns bStarts bColumns aRows bRows p a b l la ha lb hb =
     any-hit _ (length aRows) p l (anyIn-hit _ _ _ a la ha (anyIn-hit _ _ _ b lb hb (is-ordered (getD aColumns a 0) (getD bColumns b 0) _ _ refl refl)))
+
+-- ---- a pair is requested exactly if some row pair has it
+
+module _ (aStarts aColumns bStarts bColumns aRows bRows : List ℕ) (r c : ℕ) where
+  -- it is that of a place of row pair p's row of the one and a place of its row of the other, put in order
+  pub record CrossRequest : Type 0 where
+    pub p : ℕ
+    pub a : ℕ
+    pub b : ℕ
+    pub inside : p < length aRows
+    pub from : start aStarts (getD aRows p 0) ≤ a
+    pub below : a < start aStarts (getD aRows p 0 + 1)
+    pub from₂ : start bStarts (getD bRows p 0) ≤ b
+    pub below₂ : b < start bStarts (getD bRows p 0 + 1)
+    pub row-is : r ≡ max (getD aColumns a 0) (getD bColumns b 0)
+    pub column-is : c ≡ min (getD aColumns a 0) (getD bColumns b 0)
+
+  cross-found : crossRequested aStarts aColumns bStarts bColumns aRows bRows r c ≡ true → CrossRequest
+  unfolding crossRequested
+  cross-found e =
+      let f = any-found (λ p. pairSet aStarts aColumns bStarts bColumns aRows bRows p r c) (length aRows) e in
+      let i = getD aRows (f .0) 0 in
+      let j = getD bRows (f .0) 0 in
+      let g = anyIn-found (λ a. withColumns (getD aColumns a 0) bColumns (start bStarts j) (start bStarts (j + 1)) r c) (start aStarts i) (start aStarts (i + 1)) (f .2) in
+      let h = anyIn-found (λ b. ordered (getD aColumns (g .0) 0) (getD bColumns b 0) r c) (start bStarts j) (start bStarts (j + 1)) (g .3) in
+      let o = ordered-is (getD aColumns (g .0) 0) (getD bColumns (h .0) 0) r c (h .3) in
+      record {
+        p = f .0;
+        a = g .0;
+        b = h .0;
+        inside = f .1;
+        from = g .1;
+        below = g .2;
+        from₂ = h .1;
+        below₂ = h .2;
+        row-is = o .0;
+        column-is = o .1;
+      }
+
+  pub crossRequested-is : (crossRequested aStarts aColumns bStarts bColumns aRows bRows r c ≡ true) ↔ CrossRequest
+  crossRequested-is = (
+    cross-found,
+    (λ Q. subst₂ (λ (x y : ℕ). crossRequested aStarts aColumns bStarts bColumns aRows bRows x y ≡ true) (sym (Q .row-is)) (sym (Q .column-is))
+        (cross-requested aStarts aColumns bStarts bColumns aRows bRows (Q .p) (Q .a) (Q .b) (Q .inside) (Q .from) (Q .below) (Q .from₂) (Q .below₂))),
+  )
+
+-- requests of operators and row pairs past their checks are in order, and below n
+module _ {n : ℕ} {aStarts aColumns : List ℕ} {aWeights : ℕ} {bStarts bColumns : List ℕ} {bWeights : ℕ} {aRows bRows : List ℕ}
+    (O : OperatorPairs n aStarts aColumns aWeights bStarts bColumns bWeights aRows bRows) where
+  columns-inside : {r c : ℕ} (Q : CrossRequest aStarts aColumns bStarts bColumns aRows bRows r c) → (getD aColumns (Q .a) 0 < n) × (getD bColumns (Q .b) 0 < n)
+  columns-inside Q =
+      let i< = O .inside (Q .p) (Q .inside) in
+      let j< = O .inside₂ (Q .p) (Q .inside) in
+      let end = starts-end (O .first .starts-rise) (getD aRows (Q .p) 0 + 1) (omega arith) in
+      let end₂ = starts-end (O .second .starts-rise) (getD bRows (Q .p) 0 + 1) (omega arith) in
+      (O .first .inside (Q .a) (omega (arith, Q .below)), O .second .inside (Q .b) (omega (arith, Q .below₂)))
+
+  pub crossRequested-ranged : Ranged n (crossRequested aStarts aColumns bStarts bColumns aRows bRows)
+  crossRequested-ranged = record {
+    ordered = λ r c e. let Q = crossRequested-is aStarts aColumns bStarts bColumns aRows bRows r c .0 e in omega (arith, Q .row-is, Q .column-is);
+    inside = λ r c e.
+        let Q = crossRequested-is aStarts aColumns bStarts bColumns aRows bRows r c .0 e in
+        let l = columns-inside Q in
+        omega (arith, Q .row-is, l .0, l .1);
+  }

@@ -4,3 +4,4 @@ pub mod DiagonalMarks
 pub mod OperatorRequests
 pub mod OperatorMarks
 pub mod CrossRequests
+pub mod Examples

@@ -39,9 +39,9 @@ pub const fn chain_words(n: usize) -> usize {
     pair_total(n).saturating_mul(2).saturating_add(n.saturating_mul(4))
 }
 
-/// The chain places that suffice for a dimension: 2n, as row + column rises from pair to pair of a chain.
+/// The chain places that suffice for a dimension: 2n − 1, as row + column rises from pair to pair of a chain; 0 for n = 0.
 pub const fn chain_places(n: usize) -> usize {
-    n.saturating_mul(2)
+    n.saturating_mul(2).saturating_sub(1)
 }
 
 /// The limit that a call without one applies: 10 times the stored entries.

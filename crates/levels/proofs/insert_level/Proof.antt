@@ -1,6 +1,6 @@
 use borrow.Author.Needs.{needs}
+use Rattle.pairs.specs.Pair.{ordered-turned}
 use Rattle.levels.specs.Levels.{raised-cong}
-use Rattle.levels.proofs.InsertLaws.{ordered-turned}
 use Rattle.levels.proofs.insert_level.Statement.{statement}
 use Rattle.levels.proofs.insert_level.Tie as tie
 

@@ -1,9 +1,9 @@
 use borrow.Author.Needs.{needs}
 use native.Mathlib.Omega.{arith}
 use Prim.Native.Nat.{ℕ}
-use mathlib.Core.Path.{_≡_, refl, ap, sym, _∙_}
+use mathlib.Core.Path.{_≡_, ap, sym, _∙_}
 use lib.ListN.{getD}
-use mathlib.Core.Bool.{Bool, true, false, _&&_}
+use mathlib.Core.Bool.{Bool, true, false, _&&_, and-true, and-false}
 use lib.Dec.{eqb}
 use borrow.Author.Tests.{eq-eqb, ne-eqb}
 use Rattle.pairs.specs.ColumnOrder.{columnPlace-below}
@@ -12,14 +12,6 @@ use Rattle.closed_set.specs.ClosedSet.{descends}
 use Rattle.levels.specs.Levels.{levelWord}
 use Rattle.levels.proofs.chain.leads.Statement.{statement}
 use Rattle.levels.proofs.chain.leads.Tie as tie
-
-and-none : (b : Bool) → (b && false) ≡ false
-and-none true = refl
-and-none false = refl
-
-and-one : (b : Bool) → (b && true) ≡ b
-and-one true = refl
-and-one false = refl
 
 -- the word looked at
 word : (t : tie.After-at) →
@@ -45,7 +37,7 @@ returns c =
     let a = s .args in
     let desc = pattern (a .starts .now) (a .rows .now) (nonzero (a .values .now)) in
     let q : eqb (levelWord (a .n) (a .scratch .now) (a .a) (a .j)) (a .level) ≡ false = ne-eqb _ _ (λ e. c .if1 .taken (word t ∙ e)) in
-    sym (ap (λ (b : Bool). descends desc (a .j) (a .d) && b) q ∙ and-none (descends desc (a .j) (a .d)))
+    sym (ap (λ (b : Bool). descends desc (a .j) (a .d) && b) q ∙ and-false (descends desc (a .j) (a .d)))
 
 is-descendant-requires : tie.Need-is-descendant-requires
 is-descendant-requires c κs = search needs
@@ -58,7 +50,7 @@ returns-2 c =
     let a = s .args in
     let desc = pattern (a .starts .now) (a .rows .now) (nonzero (a .values .now)) in
     let q : eqb (levelWord (a .n) (a .scratch .now) (a .a) (a .j)) (a .level) ≡ true = eq-eqb _ _ (sym (word t) ∙ e .if1 .left) in
-    c .is-descendant .ensures ∙ sym (ap (λ (b : Bool). descends desc (a .j) (a .d) && b) q ∙ and-one (descends desc (a .j) (a .d)))
+    c .is-descendant .ensures ∙ sym (ap (λ (b : Bool). descends desc (a .j) (a .d) && b) q ∙ and-true (descends desc (a .j) (a .d)))
 
 pub leads-spec : {M : Type 1} → statement M
 leads-spec =

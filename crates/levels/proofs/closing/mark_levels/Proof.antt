@@ -12,7 +12,7 @@ use Rattle.lists.specs.Test.{any, any-none}
 use Rattle.lists.specs.Overwrite.{cleared}
 use Rattle.pairs.specs.Pair.{pairTotal, ordered}
 use Rattle.closed_set.specs.Requests.{requested}
-use Rattle.levels.specs.Levels.{raised, Raised, raised-none, raised-more, raised-cong}
+use Rattle.levels.specs.Levels.{Raised, raised-none, raised-more, raised-cong}
 use Rattle.levels.proofs.InsertLaws.{levels-none}
 use Rattle.levels.proofs.closing.mark_levels.Statement.{statement}
 use Rattle.levels.proofs.closing.mark_levels.Tie as tie

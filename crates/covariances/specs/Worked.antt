@@ -1,0 +1,113 @@
+-- F2 of document 01, cell 0 with weight 3 and cell 1 with weight 2: their covariance 3 * 2 * -2 is the output -12, exactly, and so it is exchanged.
+-- Assumes nothing.
+use Prim.Native.Nat.{ℕ, zero, suc, _+_, _<_}
+use native.Mathlib.Omega.{arith}
+use mathlib.Core.Path.{_≡_, refl, sym}
+use mathlib.Core.List.{List, [], _∷_}
+use lib.Dec.{lit<, lit≤}
+use lib.ListN.{length, getD}
+use lib.IntN.{pos, negsuc}
+use lib.Ieee.{Float, nan, ofBits, ofInt, ne, le, add, sub, mul, div, neg}
+use Rattle.lists.specs.Test.{any, anyIn}
+use Rattle.lists.specs.Select.{select, picked}
+use Rattle.lists.specs.Sum.{sumTo}
+use Rattle.lists.specs.Cells.{cells, cellCount}
+use Rattle.lists.specs.Tabulate.{tabulate}
+use Rattle.lists.specs.Overwrite.{overwrite, filled}
+use Rattle.refusal.specs.Steps.{first, after, Passed}
+use Rattle.bits.specs.Bits.{bitWords}
+use Rattle.pairs.specs.Pair.{pairTotal}
+use Rattle.pairs.specs.Scratch.{scratchWords}
+use Rattle.columns.specs.Columns.{value, boundSteps, brokenSteps, startsSteps, rowsSteps, columnSteps}
+use Rattle.columns.specs.Stored.{finiteSteps, storedSteps}
+use Rattle.columns.specs.Diagonal.{diagonalSteps}
+use Rattle.columns.specs.Kept.{factorPairs}
+use Rattle.columns.specs.Form.{cholesky}
+use Rattle.columns.specs.Operator.{operatorSteps}
+use Rattle.columns.specs.Examples.{whole, F2-starts, F2-rows, F2-values}
+use Rattle.exact.specs.Multiple.{Whole}
+use Rattle.exact.specs.Examples.{F2-entries, F2-matrix, F2-inverse}
+use Rattle.closed_set.specs.ClosedSet.{reach, member}
+use Rattle.entries.specs.Entries.{floatTable}
+use Rattle.diagnostics.specs.Diagnosis.{diagnosis}
+use Rattle.diagnostics.specs.declared.SelectedInverseStatus.the-variants.{Complete}
+use Rattle.diagnostics.specs.declared.Selected.the-variants.{Answered}
+use Rattle.selection.specs.Diagnosis.{diagnosisOf}
+use Rattle.selection.specs.Selection.{roomOf, roomSteps, selectedAnswer, lists-passed}
+use Rattle.exact_entries.specs.ExactEntries.{ExactCall}
+use Rattle.exact_entries.specs.Worked.{F2-diagonals, F2-exact, F2-lent, F2-cleared}
+use Rattle.request_marks.specs.CrossRequests.{crossRequested}
+use Rattle.quadratic_form.specs.CrossValue.{addTerms, addPlaces}
+use Rattle.quadratic_form.specs.RowValue.{columnAt, operatorsValues}
+use Rattle.quadratic_form.specs.ExactCross.{RowsWithin}
+use Rattle.covariances.specs.Covariances.{operator, CovarianceCall, covarianceCall, covarianceSelection, covarianceSteps, Covariances, covariance-accepted}
+use Rattle.covariances.specs.ExactCovariances.{exchanged, exactCovariance, ExactPair, CovariancesExact, covariance-exchanged, covariance-exact-reply}
+
+abbrev F2-pair : CovarianceCall
+F2-pair =
+    covarianceCall 2 F2-starts F2-rows F2-values (operator 2 (0 ∷ 1 ∷ []) (0 ∷ []) (whole 3 ∷ [])) (operator 2 (0 ∷ 1 ∷ []) (1 ∷ []) (whole 2 ∷ [])) (0 ∷ []) (0 ∷ [])
+
+F2-pair-passed : Passed (covarianceSteps F2-pair (roomOf F2-lent) 1)
+unfolding any anyIn ofInt ofBits ne le first pairTotal bitWords scratchWords boundSteps brokenSteps startsSteps rowsSteps columnSteps finiteSteps storedSteps operatorSteps
+    diagonalSteps roomSteps covarianceSteps
+F2-pair-passed = refl
+
+-- the hypotheses of the exact case are met, of the call and of its row pair
+F2-pair-call : ExactCall (covarianceSelection F2-pair) F2-entries
+F2-pair-call =
+    F2-exact cholesky (crossRequested (0 ∷ 1 ∷ []) (0 ∷ []) (0 ∷ 1 ∷ []) (1 ∷ []) (0 ∷ []) (0 ∷ [])) 30 (roomOf F2-lent)
+    (covariance-accepted F2-pair (roomOf F2-lent) 1 F2-pair-passed .accepted) F2-diagonals
+
+-- a fact of one place, and of one place of each row
+place₁ : (G : ℕ → Type 0) → G 0 → (i : ℕ) → i < 1 → G i
+place₁ G g zero h = g
+place₁ G g (suc i) h = absurd (omega arith)
+
+places₁ : (G : ℕ → ℕ → Type 0) → G 0 0 → (i j : ℕ) → i < 1 → j < 1 → G i j
+places₁ G g i j h l = place₁ (λ i. (j : ℕ) → j < 1 → G i j) (place₁ (G 0) g) i h j l
+
+F2-pair-within : RowsWithin (columnAt (0 ∷ [])) (columnAt (1 ∷ [])) (λ p. pos 3) (λ p. pos 2) F2-matrix 0 1 0 1
+F2-pair-within = record { weights = λ i j h l. lit≤ tt; terms = places₁ _ (lit≤ tt); sums = places₁ _ (lit≤ tt) }
+
+F2-pair-exact : ExactPair F2-pair (λ p. pos 3) (λ p. pos 2) F2-matrix 0
+unfolding ofInt
+F2-pair-exact = record {
+  first = place₁ (λ i. Whole (value (whole 3 ∷ []) (0 + i)) (pos 3)) refl;
+  second = place₁ (λ j. Whole (value (whole 2 ∷ []) (0 + j)) (pos 2)) refl;
+  within = F2-pair-within;
+}
+
+-- the call is answered with the pairs (1, 0), which is requested, and (1, 1), and leaves these lists
+abbrev starts : List ℕ
+starts = 0 ∷ 1 ∷ 2 ∷ []
+
+abbrev rows : List ℕ
+rows = 1 ∷ 1 ∷ 9 ∷ []
+
+abbrev values : List Float
+values = neg (whole 2) ∷ whole 1 ∷ whole 9 ∷ []
+
+F2-pair-left : Covariances F2-pair F2-lent (whole 9 ∷ []) (Answered (diagnosis 1 2 3 30 Complete)) starts rows values F2-cleared (neg (whole 12) ∷ [])
+unfolding any anyIn sumTo picked select cells cellCount tabulate filled overwrite ofInt ofBits ne le add sub mul div neg first after pairTotal bitWords scratchWords
+    boundSteps brokenSteps startsSteps rowsSteps columnSteps finiteSteps storedSteps operatorSteps diagonalSteps roomSteps covarianceSteps
+    reach member factorPairs diagnosisOf crossRequested operatorsValues addTerms addPlaces floatTable
+F2-pair-left = record {
+  replies = refl;
+  left = lists-passed (covarianceSteps F2-pair (roomOf F2-lent) 1) (covarianceSelection F2-pair) F2-lent F2-pair-passed refl refl refl refl;
+  output-is = refl;
+}
+
+-- `covariance-exact-reply`: the output is wᵀXv
+F2-pair-covariances : CovariancesExact F2-pair starts rows values (neg (whole 12) ∷ []) F2-matrix
+F2-pair-covariances = covariance-exact-reply F2-pair F2-lent (whole 9 ∷ []) F2-pair-left refl F2-entries F2-pair-call F2-matrix F2-inverse .1
+
+F2-pair-complete : selectedAnswer (covarianceSelection F2-pair) .status ≡ Complete
+unfolding any anyIn sumTo picked select cellCount ofInt ofBits ne reach member crossRequested
+F2-pair-complete = F2-pair-covariances .reads .complete .1 (lit≤ tt)
+
+F2-pair-covariance : Whole (getD (neg (whole 12) ∷ []) 0 nan) (negsuc 11)
+F2-pair-covariance = F2-pair-covariances .covariances F2-pair-complete 0 (lit< tt) (λ p. pos 3) (λ p. pos 2) F2-pair-exact
+
+-- `covariance-exchanged`
+F2-pair-exchanged : exactCovariance (exchanged F2-pair) (λ p. pos 2) (λ p. pos 3) F2-matrix 0 ≡ negsuc 11
+F2-pair-exchanged = sym (covariance-exchanged F2-pair F2-lent (whole 9 ∷ []) F2-pair-passed F2-entries F2-pair-call F2-matrix F2-inverse (λ p. pos 3) (λ p. pos 2) 0 (lit< tt))

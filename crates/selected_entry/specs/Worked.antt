@@ -1,0 +1,49 @@
+-- F2 of document 01 with the request (0, 0) and limit 3, and the pair (1, 0): what the contract says of every reply.
+-- Assumes nothing.
+use Prim.Native.Nat.{ℕ}
+use mathlib.Core.Path.{_≡_, sym, ap, _∙_}
+use mathlib.Core.Bool.{Bool, true}
+use mathlib.Core.List.{List}
+use lib.IntN.{negsuc}
+use lib.Ieee.{Float, neg}
+use Rattle.refusal.specs.Steps.{Reply, answered}
+use Rattle.columns.specs.Examples.{whole}
+use Rattle.exact.specs.Multiple.{Whole}
+use Rattle.exact.specs.Examples.{F2-entries, F2-matrix, F2-inverse}
+use Rattle.diagnostics.specs.declared.SelectedInverseStatus.the-variants.{Complete}
+use Rattle.selection.specs.Selection.{roomOf, selectedSet, selectedComplete, selectedTable}
+use Rattle.selection.specs.Status.{selected-complete, status-tells}
+use Rattle.selection.specs.Call.{selectionOf, selectedSteps}
+use Rattle.lookup.specs.declared.ordered.Entry as inverse
+use Rattle.lookup.specs.Reply.{entryReply}
+use Rattle.exact_entries.specs.ReadBack.{readBack}
+use Rattle.exact_entries.specs.Recurrence.{found-entries}
+use Rattle.exact_entries.specs.Worked.{F2-lent, F2-call, F2-passed, F2-accepted, F2-call-exact, F2-left, F2-below, F2-complete, F2-recurs}
+use Rattle.selected_entry.specs.declared.SelectedEntry.{SelectedEntry}
+use Rattle.selected_entry.specs.declared.SelectedEntry.the-variants.{Found}
+use Rattle.selected_entry.specs.SelectedEntry.{looked, answerOf, answerFrom, entryAnswer, ReadEntry}
+
+-- the call is accepted, and its set within the limit
+F2-within-limit : selectedComplete (selectionOf F2-call) ≡ true
+F2-within-limit = status-tells (selectionOf F2-call) Complete F2-complete
+
+-- what reads back at (1, 0)
+F2-read : readBack 2 (selectedSet (selectionOf F2-call)) (selectedTable (selectionOf F2-call)) 1 0 ≡ answered (neg (whole 2))
+F2-read =
+    sym (found-entries (selectionOf F2-call) F2-lent F2-accepted (selectedSteps F2-call (roomOf F2-lent)) F2-passed F2-left (selected-complete (selectionOf F2-call) .0 F2-complete) 1 0)
+    ∙ F2-recurs
+
+-- so every reply says -2
+F2-replies : {reply : SelectedEntry} {rs rr : List ℕ} {rv : List Float} {s : List ℕ} → ReadEntry F2-call F2-lent 1 0 reply rs rr rv s
+    → answerOf reply ≡ looked (answered (neg (whole 2)))
+unfolding entryAnswer
+F2-replies R =
+    R .replies
+    ∙ ap (λ (v : Reply (Unit {0})). answerFrom v (selectedComplete (selectionOf F2-call)) (readBack 2 (selectedSet (selectionOf F2-call)) (selectedTable (selectionOf F2-call)) 1 0)) F2-passed
+    ∙ ap (λ (b : Bool). answerFrom (answered tt) b (readBack 2 (selectedSet (selectionOf F2-call)) (selectedTable (selectionOf F2-call)) 1 0)) F2-within-limit
+    ∙ ap looked F2-read
+
+-- and, by the exact case that the contract holds, what is found is a number equal to -2
+F2-found-exact : {e : inverse.Entry} {rs rr : List ℕ} {rv : List Float} {s : List ℕ} → ReadEntry F2-call F2-lent 1 0 (Found e) rs rr rv s
+    → (v : Float) × (entryReply e ≡ answered v) × Whole v (negsuc 1)
+F2-found-exact R = R .exact F2-entries F2-call-exact F2-matrix F2-inverse .1 F2-below
