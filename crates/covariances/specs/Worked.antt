@@ -33,12 +33,12 @@ use Rattle.diagnostics.specs.Diagnosis.{diagnosis}
 use Rattle.diagnostics.specs.declared.SelectedInverseStatus.the-variants.{Complete}
 use Rattle.diagnostics.specs.declared.Selected.the-variants.{Answered}
 use Rattle.selection.specs.Diagnosis.{diagnosisOf}
-use Rattle.selection.specs.Selection.{roomOf, roomSteps, selectedAnswer, lists-passed}
+use Rattle.selection.specs.Selection.{roomOf, roomSteps, selectedAnswer, lists-passed, fillingOf, Lent, lists}
 use Rattle.exact_entries.specs.ExactEntries.{ExactCall}
 use Rattle.exact_entries.specs.Worked.{F2-diagonals, F2-exact, F2-lent, F2-cleared}
 use Rattle.request_marks.specs.CrossRequests.{crossRequested}
 use Rattle.quadratic_form.specs.CrossValue.{addTerms, addPlaces}
-use Rattle.quadratic_form.specs.RowValue.{columnAt, operatorsValues}
+use Rattle.quadratic_form.specs.RowValue.{termColumn, operatorsValues}
 use Rattle.quadratic_form.specs.ExactCross.{RowsWithin}
 use Rattle.covariances.specs.Covariances.{operator, CovarianceCall, covarianceCall, covarianceSelection, covarianceSteps, Covariances, covariance-accepted}
 use Rattle.covariances.specs.ExactCovariances.{exchanged, exactCovariance, ExactPair, CovariancesExact, covariance-exchanged, covariance-exact-reply}
@@ -66,7 +66,7 @@ place₁ G g (suc i) h = absurd (omega arith)
 places₁ : (G : ℕ → ℕ → Type 0) → G 0 0 → (i j : ℕ) → i < 1 → j < 1 → G i j
 places₁ G g i j h l = place₁ (λ i. (j : ℕ) → j < 1 → G i j) (place₁ (G 0) g) i h j l
 
-F2-pair-within : RowsWithin (columnAt (0 ∷ [])) (columnAt (1 ∷ [])) (λ p. pos 3) (λ p. pos 2) F2-matrix 0 1 0 1
+F2-pair-within : RowsWithin (termColumn (0 ∷ [])) (termColumn (1 ∷ [])) (λ p. pos 3) (λ p. pos 2) F2-matrix 0 1 0 1
 F2-pair-within = record { weights = λ i j h l. lit≤ tt; terms = places₁ _ (lit≤ tt); sums = places₁ _ (lit≤ tt) }
 
 F2-pair-exact : ExactPair F2-pair (λ p. pos 3) (λ p. pos 2) F2-matrix 0
@@ -78,27 +78,21 @@ F2-pair-exact = record {
 }
 
 -- the call is answered with the pairs (1, 0), which is requested, and (1, 1), and leaves these lists
-abbrev starts : List ℕ
-starts = 0 ∷ 1 ∷ 2 ∷ []
+abbrev pair-lists : Lent
+pair-lists = lists (0 ∷ 1 ∷ 2 ∷ []) (1 ∷ 1 ∷ 9 ∷ []) (neg (whole 2) ∷ whole 1 ∷ whole 9 ∷ []) F2-cleared
 
-abbrev rows : List ℕ
-rows = 1 ∷ 1 ∷ 9 ∷ []
-
-abbrev values : List Float
-values = neg (whole 2) ∷ whole 1 ∷ whole 9 ∷ []
-
-F2-pair-left : Covariances F2-pair F2-lent (whole 9 ∷ []) (Answered (diagnosis 1 2 3 30 Complete)) starts rows values F2-cleared (neg (whole 12) ∷ [])
+F2-pair-left : Covariances F2-pair F2-lent (whole 9 ∷ []) (Answered (diagnosis 1 2 3 30 Complete)) pair-lists (neg (whole 12) ∷ [])
 unfolding any anyIn sumTo picked select cells cellCount tabulate filled overwrite ofInt ofBits ne le add sub mul div neg first after pairTotal bitWords scratchWords
     boundSteps brokenSteps startsSteps rowsSteps columnSteps finiteSteps storedSteps operatorSteps diagonalSteps roomSteps covarianceSteps
     reach member factorPairs diagnosisOf crossRequested operatorsValues addTerms addPlaces floatTable
 F2-pair-left = record {
   replies = refl;
-  left = lists-passed (covarianceSteps F2-pair (roomOf F2-lent) 1) (covarianceSelection F2-pair) F2-lent F2-pair-passed refl refl refl refl;
+  lists-are = lists-passed (covarianceSteps F2-pair (roomOf F2-lent) 1) (fillingOf (covarianceSelection F2-pair)) F2-lent F2-pair-passed refl refl refl refl;
   output-is = refl;
 }
 
 -- `covariance-exact-reply`: the output is wᵀXv
-F2-pair-covariances : CovariancesExact F2-pair starts rows values (neg (whole 12) ∷ []) F2-matrix
+F2-pair-covariances : CovariancesExact F2-pair pair-lists (neg (whole 12) ∷ []) F2-matrix
 F2-pair-covariances = covariance-exact-reply F2-pair F2-lent (whole 9 ∷ []) F2-pair-left refl F2-entries F2-pair-call F2-matrix F2-inverse .1
 
 F2-pair-complete : selectedAnswer (covarianceSelection F2-pair) .status ≡ Complete

@@ -79,7 +79,7 @@ read-pairs l rows columns =
 -- ---- of a reply
 module _ (x : ChainCall) where
   abbrev desc : ℕ → List ℕ
-  desc = pattern (x .starts) (x .rows) (nonzero (x .values))
+  desc = pattern (x .factor .starts) (x .factor .rows) (nonzero (x .factor .values))
 
   abbrev req : ℕ → ℕ → Bool
   req = requested (x .requestRows) (x .requestColumns)
@@ -97,7 +97,7 @@ module _ (x : ChainCall) {s chainRows chainColumns : List ℕ} {reply : Reply �
   room = chainRoomSteps (chainTo x) (length chainRows) (length chainColumns)
 
   -- where the call is not refused before, lists of 2n - 1 places each are enough
-  pub places-enough : Passed asked → 2 * x .n - 1 ≤ length chainRows → 2 * x .n - 1 ≤ length chainColumns → reply ≡ answered (length (chainTo x))
+  pub places-enough : Passed asked → 2 * x .factor .n - 1 ≤ length chainRows → 2 * x .factor .n - 1 ≤ length chainColumns → reply ≡ answered (length (chainTo x))
   unfolding chainSteps chainRoomSteps
   places-enough p a b =
       let most = asked-most x s p in

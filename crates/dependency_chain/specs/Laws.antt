@@ -79,10 +79,10 @@ module _ (x : ChainCall) (s : List ℕ) (p : Passed (askedSteps x (length s))) w
   asked-shown needed = chain-shown (x .factor .n) desc req asked-pattern asked-ranged needed
 
   -- of at most 2n - 1 pairs
-  pub asked-most : length (chainTo x) ≤ 2 * x .n - 1
+  pub asked-most : length (chainTo x) ≤ 2 * x .factor .n - 1
   asked-most =
       let I = asked-accepted x s p in
-      chainOf-most (x .n) desc req asked-pattern asked-ranged (max (x .row) (x .column)) (min (x .row) (x .column)) (I .ordered) (I .inside)
+      chainOf-most (x .factor .n) desc req asked-pattern asked-ranged (max (x .row) (x .column)) (min (x .row) (x .column)) (I .ordered) (I .inside)
 
   -- no pairs exactly if it is not in the set
   pub asked-none : (chainTo x ≡ []) ↔ (Needed desc req (max (x .row) (x .column)) (min (x .row) (x .column)) → ⊥)

@@ -20,7 +20,7 @@ use Rattle.refusal.specs.Steps.{Step, Reply, refused, answered, Passed, first}
 use Rattle.bits.specs.Bits.{bitWords}
 use Rattle.pairs.specs.Pair.{pairTotal}
 use Rattle.pairs.specs.Scratch.{scratchWords}
-use Rattle.columns.specs.Columns.{value, boundSteps, brokenSteps, startsSteps, rowsSteps, columnSteps}
+use Rattle.columns.specs.Columns.{value, boundSteps, brokenSteps, startsSteps, rowsSteps, columnSteps, factorLists}
 use Rattle.columns.specs.Stored.{finiteSteps, storedSteps}
 use Rattle.columns.specs.Diagonal.{diagonalSteps}
 use Rattle.columns.specs.Kept.{f0, nonzero, diag, desc, factorPairs}
@@ -43,7 +43,7 @@ use Rattle.selection.specs.RequestSteps.{requestSteps}
 use Rattle.diagnostics.specs.Diagnosis.{diagnosis}
 use Rattle.diagnostics.specs.declared.SelectedInverseStatus.the-variants.{Complete}
 use Rattle.selection.specs.Diagnosis.{diagnosisOf}
-use Rattle.selection.specs.Selection.{Selection, selecting, selectedSet, selectedSize, selectedAnswer, selectedTable, Room, lists, Lent, roomOf, roomSteps, Accepted, ResultLists, lists-passed}
+use Rattle.selection.specs.Selection.{Selection, selecting, selectedSet, selectedSize, selectedAnswer, selectedTable, Room, lists, Lent, roomOf, roomSteps, Accepted, ResultLists, lists-passed, fillingOf}
 use Rattle.selection.specs.Status.{selected-complete}
 use Rattle.selection.specs.Call.{Call, call, selectionOf, selectedSteps, accepted}
 use Rattle.exact_entries.specs.Recurrence.{Selected, found, selected-numbers, found-within, reads-recurrence}
@@ -60,12 +60,12 @@ unfolding select picked ofBits ofInt ne
 F2-alike = columns₂ (λ j. Alike 0 (desc F2-starts F2-rows F2-values j) (F2-entries j)) (refl, refl, tt) tt
 
 -- F2 in either form, with any requests and limit
-module _ (form : Form) (req : ℕ → ℕ → Bool) (limit : ℕ) (lengths : Room) (A : Accepted (selecting form 2 F2-starts F2-rows F2-values req limit) lengths) where
+module _ (form : Form) (req : ℕ → ℕ → Bool) (limit : ℕ) (lengths : Room) (A : Accepted (selecting form (factorLists 2 F2-starts F2-rows F2-values) req limit) lengths) where
   -- the closed set is in the lower triangle
-  F2-lower : (i j : ℕ) → Selected (selecting form 2 F2-starts F2-rows F2-values req limit) i j → Lower 2 i j
+  F2-lower : (i j : ℕ) → Selected (selecting form (factorLists 2 F2-starts F2-rows F2-values) req limit) i j → Lower 2 i j
   F2-lower i j p = needed-range _ _ 2 (factor-pattern (nonzero F2-values) (A .factor)) (A .requests) p
 
-  F2-bound : WithinBound 2 F2-entries (Selected (selecting form 2 F2-starts F2-rows F2-values req limit))
+  F2-bound : WithinBound 2 F2-entries (Selected (selecting form (factorLists 2 F2-starts F2-rows F2-values) req limit))
   F2-bound = record {
     entry = λ i j p. F2-within .entry i j (F2-lower i j p);
     product-below = λ i j p h. F2-within .product-below i j (F2-lower i j p) h;
@@ -76,7 +76,7 @@ module _ (form : Form) (req : ℕ → ℕ → Bool) (limit : ℕ) (lengths : Roo
 
   -- so an accepted call meets demand 3's hypotheses
   pub F2-exact : ((j : ℕ) → j < 2 → Whole (divisor 2 F2-starts F2-rows F2-values form j) (pos 1))
-      → ExactCall (selecting form 2 F2-starts F2-rows F2-values req limit) F2-entries
+      → ExactCall (selecting form (factorLists 2 F2-starts F2-rows F2-values) req limit) F2-entries
   F2-exact one = record { diagonals = one; entries = F2-alike; within = F2-bound }
 
 -- lists that just suffice
@@ -90,15 +90,18 @@ F2-result = whole 5 ∷ neg (whole 2) ∷ whole 1 ∷ []
 abbrev pub F2-cleared : List ℕ
 F2-cleared = 0 ∷ 0 ∷ 0 ∷ 0 ∷ 0 ∷ 0 ∷ 0 ∷ 0 ∷ 0 ∷ 0 ∷ 0 ∷ 0 ∷ []
 
+abbrev pub F2-lists : Lent
+F2-lists = lists F2-starts F2-rows F2-result F2-cleared
+
 abbrev pub F2Left : List Step → Selection → Type 0
-F2Left steps x = ResultLists steps x F2-lent F2-starts F2-rows F2-result F2-cleared
+F2Left steps x = ResultLists steps (fillingOf x) F2-lent F2-lists
 
 -- what a lookup finds in it, and that the inverse is what reads back
 abbrev pub F2-found : Selection → ℕ → ℕ → Reply Float
-F2-found x = found x F2-starts F2-rows F2-result
+F2-found x = found x F2-lists
 
 abbrev pub F2ReadsBack : Selection → Type 0
-F2ReadsBack x = ReadsBack x F2-starts F2-rows F2-result F2-matrix
+F2ReadsBack x = ReadsBack x F2-lists F2-matrix
 
 -- ---- selected entries: F2, the request (0, 0), limit 3
 abbrev pub F2-call : Call
@@ -118,7 +121,7 @@ F2-call-exact = F2-exact cholesky _ 3 (roomOf F2-lent) F2-accepted F2-diagonals
 -- the lists that it leaves
 pub F2-left : F2Left (selectedSteps F2-call (roomOf F2-lent)) (selectionOf F2-call)
 unfolding any anyIn sumTo picked select cells cellCount tabulate filled overwrite ofInt ofBits ne add sub mul div neg pairTotal bitWords scratchWords reach member requested floatTable
-F2-left = lists-passed (selectedSteps F2-call (roomOf F2-lent)) (selectionOf F2-call) F2-lent F2-passed refl refl refl refl
+F2-left = lists-passed (selectedSteps F2-call (roomOf F2-lent)) (fillingOf (selectionOf F2-call)) F2-lent F2-passed refl refl refl refl
 
 -- `exact-call`
 pub F2-reads : F2ReadsBack (selectionOf F2-call)
@@ -198,8 +201,8 @@ unfolding any select picked ofInt ofBits ne reach member requested
 F2-last-lacks p =
     true≢false (sym (needed-member 2 _ (requested (1 ∷ []) (1 ∷ [])) (factor-pattern (nonzero F2-values) (F2-last-accepted .factor)) (F2-last-accepted .requests) p))
 
-F2-last-reads : {rs rr : List ℕ} {rv : List Float} {s : List ℕ} → ResultLists (selectedSteps F2-last (roomOf F2-lent)) (selectionOf F2-last) F2-lent rs rr rv s
-    → found (selectionOf F2-last) rs rr rv 1 0 ≡ refused 8
+F2-last-reads : {left : Lent} → ResultLists (selectedSteps F2-last (roomOf F2-lent)) (fillingOf (selectionOf F2-last)) F2-lent left
+    → found (selectionOf F2-last) left 1 0 ≡ refused 8
 unfolding any sumTo picked select cellCount ofInt ofBits ne reach member requested
 F2-last-reads L =
     let E = F2-exact cholesky _ 3 (roomOf F2-lent) F2-last-accepted F2-diagonals in
@@ -211,7 +214,7 @@ abbrev F2-pivots : List Float
 F2-pivots = whole 1 ∷ whole 1 ∷ []
 
 abbrev F2-pivoted : Selection
-F2-pivoted = selecting (pivoted F2-pivots) 2 F2-starts F2-rows F2-values (requested (0 ∷ []) (0 ∷ [])) 3
+F2-pivoted = selecting (pivoted F2-pivots) (factorLists 2 F2-starts F2-rows F2-values) (requested (0 ∷ []) (0 ∷ [])) 3
 
 F2-pivots-one : Pivots 2 F2-pivots
 unfolding ofInt ofBits le

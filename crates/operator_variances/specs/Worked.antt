@@ -33,9 +33,9 @@ use Rattle.diagnostics.specs.Diagnosis.{diagnosis}
 use Rattle.diagnostics.specs.declared.SelectedInverseStatus.the-variants.{Complete}
 use Rattle.diagnostics.specs.declared.Selected.the-variants.{Answered}
 use Rattle.selection.specs.Diagnosis.{diagnosisOf}
-use Rattle.selection.specs.Selection.{roomOf, roomSteps, selectedAnswer, lists-passed}
+use Rattle.selection.specs.Selection.{roomOf, roomSteps, selectedAnswer, lists-passed, fillingOf}
 use Rattle.exact_entries.specs.ExactEntries.{ExactCall}
-use Rattle.exact_entries.specs.Worked.{F2-diagonals, F2-exact, F2-lent, F2-result, F2-cleared}
+use Rattle.exact_entries.specs.Worked.{F2-diagonals, F2-exact, F2-lent, F2-result, F2-cleared, F2-lists}
 use Rattle.request_marks.specs.OperatorRequests.{operatorRequested}
 use Rattle.quadratic_form.specs.CrossValue.{addTerms, addPlaces}
 use Rattle.quadratic_form.specs.RowValue.{operatorValues}
@@ -62,18 +62,18 @@ unfolding ofInt
 F2-row-exact = record { weights = columns₂ (λ p. Whole (value (whole 1 ∷ whole 1 ∷ []) (0 + p)) (pos 1)) refl refl; within = F2-row-within }
 
 -- the call is answered with three pairs, all of them requested, and leaves these lists
-F2-row-left : TransformedDiagonal F2-row F2-lent (whole 9 ∷ []) (Answered (diagnosis 3 3 3 30 Complete)) F2-starts F2-rows F2-result F2-cleared (whole 2 ∷ [])
+F2-row-left : TransformedDiagonal F2-row F2-lent (whole 9 ∷ []) (Answered (diagnosis 3 3 3 30 Complete)) F2-lists (whole 2 ∷ [])
 unfolding any anyIn sumTo picked select cells cellCount tabulate filled overwrite ofInt ofBits ne le add sub mul div neg first after pairTotal bitWords scratchWords
     boundSteps brokenSteps startsSteps rowsSteps columnSteps finiteSteps storedSteps operatorSteps diagonalSteps roomSteps transformedSteps
     reach member factorPairs diagnosisOf operatorPair operatorValues addTerms addPlaces floatTable
 F2-row-left = record {
   replies = refl;
-  left = lists-passed (transformedSteps F2-row (roomOf F2-lent) 1) (transformedSelection F2-row) F2-lent F2-row-passed refl refl refl refl;
+  lists-are = lists-passed (transformedSteps F2-row (roomOf F2-lent) 1) (fillingOf (transformedSelection F2-row)) F2-lent F2-row-passed refl refl refl refl;
   output-is = refl;
 }
 
 -- `transformed-exact-reply`: the output is wᵀXw
-F2-row-variances : TransformedExact F2-row F2-starts F2-rows F2-result (whole 2 ∷ []) F2-matrix
+F2-row-variances : TransformedExact F2-row F2-lists (whole 2 ∷ []) F2-matrix
 F2-row-variances = transformed-exact-reply F2-row F2-lent (whole 9 ∷ []) F2-row-left refl F2-entries F2-row-call F2-matrix F2-inverse .1
 
 F2-row-complete : selectedAnswer (transformedSelection F2-row) .status ≡ Complete

@@ -34,9 +34,9 @@ use Rattle.diagnostics.specs.declared.Selected.{Selected}
 use Rattle.diagnostics.specs.declared.Selected.the-variants.{Answered}
 use Rattle.diagnostics.specs.Selected.{selectedReplyOf}
 use Rattle.selection.specs.Diagnosis.{diagnosisOf}
-use Rattle.selection.specs.Selection.{roomOf, roomSteps, selectedAnswer, lists-passed}
+use Rattle.selection.specs.Selection.{roomOf, roomSteps, selectedAnswer, lists-passed, fillingOf, Lent}
 use Rattle.exact_entries.specs.ExactEntries.{ExactCall}
-use Rattle.exact_entries.specs.Worked.{F2-diagonals, F2-exact, F2-lent, F2-result, F2-cleared, F2Left}
+use Rattle.exact_entries.specs.Worked.{F2-diagonals, F2-exact, F2-lent, F2-result, F2-cleared, F2Left, F2-lists}
 use Rattle.request_marks.specs.DiagonalMarks.{diagonalPairs}
 use Rattle.original_diagonal.specs.Original.{OriginalCall, originalCall, originalSelection, originalSteps, OriginalDiagonal, original-accepted}
 use Rattle.original_diagonal.specs.ExactDiagonal.{OriginalExact, original-exact, within-reply, original-exact-reply}
@@ -58,24 +58,24 @@ F2-exchanged-exact =
     F2-exact cholesky (diagonalPairs 2) 30 (roomOf F2-lent) (original-accepted F2-exchanged (roomOf F2-lent) 2 F2-exchanged-passed .accepted) F2-diagonals
 
 -- the call is answered with three pairs, two of them requested, and leaves these lists
-F2-exchanged-left : OriginalDiagonal F2-exchanged F2-lent output (Answered (diagnosis 2 3 3 30 Complete)) F2-starts F2-rows F2-result F2-cleared (whole 1 ∷ whole 5 ∷ [])
+F2-exchanged-left : OriginalDiagonal F2-exchanged F2-lent output (Answered (diagnosis 2 3 3 30 Complete)) F2-lists (whole 1 ∷ whole 5 ∷ [])
 unfolding any anyIn sumTo picked select cells cellCount tabulate filled overwrite ofInt ofBits ne le add sub mul div neg first after each pairTotal bitWords scratchWords
     boundSteps brokenSteps startsSteps rowsSteps columnSteps finiteSteps storedSteps factorSteps diagonalSteps roomSteps originalSteps
     reach member factorPairs diagnosisOf reordered floatTable
 F2-exchanged-left = record {
   replies = refl;
-  left = lists-passed (originalSteps F2-exchanged (roomOf F2-lent) 2) (originalSelection F2-exchanged) F2-lent F2-exchanged-passed refl refl refl refl;
+  lists-are = lists-passed (originalSteps F2-exchanged (roomOf F2-lent) 2) (fillingOf (originalSelection F2-exchanged)) F2-lent F2-exchanged-passed refl refl refl refl;
   output-is = refl;
 }
 
 -- `within-reply`: every reply of the call is this one
-F2-exchanged-reply : {reply : Selected} {rs rr : List ℕ} {rv : List Float} {s : List ℕ} {out : List Float} → OriginalDiagonal F2-exchanged F2-lent output reply rs rr rv s out
+F2-exchanged-reply : {reply : Selected} {left : Lent} {out : List Float} → OriginalDiagonal F2-exchanged F2-lent output reply left out
     → selectedReplyOf reply ≡ answered (selectedAnswer (originalSelection F2-exchanged))
 unfolding any sumTo picked select cellCount ofInt ofBits ne reach member
 F2-exchanged-reply C = within-reply F2-exchanged F2-lent output C F2-exchanged-passed (lit≤ tt)
 
 -- `original-exact-reply`: the outputs are the inverse's diagonal at 1 and at 0
-F2-exchanged-variances : OriginalExact F2-exchanged F2-starts F2-rows F2-result (whole 1 ∷ whole 5 ∷ []) F2-matrix
+F2-exchanged-variances : OriginalExact F2-exchanged F2-lists (whole 1 ∷ whole 5 ∷ []) F2-matrix
 F2-exchanged-variances = original-exact-reply F2-exchanged F2-lent output F2-exchanged-left refl F2-entries F2-exchanged-exact F2-matrix F2-inverse .2
 
 F2-exchanged-complete : selectedAnswer (originalSelection F2-exchanged) .status ≡ Complete

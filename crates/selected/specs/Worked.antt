@@ -15,23 +15,23 @@ use Rattle.diagnostics.specs.declared.SelectedInverseStatus.the-variants.{Compl
 use Rattle.diagnostics.specs.declared.Selected.{Selected}
 use Rattle.diagnostics.specs.declared.Selected.the-variants.{Answered}
 use Rattle.diagnostics.specs.Selected.{selectedReplyOf}
-use Rattle.selection.specs.Selection.{roomOf, selectedAnswer}
+use Rattle.selection.specs.Selection.{roomOf, selectedAnswer, Lent}
 use Rattle.selection.specs.Call.{selectionOf, selectedSteps}
-use Rattle.exact_entries.specs.Worked.{F2-lent, F2-result, F2-cleared, F2-found, F2ReadsBack, F2-call, F2-passed, F2-call-exact, F2-left, F2-answer, F2-below, F2-complete}
+use Rattle.exact_entries.specs.Worked.{F2-lent, F2-result, F2-cleared, F2-found, F2ReadsBack, F2-call, F2-passed, F2-call-exact, F2-left, F2-answer, F2-below, F2-complete, F2-lists}
 use Rattle.selected.specs.Selected.{SelectedEntries}
 use Rattle.selected.specs.ExactReply.{passed-reply, exact-reply}
 
 -- the contract is met by this diagnosis and these lists
-F2-replied : SelectedEntries F2-call F2-lent (Answered (diagnosis 1 3 3 3 Complete)) F2-starts F2-rows F2-result F2-cleared
+F2-replied : SelectedEntries F2-call F2-lent (Answered (diagnosis 1 3 3 3 Complete)) F2-lists
 F2-replied = record {
   replies =
       ap (λ (d : SelectedInverseDiagnostics). answered d) (sym F2-answer)
       ∙ sym (first-passed (selectedSteps F2-call (roomOf F2-lent)) (selectedAnswer (selectionOf F2-call)) F2-passed);
-  left = F2-left;
+  lists-are = F2-left;
 }
 
 -- `passed-reply`: whatever the call replies is this diagnosis
-F2-reply : {reply : Selected} {rs rr : List ℕ} {rv : List Float} {s : List ℕ} → SelectedEntries F2-call F2-lent reply rs rr rv s
+F2-reply : {reply : Selected} {left : Lent} → SelectedEntries F2-call F2-lent reply left
     → selectedReplyOf reply ≡ answered (diagnosis 1 3 3 3 Complete)
 F2-reply C = passed-reply F2-call F2-lent C F2-passed ∙ ap (λ (d : SelectedInverseDiagnostics). answered d) F2-answer
 

@@ -11,7 +11,7 @@ use Rattle.columns.specs.Examples.{whole}
 use Rattle.exact.specs.Multiple.{Whole}
 use Rattle.exact.specs.Examples.{F2-entries, F2-matrix, F2-inverse}
 use Rattle.diagnostics.specs.declared.SelectedInverseStatus.the-variants.{Complete}
-use Rattle.selection.specs.Selection.{roomOf, selectedSet, selectedComplete, selectedTable}
+use Rattle.selection.specs.Selection.{roomOf, selectedSet, selectedComplete, selectedTable, Lent}
 use Rattle.selection.specs.Status.{selected-complete, status-tells}
 use Rattle.selection.specs.Call.{selectionOf, selectedSteps}
 use Rattle.lookup.specs.declared.ordered.Entry as inverse
@@ -34,7 +34,7 @@ F2-read =
     ∙ F2-recurs
 
 -- so every reply says -2
-F2-replies : {reply : SelectedEntry} {rs rr : List ℕ} {rv : List Float} {s : List ℕ} → ReadEntry F2-call F2-lent 1 0 reply rs rr rv s
+F2-replies : {reply : SelectedEntry} {left : Lent} → ReadEntry F2-call F2-lent 1 0 reply left
     → answerOf reply ≡ looked (answered (neg (whole 2)))
 unfolding entryAnswer
 F2-replies R =
@@ -44,6 +44,6 @@ F2-replies R =
     ∙ ap looked F2-read
 
 -- and, by the exact case that the contract holds, what is found is a number equal to -2
-F2-found-exact : {e : inverse.Entry} {rs rr : List ℕ} {rv : List Float} {s : List ℕ} → ReadEntry F2-call F2-lent 1 0 (Found e) rs rr rv s
+F2-found-exact : {e : inverse.Entry} {left : Lent} → ReadEntry F2-call F2-lent 1 0 (Found e) left
     → (v : Float) × (entryReply e ≡ answered v) × Whole v (negsuc 1)
 F2-found-exact R = R .exact F2-entries F2-call-exact F2-matrix F2-inverse .1 F2-below
