@@ -56,7 +56,6 @@ F3-answer = reply-chain (F3-call 0 0) F3-listed refl F3-asked
 F3-shortest : (m : List (ℕ × ℕ)) → Chain (pattern F3-starts F3-rows (nonzero F3-values)) (requested (0 ∷ []) (0 ∷ [])) m 2 1 → 3 ≤ length m
 F3-shortest = F3-answer .shortest
 
-
 -- `places-enough`: whatever the reply, it is of 3 pairs, since 5 places are enough for any chain
 F3-enough : {reply : Reply ℕ} {s′ rows′ columns′ : List ℕ} → ChainListed (F3-call 0 0) (nines 24) (nines 5) (nines 5) reply s′ rows′ columns′ → reply ≡ answered 3
 unfolding any anyIn picked select tabulate ofInt ofBits ne le first pairTotal boundSteps brokenSteps startsSteps rowsSteps columnSteps finiteSteps storedSteps
