@@ -9,8 +9,8 @@ use mathlib.Core.Bool.{Bool, true, false}
 use mathlib.Core.Logic.{⊎-elim}
 use mathlib.Core.List.{List}
 use lib.Dec.{eqb}
-use lib.ListN.{length, getD}
-use lib.Seq.{getD-set-same}
+use lib.ListN.{length, getD, length-set}
+use lib.Seq.{getD-set-same, getD-set-other}
 use lib.Ieee.{Float, nan}
 use Rattle.refusal.specs.Bounds.{maxDimension}
 use Rattle.columns.specs.Columns.{start, row}
@@ -18,14 +18,17 @@ use Rattle.columns.specs.Kept.{desc}
 use Rattle.takahashi.specs.Recurrence.{Lower, Solves, at}
 use Rattle.exact.specs.Exact.{floats}
 use Rattle.entries.specs.Position.{columnCount-mono, position-first, position-in, position-below, position-rises}
-use Rattle.column_sums.specs.Part.{putIf, putIf-length, putIf-other}
 use Rattle.column_sums.specs.Column.{sumTerms, sumColumn}
 use Rattle.column_sums.specs.Sums.{inverseAt, sumBetween, sumBetween-cong, entrySum}
 use Rattle.column_sums.specs.Stored.{StoreSumsInput, SumsStored}
-use Rattle.closure_route.specs.Finish.{SumsFinished, StoreDiagonalInput}
+use Rattle.closure_route.specs.Finish.{SumsFinished, putIf, StoreDiagonalInput}
 use Rattle.closure_route.specs.Route.{RouteLists, routeSet, ClosureRouteInput, SolvedFrom, ColumnsSolved}
 use Rattle.closure_route.proofs.ColumnLaws.{placeIn, firstOf, routeTerms, routeColumn, column, row-below, row-inside, dependency, word-is}
 use Rattle.closure_route.proofs.ColumnLaws.{column-most, column-input, diagonal-row, diagonal-input}
+
+putIf-length : (b : Bool) (z : List Float) (q : ℕ) (x : Float) → length (putIf b z q x) ≡ length z
+putIf-length true z q x = length-set z q x
+putIf-length false z q x = refl
 
 -- the sum of column j over the entries r of the inverse
 abbrev sumOver : RouteLists → ℕ → (ℕ → Float) → Float
@@ -91,7 +94,7 @@ module _ {g : RouteLists} {size : ℕ} (G : ClosureRouteInput g size) (off on : 
       x = on (diag j) (entrySum (routeTerms g j) z₂ j)
 
       go : (b : Bool) → routeSet g j j ≡ b → getD (putIf b z₂ (firstOf g j) x) q nan ≡ getD z₂ q nan
-      go true t = let l = h t in putIf-other true z₂ (firstOf g j) q x (omega arith)
+      go true t = let l = h t in getD-set-other z₂ (firstOf g j) q x nan (omega arith)
       go false t = refl
 
   after : (q : ℕ) → firstOf g (j + 1) ≤ q → getD z₃ q nan ≡ getD z₀ q nan

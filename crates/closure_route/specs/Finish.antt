@@ -2,8 +2,9 @@
 -- Assumes nothing.
 use Prim.Native.Nat.{ℕ, _≤_, _<_}
 use mathlib.Core.Path.{_≡_}
+use mathlib.Core.Bool.{Bool, true, false}
 use mathlib.Core.List.{List}
-use lib.ListN.{length, getD}
+use lib.ListN.{length, getD, set}
 use lib.Ieee.{Float, nan}
 use Rattle.columns.specs.Columns.{row}
 use Rattle.column_sums.specs.Column.{SumTerms}
@@ -14,6 +15,11 @@ pub record SumsFinished (j : ℕ) (step : Float → Float) (rows : List ℕ) (fi
   pub long : length z ≡ length z₀
   pub below : (q : ℕ) → first ≤ q → q < last → j < row rows q → getD z q nan ≡ step (getD z₀ q nan)
   pub after : (q : ℕ) → last ≤ q → getD z q nan ≡ getD z₀ q nan
+
+-- x stored at q, or nothing
+abbrev pub putIf : Bool → List Float → ℕ → Float → List Float
+putIf true z q x = set z q x
+putIf false z q x = z
 
 -- the diagonal's entry can be made at q, where q's row is j
 pub record StoreDiagonalInput (t : SumTerms) (q : ℕ) (entryRows : List ℕ) (size : ℕ) : Type 0 where

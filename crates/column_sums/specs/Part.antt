@@ -1,27 +1,11 @@
 -- A part of a list of floats, set.
 -- Assumes nothing.
 use Prim.Native.Nat.{ℕ, _≤_, _<_}
-use mathlib.Core.Path.{_≡_, refl}
-use mathlib.Core.Bool.{Bool, true, false}
-use mathlib.Core.Logic.{_≢_}
+use mathlib.Core.Path.{_≡_}
 use mathlib.Core.List.{List}
-use lib.ListN.{length, getD, set, length-set}
-use lib.Seq.{getD-set-other}
+use lib.ListN.{length, getD}
 use lib.Ieee.{Float, nan}
 use Rattle.columns.specs.Kept.{f0}
-
--- x at q, or nothing stored
-abbrev pub putIf : Bool → List Float → ℕ → Float → List Float
-putIf true z q x = set z q x
-putIf false z q x = z
-
-pub putIf-length : (b : Bool) (z : List Float) (q : ℕ) (x : Float) → length (putIf b z q x) ≡ length z
-putIf-length true z q x = length-set z q x
-putIf-length false z q x = refl
-
-pub putIf-other : (b : Bool) (z : List Float) (q p : ℕ) (x : Float) → p ≢ q → getD (putIf b z q x) p nan ≡ getD z p nan
-putIf-other true z q p x d = getD-set-other z q p x nan d
-putIf-other false z q p x d = refl
 
 -- 0.0 at every place
 abbrev pub zeros : ℕ → Float
