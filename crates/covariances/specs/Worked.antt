@@ -14,7 +14,7 @@ use Rattle.lists.specs.Sum.{sumTo}
 use Rattle.lists.specs.Cells.{cells, cellCount}
 use Rattle.lists.specs.Tabulate.{tabulate}
 use Rattle.lists.specs.Overwrite.{overwrite, filled}
-use Rattle.refusal.specs.Steps.{first, after, Passed}
+use Rattle.refusal.specs.Steps.{Reply, refused, first, after, verdict, Passed}
 use Rattle.bits.specs.Bits.{bitWords}
 use Rattle.pairs.specs.Pair.{pairTotal}
 use Rattle.pairs.specs.Scratch.{scratchWords}
@@ -52,7 +52,28 @@ unfolding any anyIn ofInt ofBits ne le first pairTotal bitWords scratchWords bou
     diagonalSteps roomSteps covarianceSteps
 F2-pair-passed = refl
 
--- the hypotheses of the exact case are met, of the call and of its row pair
+-- ---- the order of refusals
+-- the same operators with a factor of these values and row pairs of these lists
+abbrev F2-verdict : List Float → List ℕ → List ℕ → Reply (Unit {0})
+F2-verdict values aRows bRows =
+    verdict (covarianceSteps (covarianceCall 2 F2-starts F2-rows values (F2-pair .a) (F2-pair .b) aRows bRows) (roomOf F2-lent) 1)
+
+-- 18 before 4: an entry that is not finite, and lists of unequal length
+not-finite-first : F2-verdict (whole 1 ∷ nan ∷ whole 1 ∷ []) (0 ∷ []) [] ≡ refused 18
+unfolding any anyIn ofInt ofBits ne le first boundSteps brokenSteps startsSteps rowsSteps columnSteps finiteSteps storedSteps operatorSteps diagonalSteps covarianceSteps
+not-finite-first = refl
+
+-- 4 before 6: lists of unequal length, and a diagonal of 0.0; 9 before 6: a row outside, and that diagonal
+unequal-before-diagonal : F2-verdict (whole 0 ∷ whole 2 ∷ whole 1 ∷ []) (0 ∷ []) [] ≡ refused 4
+unfolding any anyIn ofInt ofBits ne le first boundSteps brokenSteps startsSteps rowsSteps columnSteps finiteSteps storedSteps operatorSteps diagonalSteps covarianceSteps
+unequal-before-diagonal = refl
+
+outside-before-diagonal : F2-verdict (whole 0 ∷ whole 2 ∷ whole 1 ∷ []) (1 ∷ []) (0 ∷ []) ≡ refused 9
+unfolding any anyIn ofInt ofBits ne le first boundSteps brokenSteps startsSteps rowsSteps columnSteps finiteSteps storedSteps operatorSteps diagonalSteps covarianceSteps
+outside-before-diagonal = refl
+
+-- ---- the exact case
+-- its hypotheses are met, of the call and of its row pair
 F2-pair-call : ExactCall (covarianceSelection F2-pair) F2-entries
 F2-pair-call =
     F2-exact cholesky (crossRequested (0 ∷ 1 ∷ []) (0 ∷ []) (0 ∷ 1 ∷ []) (1 ∷ []) (0 ∷ []) (0 ∷ [])) 30 (roomOf F2-lent)

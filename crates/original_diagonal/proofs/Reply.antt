@@ -30,7 +30,7 @@ use Rattle.selection.specs.Selection.{ResultLists, lists-refused, complete-star
 use Rattle.diagnostics.specs.declared.Selected.the-variants.{Answered, Refused}
 use Rattle.request_marks.specs.DiagonalMarks.{diagonal-requested, diagonals-ranged}
 use Rattle.original_diagonal.specs.Original.{OriginalCall, originalSelection, originalSteps, coveredSteps, factorDiagonal, OriginalDiagonal, FirstEntries, firstEntries}
-use Rattle.original_diagonal.specs.Original.{AcceptedOriginal}
+use Rattle.original_diagonal.specs.Original.{AcceptedOriginal, original-inside}
 
 module _ (x : OriginalCall) (lent : Lent) (output : List Float) where
   abbrev steps : List Step
@@ -104,7 +104,7 @@ module _ (x : OriginalCall) (lent : Lent) (output : List Float) where
             ∙ entryValues-at (x .factor .n) (selectedSet sel) (selectedTable sel) nan j j (le-refl j) l covered
 
       inside : (i : ℕ) → i < x .factor .n → index (x .perm) i < x .factor .n
-      inside i l = omega (arith, A .order .inside i (omega (arith, A .long)), A .long)
+      inside = original-inside A
 
       pub original-input : FirstEntries (x .factor .n) (x .perm) (left .resultStarts) (left .resultValues) output
       original-input = record {

@@ -31,7 +31,7 @@ use Rattle.selection.specs.Status.{selected-complete}
 use Rattle.exact_entries.specs.ExactEntries.{ExactCall, ReadsBack, exact-entries, exact-at}
 use Rattle.request_marks.specs.DiagonalMarks.{diagonal-requested}
 use Rattle.original_diagonal.specs.Original.{OriginalCall, originalSelection, originalSteps, coveredSteps, factorDiagonal, originalAfter}
-use Rattle.original_diagonal.specs.Original.{OriginalDiagonal, AcceptedOriginal, original-accepted}
+use Rattle.original_diagonal.specs.Original.{OriginalDiagonal, AcceptedOriginal, original-accepted, original-inside}
 
 -- X is what reads back, and its diagonal in original order what the output holds
 pub record OriginalExact (x : OriginalCall) (left : Lent) (out : List Float) (X : Matrix) : Type 0 where
@@ -56,7 +56,7 @@ module _ (x : OriginalCall) (lent : Lent) (output : List Float) (passed : Passed
       A = original-accepted x (roomOf lent) (length output) passed
 
       inside : (i : ℕ) → i < x .factor .n → index (x .perm) i < x .factor .n
-      inside i l = omega (arith, A .order .inside i (omega (arith, A .long)), A .long)
+      inside = original-inside A
 
       covered : selectedAnswer (originalSelection x) .status ≡ Complete → Passed (coveredSteps x (roomOf lent) (length output))
       covered e =

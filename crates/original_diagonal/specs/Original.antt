@@ -1,6 +1,7 @@
 -- The diagonal of the inverse in original order: what a call is handed, what it refuses in document 01's order, what it answers and leaves.
 -- Assumes nothing.
 use Prim.Native.Nat.{ℕ, _≤_, _<_}
+use native.Mathlib.Omega.{arith}
 use mathlib.Core.Path.{_≡_}
 use mathlib.Core.Bool.{Bool, not}
 use mathlib.Core.List.{List, [], _∷_, _++_}
@@ -114,3 +115,7 @@ module _ (x : OriginalCall) (lengths : Room) (output : ℕ) (p : Passed (origina
         long = eqb-true _ _ (not-false _ (passed-clear four (passed-front four (permutationSteps (x .perm)) o) .0));
         room = ltb-false _ _ (passed-clear (outputSteps (x .factor .n) output) (passed .1 .1 .1 .0) .0);
       }
+
+-- its permutation's indices are below n
+pub original-inside : {x : OriginalCall} {lengths : Room} {output : ℕ} → AcceptedOriginal x lengths output → (i : ℕ) → i < x .factor .n → index (x .perm) i < x .factor .n
+original-inside A i l = omega (arith, A .order .inside i (omega (arith, A .long)), A .long)
