@@ -1,8 +1,10 @@
 -- F2 of document 01 with its two cells exchanged: the diagonal 5, 1 in factor order is the output 1, 5, exactly.
 -- Assumes nothing.
-use Prim.Native.Nat.{ℕ}
-use mathlib.Core.Path.{_≡_, refl}
-use mathlib.Core.List.{List, [], _∷_}
+use Prim.Native.Nat.{ℕ, zero, suc, _+_, _≤_, _<_}
+use native.Mathlib.Omega.{arith}
+use mathlib.Core.Path.{_≡_, refl, ap, subst, subst₂, _∙_}
+use mathlib.Core.Bool.{true}
+use mathlib.Core.List.{List, [], _∷_, _++_}
 use lib.Dec.{lit<, lit≤}
 use lib.ListN.{length, getD}
 use lib.IntN.{pos}
@@ -11,21 +13,23 @@ use Rattle.lists.specs.Test.{any, anyIn}
 use Rattle.lists.specs.Select.{select, picked}
 use Rattle.lists.specs.Sum.{sumTo}
 use Rattle.lists.specs.Cells.{cells, cellCount}
-use Rattle.lists.specs.Tabulate.{tabulate}
+use Rattle.lists.specs.Tabulate.{tabulate, tabulate-length, tabulate-at}
 use Rattle.lists.specs.Overwrite.{overwrite, filled}
-use Rattle.refusal.specs.Steps.{answered, first, after, each, Passed}
+use Rattle.refusal.specs.Steps.{refused, answered, first, after, each, Passed}
 use Rattle.bits.specs.Bits.{bitWords}
 use Rattle.pairs.specs.Pair.{pairTotal}
 use Rattle.pairs.specs.Scratch.{scratchWords}
+use Rattle.pairs.specs.ColumnOrder.{setSize-cong}
 use Rattle.columns.specs.Columns.{boundSteps, brokenSteps, startsSteps, rowsSteps, columnSteps}
 use Rattle.columns.specs.Stored.{finiteSteps, storedSteps, factorSteps}
 use Rattle.columns.specs.Diagonal.{diagonalSteps}
-use Rattle.columns.specs.Kept.{factorPairs}
+use Rattle.columns.specs.Kept.{nonzero, pattern, factorPairs}
 use Rattle.columns.specs.Form.{cholesky}
 use Rattle.columns.specs.Examples.{whole, F2-starts, F2-rows, F2-values}
 use Rattle.exact.specs.Multiple.{Whole}
 use Rattle.exact.specs.Examples.{F2-entries, F2-matrix, F2-inverse}
-use Rattle.closed_set.specs.ClosedSet.{reach, member}
+use Rattle.closed_set.specs.ClosedSet.{descends, Needed, request, dependency, reach, member, descends-at, needed-member}
+use Rattle.closed_set.specs.FactorPattern.{factor-pattern}
 use Rattle.entries.specs.Entries.{floatTable}
 use Rattle.factor_order.specs.Permutation.{reordered}
 use Rattle.diagnostics.specs.Diagnosis.{diagnosis}
@@ -34,12 +38,12 @@ use Rattle.diagnostics.specs.declared.Selected.{Selected}
 use Rattle.diagnostics.specs.declared.Selected.the-variants.{Answered}
 use Rattle.diagnostics.specs.Selected.{selectedReplyOf}
 use Rattle.selection.specs.Diagnosis.{diagnosisOf}
-use Rattle.selection.specs.Selection.{roomOf, roomSteps, selectedAnswer, lists-passed, fillingOf, Lent}
+use Rattle.selection.specs.Selection.{Lent, lists, room, roomOf, roomSteps, Accepted, selectedSet, selectedSize, selectedAnswer, lists-passed, fillingOf}
 use Rattle.exact_entries.specs.ExactEntries.{ExactCall}
-use Rattle.exact_entries.specs.Worked.{F2-diagonals, F2-exact, F2-lent, F2-result, F2-cleared, F2Left, F2-lists}
+use Rattle.exact_entries.specs.Worked.{F2-diagonals, F2-exact, F2-lent, F2-result, F2-cleared, F2-lists}
 use Rattle.request_marks.specs.DiagonalMarks.{diagonalPairs}
 use Rattle.original_diagonal.specs.Original.{OriginalCall, originalCall, originalSelection, originalSteps, OriginalDiagonal, original-accepted}
-use Rattle.original_diagonal.specs.ExactDiagonal.{OriginalExact, original-exact, within-reply, original-exact-reply}
+use Rattle.original_diagonal.specs.ExactDiagonal.{OriginalExact, within-reply, beyond-reply, original-exact-reply}
 
 abbrev F2-exchanged : OriginalCall
 F2-exchanged = originalCall 2 F2-starts F2-rows F2-values (1 ∷ 0 ∷ [])
@@ -87,3 +91,77 @@ F2-exchanged-first = F2-exchanged-variances .variances F2-exchanged-complete 0 (
 
 F2-exchanged-second : Whole (getD (whole 1 ∷ whole 5 ∷ []) 1 nan) (pos 5)
 F2-exchanged-second = F2-exchanged-variances .variances F2-exchanged-complete 1 (lit< tt)
+
+-- ---- a set beyond the default limit: 40 columns, the first full, the others with their diagonals alone. Of 79 entries the limit is 790, and all 820 pairs are needed
+abbrev arrow-starts : List ℕ
+arrow-starts = 0 ∷ tabulate (λ c. 40 + c) 40
+
+abbrev arrow-rows : List ℕ
+arrow-rows = tabulate (λ r. r) 40 ++ tabulate suc 39
+
+abbrev arrow-values : List Float
+arrow-values = tabulate (λ p. whole 1) 79
+
+abbrev arrow : OriginalCall
+arrow = originalCall 40 arrow-starts arrow-rows arrow-values (tabulate (λ i. i) 40)
+
+abbrev nine : ℕ → ℕ
+nine i = 9
+
+abbrev nines : ℕ → List Float
+nines = tabulate (λ i. whole 9)
+
+abbrev arrow-lent : Lent
+arrow-lent = lists (tabulate nine 41) (tabulate nine 790) (nines 790) (tabulate nine 1006)
+
+-- its descendants are those of column 0, all other columns
+arrow-pattern : pattern arrow-starts arrow-rows (nonzero arrow-values) 0 ≡ tabulate suc 39
+unfolding tabulate select picked ofInt ofBits ne
+arrow-pattern = refl
+
+arrow-passes : Passed (originalSteps arrow (room 41 790 790 1006) 40)
+unfolding tabulate any anyIn ofInt ofBits ne le first each pairTotal bitWords scratchWords boundSteps brokenSteps startsSteps rowsSteps columnSteps finiteSteps storedSteps factorSteps
+    diagonalSteps roomSteps originalSteps
+arrow-passes = refl
+
+arrow-passed : Passed (originalSteps arrow (roomOf arrow-lent) (length (nines 40)))
+arrow-passed =
+    rw (tabulate-length nine 41, tabulate-length nine 790, tabulate-length (λ i. whole 9) 790, tabulate-length nine 1006, tabulate-length (λ i. whole 9) 40) arrow-passes
+
+abbrev arrow-desc : ℕ → List ℕ
+arrow-desc = pattern arrow-starts arrow-rows (nonzero arrow-values)
+
+-- 1 to 39 are descendants of column 0
+arrow-descends : (d : ℕ) → 0 < d → d < 40 → descends arrow-desc 0 d ≡ true
+arrow-descends zero h l = absurd (omega arith)
+arrow-descends (suc d) h l =
+    subst (λ (k : ℕ). descends arrow-desc 0 k ≡ true) (ap (λ (x : List ℕ). getD x d 0) arrow-pattern ∙ tabulate-at suc 39 d 0 (omega arith))
+    (descends-at arrow-desc 0 d (omega (arith, ap length arrow-pattern, tabulate-length suc 39)))
+
+-- every pair is needed: (r, 0) for (0, 0), and (r, c) for (r, 0)
+arrow-first : (r : ℕ) → r < 40 → Needed arrow-desc (diagonalPairs 40) r 0
+arrow-first zero l = request refl
+arrow-first (suc r) l =
+    subst₂ (λ (x y : ℕ). Needed arrow-desc (diagonalPairs 40) x y) (omega arith) (omega arith)
+    (dependency (suc r) (request {r = 0} {c = 0} refl) (arrow-descends (suc r) (omega arith) l))
+
+arrow-needed : (r c : ℕ) → c ≤ r → r < 40 → Needed arrow-desc (diagonalPairs 40) r c
+arrow-needed r zero h l = arrow-first r l
+arrow-needed r (suc c) h l =
+    subst₂ (λ (x y : ℕ). Needed arrow-desc (diagonalPairs 40) x y) (omega arith) (omega arith)
+    (dependency (suc c) (arrow-first r l) (arrow-descends (suc c) (omega arith) (omega arith)))
+
+arrow-size : selectedSize (originalSelection arrow) ≡ 820
+unfolding sumTo picked select cellCount
+arrow-size =
+    setSize-cong 40 (selectedSet (originalSelection arrow)) (λ r c. true)
+    (λ r c h l. needed-member 40 arrow-desc (diagonalPairs 40) (factor-pattern (nonzero arrow-values) (A .factor)) (A .requests) (arrow-needed r c h l))
+  where
+    A : Accepted (originalSelection arrow) (room 41 790 790 1006)
+    A = original-accepted arrow (room 41 790 790 1006) 40 arrow-passes .accepted
+
+-- `beyond-reply`: so every reply of the call is 8
+arrow-reply : {reply : Selected} {left : Lent} {out : List Float}
+    → OriginalDiagonal arrow arrow-lent (nines 40) reply left out → selectedReplyOf reply ≡ refused 8
+unfolding tabulate
+arrow-reply C = beyond-reply arrow arrow-lent (nines 40) C arrow-passed (rw arrow-size (lit< tt))
