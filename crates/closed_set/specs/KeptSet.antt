@@ -14,7 +14,7 @@ use Rattle.lists.specs.Select.{select, Picked, select-at, select-holds, getD-ma
 use Rattle.lists.specs.Rising.{rising-same}
 use Rattle.lists.specs.Cells.{cellCount}
 use Rattle.pairs.specs.Pair.{pairTotal}
-use Rattle.pairs.specs.ColumnOrder.{colStart, colStart-next, colStart-total, setSize, setSize-cong, setSize-most}
+use Rattle.pairs.specs.ColumnOrder.{colStart, colStart-next, colStart-total, setSize, setSize-most}
 use Rattle.columns.specs.Columns.{start, row}
 use Rattle.columns.specs.Kept.{kept, keptRow, keptPair, keptCount, factorPairs, pattern}
 use Rattle.columns.specs.Pattern.{pattern-select}

@@ -14,7 +14,7 @@ use Rattle.lists.specs.Select.{select, Picked, select-at, select-holds, select-
 use Rattle.lists.specs.Sum.{bit, sumTo, sumTo-eq}
 use Rattle.lists.specs.Rising.{rising-same}
 use Rattle.takahashi.specs.Entries.{Entry}
-use Rattle.columns.specs.Columns.{start, row, value}
+use Rattle.columns.specs.Columns.{start, row}
 use Rattle.columns.specs.Kept.{entry, nonzero, kept, keptDiagonal, keptBelow, keptRow, descPlaces, desc, pattern, keptPair, keptCount, factorPairs}
 use Rattle.columns.specs.Factor.{Starts, Sorted, starts-end, rows-rise}
 use Rattle.columns.specs.Diagonal.{Diagonal, keptDiagonal-row, keptDiagonal-kept}

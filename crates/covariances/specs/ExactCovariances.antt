@@ -1,4 +1,4 @@
--- The exact case of covariances: for whole weights each row pair's value is the exact wᵀXv, and exchanging the operators gives the same.
+-- The exact case of covariances: for whole weights each row pair's value is the exact vᵀXu, and exchanging the operators gives the same.
 -- Assumes nothing.
 use Prim.Native.Nat.{ℕ, _+_, _-_, _<_}
 use native.Mathlib.Omega.{arith}
@@ -52,7 +52,7 @@ module _ (x : CovarianceCall) where
   abbrev pub bRow : ℕ → ℕ
   bRow p = getD (x .bRows) p 0
 
-  -- wᵀXv of row pair p, whose rows have the whole weights v and u
+  -- vᵀXu of row pair p, whose rows have the whole weights v and u
   abbrev pub exactCovariance : (ℕ → ℤ) → (ℕ → ℤ) → Matrix → ℕ → ℤ
   exactCovariance v u X p =
       bilinear (termColumn (x .a .columns)) (termColumn (x .b .columns)) v u X
@@ -65,7 +65,7 @@ module _ (x : CovarianceCall) where
     pub within : RowsWithin (termColumn (x .a .columns)) (termColumn (x .b .columns)) v u X
         (firstPlace (x .a) (aRow p)) (placeCount (x .a) (aRow p)) (firstPlace (x .b) (bRow p)) (placeCount (x .b) (bRow p))
 
-  -- X is what reads back, and wᵀXv what the output holds for each row pair in the exact case
+  -- X is what reads back, and vᵀXu what the output holds for each row pair in the exact case
   pub record CovariancesExact (left : Lent) (out : List Float) (X : Matrix) : Type 0 where
     pub reads : ReadsBack (covarianceSelection x) left X
     pub covariances : selectedAnswer (covarianceSelection x) .status ≡ Complete → (p : ℕ) → p < length (x .aRows) → (v u : ℕ → ℤ) → ExactPair v u X p
@@ -140,7 +140,7 @@ module _ (x : CovarianceCall) (lent : Lent) (output : List Float) {reply : Selec
   all : Passed checks
   all = told-passed checks (selectedAnswer (covarianceSelection x)) (sym answer ∙ C .replies)
 
-  -- demand 3, of the reply: d is the diagnosis, X is what reads back, and the output holds each row pair's wᵀXv
+  -- demand 3, of the reply: d is the diagnosis, X is what reads back, and the output holds each row pair's vᵀXu
   pub covariance-exact-reply : (d ≡ selectedAnswer (covarianceSelection x)) × CovariancesExact x left out X
   covariance-exact-reply = (
     told-answer checks (selectedAnswer (covarianceSelection x)) (sym answer ∙ C .replies),

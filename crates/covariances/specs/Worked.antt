@@ -5,7 +5,7 @@ use native.Mathlib.Omega.{arith}
 use mathlib.Core.Path.{_≡_, refl, sym}
 use mathlib.Core.List.{List, [], _∷_}
 use lib.Dec.{lit<, lit≤}
-use lib.ListN.{length, getD}
+use lib.ListN.{getD}
 use lib.IntN.{pos, negsuc}
 use lib.Ieee.{Float, nan, ofBits, ofInt, ne, le, add, sub, mul, div, neg}
 use Rattle.lists.specs.Test.{any, anyIn}
@@ -112,7 +112,7 @@ F2-pair-left = record {
   output-is = refl;
 }
 
--- `covariance-exact-reply`: the output is wᵀXv
+-- `covariance-exact-reply`: the output is vᵀXu
 F2-pair-covariances : CovariancesExact F2-pair pair-lists (neg (whole 12) ∷ []) F2-matrix
 F2-pair-covariances = covariance-exact-reply F2-pair F2-lent (whole 9 ∷ []) F2-pair-left refl F2-entries F2-pair-call F2-matrix F2-inverse .1
 

@@ -3,7 +3,6 @@ ghost use mathlib.Core.Path.{_≡_};
 ghost use mathlib.Core.Bool.{not};
 ghost use mathlib.Core.List.{[], _∷_, _++_};
 ghost use lib.Dec.{ltb, eqb};
-ghost use lib.ListN.{length};
 ghost use Rattle.refusal.specs.Bounds.{maxEntries};
 ghost use Rattle.refusal.specs.Steps.{verdict};
 ghost use Rattle.refusal.specs.Refusal.{replyOf};
@@ -25,7 +24,7 @@ use verdicts::check_output;
 use verdicts::first_of;
 use words::index::index_outside;
 
-// Step 1 of so many row pairs.
+// 1 of so many row pairs.
 fn check_pair_bound(pairs: usize) -> Checked
     ensures { λ r. ⌜ replyOf r ≡ verdict ((1, ltb maxEntries pairs) ∷ []) ⌝ }
 {
@@ -35,7 +34,7 @@ fn check_pair_bound(pairs: usize) -> Checked
     Checked::Accepted
 }
 
-// Step 1 of the factor, of either operator and of the row pairs.
+// 1 of the factor, of either operator and of the row pairs.
 fn check_all_bounds(
     n: usize,
     entries: usize,
@@ -55,7 +54,7 @@ fn check_all_bounds(
     first_of(factor, first_of(first, later))
 }
 
-// Step 4: the operators' columns are n, and the row pairs' lists of one length.
+// 4: the operators' columns are n, and the row pairs' lists of one length.
 fn check_counts(a_ncols: usize, b_ncols: usize, n: usize, a_rows: usize, b_rows: usize) -> Checked
     ensures { λ r. ⌜ replyOf r ≡ verdict ((4, not (eqb «a_ncols» n)) ∷ (4, not (eqb «b_ncols» n)) ∷ (4, not (eqb «a_rows» «b_rows»)) ∷ []) ⌝ }
 {
@@ -84,7 +83,7 @@ fn check_rows(a_count: usize, a_rows: &[u32], b_count: usize, b_rows: &[u32]) ->
     Checked::Accepted
 }
 
-// Step 9 of either operator and of the row pairs.
+// 9 of either operator and of the row pairs.
 fn check_operators(
     n: usize,
     a_row_starts: &[u32],
@@ -111,7 +110,7 @@ fn check_operators(
     first_of(first, first_of(second, rows))
 }
 
-// Steps 1 to 7 and 18; the lists lent for writing are judged by their lengths.
+// Refusals 1 to 7 and 18; the lists lent for writing are judged by their lengths.
 pub fn check_covariances(
     n: usize,
     starts: &[u32],

@@ -11,7 +11,6 @@ use Rattle.refusal.specs.Steps.{Step, Reply, first, after}
 use Rattle.refusal.specs.Groups.{grouped}
 use Rattle.pairs.specs.Scratch.{chainWords}
 use Rattle.columns.specs.Columns.{boundSteps, FactorLists, factorLists}
-use Rattle.pairs.specs.Pair.{pairTotal}
 use Rattle.columns.specs.Stored.{storedSteps}
 use Rattle.columns.specs.Diagonal.{diagonalSteps}
 use Rattle.columns.specs.Kept.{nonzero, pattern}

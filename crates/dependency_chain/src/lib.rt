@@ -38,7 +38,7 @@ pub enum Chain {
     Refused(Refusal),
 }
 
-// Steps 7 of the scratch and 5 of the pair.
+// 7 of the scratch and 5 of the pair.
 fn check_seek(n: usize, scratch: usize, row: usize, column: usize) -> Checked
     requires { ⌜ n ≤ maxDimension ⌝ }
     ensures { λ r. ⌜ replyOf r ≡ verdict (seekSteps n scratch row column) ⌝ }

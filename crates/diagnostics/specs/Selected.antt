@@ -6,7 +6,7 @@ use Rattle.diagnostics.specs.declared.SelectedInverseDiagnostics.{Select
 use Rattle.diagnostics.specs.declared.Selected.{Selected}
 use Rattle.diagnostics.specs.declared.Selected.the-variants.{Answered, Refused}
 
--- the diagnosis, or document 01's number
+-- the diagnosis, or a refusal's number
 abbrev pub selectedReplyOf : Selected → Reply SelectedInverseDiagnostics
 selectedReplyOf (Answered d) = answered d
 selectedReplyOf (Refused why) = refused (refusalNumber why)

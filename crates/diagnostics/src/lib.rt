@@ -31,7 +31,7 @@ impl SelectedInverseDiagnostics {
     }
 }
 
-// What a call that fills result lists answers; `selectedReplyOf` of specs/Selected.antt gives document 01's number of a refusal.
+// What a call that fills result lists answers; `selectedReplyOf` of specs/Selected.antt gives the number of a refusal.
 pub enum Selected {
     Answered(SelectedInverseDiagnostics),
     Refused(Refusal),

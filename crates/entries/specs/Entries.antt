@@ -1,6 +1,6 @@
 -- The result of a selected inverse over a set of pairs: starts, rows and values, column by column, the rows of each ascending.
 -- Assumes nothing.
-use Prim.Native.Nat.{ℕ, _+_, _<_, _≤_}
+use Prim.Native.Nat.{ℕ, _+_}
 use mathlib.Core.Path.{_≡_}
 use mathlib.Core.Bool.{Bool}
 use mathlib.Core.List.{List}

@@ -1,9 +1,9 @@
 -- A factor's descendants as lists of entries: their rows ascend, and a closed set of pairs is closed for the recurrence.
 -- Assumes nothing.
-use Prim.Native.Nat.{ℕ, suc, _+_, _≤_, _<_, max, min}
+use Prim.Native.Nat.{ℕ, suc, _≤_, _<_, max, min}
 use native.Mathlib.Omega.{arith}
 use native.Mathlib.Nat.{le-refl}
-use mathlib.Core.Path.{_≡_, refl, sym, ap, subst, subst₂, _∙_}
+use mathlib.Core.Path.{_≡_, subst, subst₂}
 use mathlib.Core.Bool.{Bool, true}
 use mathlib.Core.List.{List, [], _∷_, map}
 use lib.IntN.{ℤ}

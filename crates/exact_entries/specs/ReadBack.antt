@@ -4,7 +4,7 @@
 use Prim.Native.Nat.{ℕ, _+_, _-_, _≤_, _<_, max, min}
 use native.Mathlib.Omega.{arith}
 use native.Mathlib.Nat.{le-refl}
-use native.Mathlib.Decide.{decLt, decLe}
+use native.Mathlib.Decide.{decLt}
 use mathlib.Core.Path.{_≡_, refl, sym, ap, subst, _∙_}
 use mathlib.Core.Bool.{Bool, true, false, cond, _&&_}
 use mathlib.Core.List.{List}
@@ -16,9 +16,7 @@ use Rattle.lists.specs.Tabulate.{tabulate-at}
 use Rattle.refusal.specs.Steps.{Step, Reply, refused, answered, Passed}
 use Rattle.pairs.specs.ColumnOrder.{setSize}
 use Rattle.columns.specs.Columns.{start, row}
-use Rattle.columns.specs.Factor.{Column}
 use Rattle.takahashi.specs.Recurrence.{at}
-use Rattle.result.specs.Place.{Stands}
 use Rattle.result.specs.Lookup.{dimension, lookupOf, WellFormed}
 use Rattle.result.specs.Laws.{lookup-ordered, lookup-at, lookup-absent, lookup-outside}
 use Rattle.result.specs.Counted.{lookupLooks, diagonal-looks}

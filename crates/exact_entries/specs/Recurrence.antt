@@ -1,10 +1,9 @@
 -- What a lookup returns after a call that fills result lists: Takahashi's recurrence, on every accepted factor, whose numbers are finite.
 -- Assumes nothing.
-use Prim.Native.Nat.{ℕ, suc, _+_, _≤_, _<_, max, min}
+use Prim.Native.Nat.{ℕ, _+_, _≤_, max, min}
 use native.Mathlib.Omega.{arith}
-use native.Mathlib.Nat.{le-refl}
 use native.Mathlib.Decide.{decLt}
-use mathlib.Core.Path.{_≡_, sym, ap, ap₂, _∙_}
+use mathlib.Core.Path.{_≡_, ap, ap₂, _∙_}
 use mathlib.Core.Bool.{Bool, true, false, cond, _&&_}
 use mathlib.Core.Logic.{_↔_}
 use mathlib.Core.List.{List}
@@ -20,8 +19,7 @@ use Rattle.columns.specs.Form.{divisor}
 use Rattle.columns.specs.Numbers.{Numbers, numbers}
 use Rattle.closed_set.specs.ClosedSet.{Needed, needed-range, member-needed, needed-member, Pattern}
 use Rattle.closed_set.specs.Size.{closureSize-most}
-use Rattle.takahashi.specs.Entries.{ascend-rows}
-use Rattle.takahashi.specs.Recurrence.{at, Lower, Solves, table-solves, solves-part}
+use Rattle.takahashi.specs.Recurrence.{at, Lower, Solves, solves-part}
 use Rattle.exact.specs.Exact.{floats}
 use Rattle.diagnostics.specs.declared.SelectedInverseStatus.the-variants.{Complete}
 use Rattle.closed_set.specs.FactorPattern.{factor-pattern}
@@ -30,7 +28,7 @@ use Rattle.result.specs.Lookup.{lookup}
 use Rattle.result.specs.Counted.{lookupLooks}
 use Rattle.result.specs.Halving.{lookupWithin, within-lookup}
 use Rattle.exact_entries.specs.ReadBack.{readBack, covered, result-left, lookup-left, looks-left}
-use Rattle.selection.specs.Selection.{Selection, selection, Lent, Room, roomOf, Accepted, selectedSet, selectedSize, selectedComplete, selectedAnswer, selectedTable, selectedPattern}
+use Rattle.selection.specs.Selection.{Selection, selection, Lent, Room, roomOf, Accepted, selectedSet, selectedSize, selectedAnswer, selectedTable, selectedPattern}
 use Rattle.selection.specs.Selection.{fillingOf, ResultLists}
 use Rattle.selection.specs.Status.{selected-complete}
 use Rattle.entries.specs.Descendants.{form-solves}

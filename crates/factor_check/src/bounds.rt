@@ -6,7 +6,7 @@ ghost use Rattle.columns.specs.Columns.{boundSteps};
 use refusal::Checked;
 use refusal::Refusal;
 
-// Step 1; `entries` is the number of stored entries.
+// 1: n or the number of stored entries, `entries`, above its bound.
 pub fn check_bounds(n: usize, entries: usize) -> Checked
     ensures { λ r. ⌜ replyOf r ≡ verdict (boundSteps n entries) ⌝ }
 {

@@ -38,7 +38,7 @@ fn kept_not_finite(n: usize, starts: &[u32], rows: &[u32], values: &[f64]) -> bo
     false
 }
 
-// Step 18. Where all values are finite one look at them decides; the columns are looked at only where one is not.
+// 18: a kept entry that is not finite. Where all values are finite one look at them decides; the columns are looked at only where one is not.
 pub fn check_finite(n: usize, starts: &[u32], rows: &[u32], values: &[f64]) -> Checked
     requires { ⌜ Factor n (now starts) (now rows) (length (now values)) ⌝ }
     ensures { λ r. ⌜ replyOf r ≡ verdict (finiteSteps n (now (starts .entry)) (now (rows .entry)) (now (values .entry))) ⌝ }

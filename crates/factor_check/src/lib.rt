@@ -15,7 +15,7 @@ use refusal::Checked;
 use rows::check_rows;
 use starts::check_starts;
 
-// Steps 2 and 3 of compressed columns, whatever their values; `values` is the number of values.
+// 2 and 3 of compressed columns, whatever their values; `values` is the number of values.
 pub fn check_columns(n: usize, starts: &[u32], rows: &[u32], values: usize) -> Checked
     ensures { λ r. ⌜ replyOf r ≡ verdict (columnSteps n (now (starts .entry)) (now (rows .entry)) values) ⌝ }
 {
@@ -25,7 +25,7 @@ pub fn check_columns(n: usize, starts: &[u32], rows: &[u32], values: usize) -> C
     }
 }
 
-// Steps 2, 3 and 18 of a factor.
+// 2, 3 and 18 of a factor.
 pub fn check_stored(n: usize, starts: &[u32], rows: &[u32], values: &[f64]) -> Checked
     ensures { λ r. ⌜ replyOf r ≡ verdict (storedSteps (factorLists n (now (starts .entry)) (now (rows .entry)) (now (values .entry)))) ⌝ }
 {
@@ -35,7 +35,7 @@ pub fn check_stored(n: usize, starts: &[u32], rows: &[u32], values: &[f64]) -> C
     }
 }
 
-// Steps 1, 2, 3 and 18 of a factor.
+// 1, 2, 3 and 18 of a factor.
 pub fn check_factor(n: usize, starts: &[u32], rows: &[u32], values: &[f64]) -> Checked
     ensures { λ r. ⌜ replyOf r ≡ verdict (factorSteps (factorLists n (now (starts .entry)) (now (rows .entry)) (now (values .entry)))) ⌝ }
 {

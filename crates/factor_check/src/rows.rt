@@ -81,7 +81,7 @@ fn row_outside(n: usize, starts: &[u32], rows: &[u32]) -> bool
     false
 }
 
-// Step 3.
+// 3: a row of n or more, or one not above the one before it in its column.
 pub fn check_rows(n: usize, starts: &[u32], rows: &[u32]) -> Checked
     requires { ⌜ Starts n (now starts) (now rows) ⌝ }
     ensures { λ r. ⌜ replyOf r ≡ verdict (rowsSteps n (now (starts .entry)) (now (rows .entry))) ⌝ }

@@ -51,7 +51,7 @@ pub fn check_broken(
     Checked::Accepted
 }
 
-// Step 2; `values` is the number of values.
+// 2: starts that are broken or not n + 1, or values of another number than rows; `values` is the number of values.
 pub fn check_starts(n: usize, starts: &[u32], rows: &[u32], values: usize) -> Checked
     ensures { λ r. ⌜ replyOf r ≡ verdict (startsSteps n (now (starts .entry)) (now (rows .entry)) values) ⌝ }
 {

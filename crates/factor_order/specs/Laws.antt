@@ -4,23 +4,23 @@ use Prim.Native.Nat.{ℕ, zero, suc, _+_, _-_, _≤_, _<_}
 use native.Mathlib.Omega.{arith}
 use native.Mathlib.Nat.{not-suc-le-zero, eq-or-lt-of-le, le-of-suc-le-suc}
 use native.Mathlib.Numerals.{add-one}
-use native.Mathlib.Decide.{ℕ-discrete, decLt}
-use mathlib.Core.Path.{_≡_, refl, sym, ap, ap₂, subst, _∙_}
+use native.Mathlib.Decide.{decLt}
+use mathlib.Core.Path.{_≡_, refl, sym, ap, subst, _∙_}
 use mathlib.Core.Bool.{Bool, true, false, not, _||_, or-false}
-use mathlib.Core.Logic.{_≢_, _⊎_, inl, inr, ⊎-elim}
+use mathlib.Core.Logic.{_⊎_, ⊎-elim}
 use mathlib.Core.List.{List, [], _∷_, _++_}
-use lib.Dec.{leb, ltb, eqb}
+use lib.Dec.{ltb, eqb}
 use lib.ListN.{length, getD, set, length-set}
 use lib.Seq.{ext-getD, getD-set-same, getD-set-other}
 use borrow.Author.Tests.{ltb-false, leb-false, lt-leb, eqb-true, eqb-false, eq-eqb, ne-eqb, not-false}
-use Rattle.lists.specs.Test.{any, any-none, any-next, any-hit, any-below, any-all, any-found, not-so}
+use Rattle.lists.specs.Test.{any-none, any-next, any-hit, any-below, any-all, any-found}
 use Rattle.lists.specs.Place.{placeFrom-at}
 use Rattle.lists.specs.Sum.{bit, bit-most, sumTo, sumTo-zero, sumTo-one, sumTo-room}
-use Rattle.lists.specs.Tabulate.{tabulate, tabulate-length, tabulate-at, tabulate-cong, tabulate-of}
+use Rattle.lists.specs.Tabulate.{tabulate-length, tabulate-at}
 use Rattle.lists.specs.Overwrite.{overwrite, overwrite-length, overwrite-at, overwrite-past}
 use Rattle.refusal.specs.Bounds.{maxDimension}
-use Rattle.refusal.specs.Steps.{Step, each, Passed, Clear, passed-clear, clear-passed, passed-append, passed-front, passed-back, each-passed, passed-each, first-end}
-use Rattle.factor_order.specs.Permutation.{index, among, indexSteps, inverseSteps, elementSteps, permutationSteps, acceptSteps, markedSteps, longStep, roomStep, indexPlace, inverseOf, reordered, Permutation}
+use Rattle.refusal.specs.Steps.{each, Passed, Clear, passed-clear, clear-passed, passed-append, passed-front, passed-back, each-passed, passed-each}
+use Rattle.factor_order.specs.Permutation.{index, among, indexSteps, inverseSteps, permutationSteps, acceptSteps, markedSteps, longStep, roomStep, indexPlace, inverseOf, reordered, Permutation}
 
 -- ---- passing 10 and 11
 

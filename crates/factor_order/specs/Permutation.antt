@@ -1,11 +1,11 @@
 -- A permutation's checks, its inverse and the reordering of a list by it. `perm` is orig_to_perm: original index i stands at perm i in factor order.
 -- Assumes nothing.
-use Prim.Native.Nat.{ℕ, _+_, _≤_, _<_}
+use Prim.Native.Nat.{ℕ, _+_, _<_}
 use mathlib.Core.Path.{_≡_}
-use mathlib.Core.Bool.{Bool, true, false, not, cond}
+use mathlib.Core.Bool.{Bool, not, cond}
 use mathlib.Core.List.{List, [], _∷_, _++_}
 use lib.Dec.{leb, ltb, eqb}
-use lib.ListN.{length, getD, set}
+use lib.ListN.{length, getD}
 use Rattle.lists.specs.Test.{any}
 use Rattle.lists.specs.Place.{placeFrom}
 use Rattle.lists.specs.Tabulate.{tabulate}

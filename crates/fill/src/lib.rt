@@ -1,10 +1,5 @@
 // Filling result lists: what every call does past its checks, once the requested pairs are marked.
-ghost use mathlib.Core.Path.{_≡_};
-ghost use Prim.Native.Nat.{_≤_};
-ghost use lib.ListN.{length};
 ghost use Rattle.columns.specs.Columns.{factorLists};
-ghost use Rattle.lists.specs.Overwrite.{cleared};
-ghost use Rattle.refusal.specs.Bounds.{maxDimension};
 ghost use Rattle.columns.specs.Form.{cholesky};
 ghost use Rattle.selection.specs.Selection.{lists};
 ghost use Rattle.fill.specs.Fill.{FillInput, Fills, FillsLists};

@@ -34,7 +34,7 @@ fn bad_scale(floor: VarianceFloor) -> bool
     }
 }
 
-// Steps 1, 13, 14 and 7, for an output of `room` places.
+// 1, 13, 14 and 7, for an output of `room` places.
 pub fn check_floor(values: &[f64], floor: VarianceFloor, room: usize) -> Checked
     ensures { λ r. ⌜ replyOf r ≡ verdict (floorSteps floor (now (values .entry)) room) ⌝ }
 {

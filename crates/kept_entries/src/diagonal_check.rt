@@ -26,7 +26,7 @@ fn bad_diagonal(c: usize, rows: &[u32], values: &[f64], s: usize, e: usize) -> b
     values[p] <= 0.0
 }
 
-// Step 6.
+// 6: a column without a kept diagonal, or with one at most 0.0.
 pub fn check_diagonals(n: usize, starts: &[u32], rows: &[u32], values: &[f64]) -> Checked
     requires { ⌜ Factor n (now starts) (now rows) (length (now values)) ⌝ }
     ensures { λ r. ⌜ replyOf r ≡ verdict (diagonalSteps (factorLists n (now (starts .entry)) (now (rows .entry)) (now (values .entry)))) ⌝ }

@@ -16,7 +16,7 @@ pub fn operator_rows(row_starts: &[u32]) -> usize
     row_starts.len() - 1
 }
 
-// Step 1.
+// 1: too many columns, rows or terms.
 pub fn check_operator_bounds(row_starts: &[u32], columns: &[u32]) -> Checked
     ensures { λ r. ⌜ replyOf r ≡ verdict (operatorBoundSteps (now («row_starts» .entry)) (now (columns .entry))) ⌝ }
 {
@@ -33,7 +33,7 @@ fn check_inside(ncols: usize, columns: &[u32]) -> Checked
     Checked::Accepted
 }
 
-// Step 9; `weights` is the number of weights.
+// 9: row starts that are empty or broken, or a column of n or more; `weights` is the number of weights.
 pub fn check_operator(ncols: usize, row_starts: &[u32], columns: &[u32], weights: usize) -> Checked
     ensures { λ r. ⌜ replyOf r ≡ verdict (operatorSteps ncols (now («row_starts» .entry)) (now (columns .entry)) weights) ⌝ }
 {

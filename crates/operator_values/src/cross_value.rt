@@ -1,6 +1,6 @@
 // The value of a row of one operator and a row of another, from entries of the inverse that are read by position.
 ghost use mathlib.Core.Path.{_≡_};
-ghost use Prim.Native.Nat.{_+_, _<_, _≤_};
+ghost use Prim.Native.Nat.{_+_, _<_};
 ghost use lib.ListN.{length};
 ghost use lib.Ieee.{nan};
 ghost use Rattle.pairs.specs.Positions.{inverseAt};

@@ -1,4 +1,4 @@
--- The exact case of operator variances: for whole weights each row's value is the exact wᵀXw.
+-- The exact case of operator variances: for whole weights each row's value is the exact vᵀXv.
 -- Assumes nothing.
 use Prim.Native.Nat.{ℕ, _+_, _-_, _<_}
 use native.Mathlib.Omega.{arith}
@@ -47,7 +47,7 @@ module _ (x : TransformedCall) where
     pub weights : (p : ℕ) → p < places-of-row i → Whole (value (x .weights) (first-of-row i + p)) (v (first-of-row i + p))
     pub within : RowWithin (termColumn (x .columns)) v X (first-of-row i) (places-of-row i)
 
-  -- X is what reads back, and wᵀXw what the output holds for each row in the exact case
+  -- X is what reads back, and vᵀXv what the output holds for each row in the exact case
   pub record TransformedExact (left : Lent) (out : List Float) (X : Matrix) : Type 0 where
     pub reads : ReadsBack (transformedSelection x) left X
     pub variances : selectedAnswer (transformedSelection x) .status ≡ Complete → (i : ℕ) → i < operatorRows (x .rowStarts) → (v : ℕ → ℤ) → ExactRow v X i
@@ -97,7 +97,7 @@ module _ (x : TransformedCall) (lent : Lent) (output : List Float) {reply : Sele
   all : Passed checks
   all = told-passed checks (selectedAnswer (transformedSelection x)) (sym answer ∙ C .replies)
 
-  -- demand 3, of the reply: d is the diagnosis, X is what reads back, and the output holds each row's wᵀXw
+  -- demand 3, of the reply: d is the diagnosis, X is what reads back, and the output holds each row's vᵀXv
   pub transformed-exact-reply : (d ≡ selectedAnswer (transformedSelection x)) × TransformedExact x left out X
   transformed-exact-reply = (
     told-answer checks (selectedAnswer (transformedSelection x)) (sym answer ∙ C .replies),

@@ -1,9 +1,9 @@
--- The variances of an operator's rows: what a call is handed, what it refuses in document 01's order, what it answers and leaves.
+-- The variances of an operator's rows: what a call is handed, what it refuses in its order, what it answers and leaves.
 -- Assumes nothing.
 use Prim.Native.Nat.{ℕ, _≤_}
 use mathlib.Core.Bool.{not}
 use mathlib.Core.List.{List, [], _∷_, _++_}
-use lib.Dec.{ltb, eqb}
+use lib.Dec.{eqb}
 use lib.ListN.{length}
 use lib.Ieee.{Float}
 use borrow.Author.Tests.{ltb-false}

@@ -1,12 +1,12 @@
 -- F2 of document 01 with the operator row of weight 1 at both cells: its variance 5 - 2 - 2 + 1 is the output 2, exactly.
 -- Assumes nothing.
-use Prim.Native.Nat.{ℕ, _+_}
+use Prim.Native.Nat.{_+_}
 use mathlib.Core.Path.{_≡_, refl}
-use mathlib.Core.List.{List, [], _∷_}
+use mathlib.Core.List.{[], _∷_}
 use lib.Dec.{lit<, lit≤}
-use lib.ListN.{length, getD}
+use lib.ListN.{getD}
 use lib.IntN.{pos}
-use lib.Ieee.{Float, nan, ofBits, ofInt, ne, le, add, sub, mul, div, neg}
+use lib.Ieee.{nan, ofBits, ofInt, ne, le, add, sub, mul, div, neg}
 use Rattle.lists.specs.Test.{any, anyIn}
 use Rattle.lists.specs.Select.{select, picked}
 use Rattle.lists.specs.Sum.{sumTo}
@@ -35,7 +35,7 @@ use Rattle.diagnostics.specs.declared.Selected.the-variants.{Answered}
 use Rattle.selection.specs.Diagnosis.{diagnosisOf}
 use Rattle.selection.specs.Selection.{roomOf, roomSteps, selectedAnswer, lists-passed, fillingOf}
 use Rattle.exact_entries.specs.ExactEntries.{ExactCall}
-use Rattle.exact_entries.specs.Worked.{F2-diagonals, F2-exact, F2-lent, F2-result, F2-cleared, F2-lists}
+use Rattle.exact_entries.specs.Worked.{F2-diagonals, F2-exact, F2-lent, F2-lists}
 use Rattle.request_marks.specs.OperatorRequests.{operatorRequested}
 use Rattle.quadratic_form.specs.CrossValue.{addTerms, addPlaces}
 use Rattle.quadratic_form.specs.RowValue.{operatorValues}
@@ -72,7 +72,7 @@ F2-row-left = record {
   output-is = refl;
 }
 
--- `transformed-exact-reply`: the output is wᵀXw
+-- `transformed-exact-reply`: the output is vᵀXv
 F2-row-variances : TransformedExact F2-row F2-lists (whole 2 ∷ []) F2-matrix
 F2-row-variances = transformed-exact-reply F2-row F2-lent (whole 9 ∷ []) F2-row-left refl F2-entries F2-row-call F2-matrix F2-inverse .1
 

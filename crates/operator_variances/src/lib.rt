@@ -2,13 +2,9 @@
 ghost use mathlib.Core.Path.{_≡_};
 ghost use mathlib.Core.List.{[], _∷_};
 ghost use mathlib.Core.Bool.{not};
-ghost use Prim.Native.Nat.{_≤_};
 ghost use lib.Dec.{eqb};
-ghost use lib.ListN.{length};
-ghost use Rattle.refusal.specs.Bounds.{maxDimension, maxEntries};
 ghost use Rattle.refusal.specs.Steps.{verdict};
 ghost use Rattle.refusal.specs.Refusal.{replyOf};
-ghost use Rattle.columns.specs.Factor.{Factor};
 ghost use Rattle.selection.specs.Selection.{lists, room};
 ghost use Rattle.operator_variances.specs.Transformed.{transformedCall, transformedSteps, TransformedDiagonal};
 use diagnostics::Selected;
@@ -29,7 +25,7 @@ use selected_checks::default_limit;
 use verdicts::check_output;
 use verdicts::first_of;
 
-// Step 4: the operator's columns are n.
+// 4: the operator's columns are n.
 fn check_column_count(ncols: usize, n: usize) -> Checked
     ensures { λ r. ⌜ replyOf r ≡ verdict ((4, not (eqb ncols n)) ∷ []) ⌝ }
 {
@@ -39,7 +35,7 @@ fn check_column_count(ncols: usize, n: usize) -> Checked
     Checked::Accepted
 }
 
-// Steps 1 to 7 and 18; the lists lent for writing are judged by their lengths.
+// Refusals 1 to 7 and 18; the lists lent for writing are judged by their lengths.
 fn check_transformed(
     n: usize,
     starts: &[u32],

@@ -1,23 +1,22 @@
 -- The reply and the lists of a call, refused, uncovered or answered; and the diagonal as the first entry of each column.
 -- Assumes nothing.
-use Prim.Native.Nat.{ℕ, _+_, _≤_, _<_, min}
+use Prim.Native.Nat.{ℕ, _+_, _≤_, _<_}
 use native.Mathlib.Omega.{arith}
 use native.Mathlib.Nat.{le-refl}
-use mathlib.Core.Path.{_≡_, refl, sym, ap, ap₂, subst, _∙_}
-use mathlib.Core.Bool.{Bool, true, false, not}
+use mathlib.Core.Path.{_≡_, sym, ap, ap₂, subst, _∙_}
+use mathlib.Core.Bool.{true, false, not}
 use mathlib.Core.List.{List, [], _∷_, _++_}
 use lib.ListN.{length, getD}
 use lib.Ieee.{Float, nan}
 use borrow.Author.Tests.{leb-true}
-use Rattle.lists.specs.Tabulate.{tabulate, tabulate-at, tabulate-length, tabulate-cong}
+use Rattle.lists.specs.Tabulate.{tabulate, tabulate-at, tabulate-cong}
 use Rattle.lists.specs.Overwrite.{overwrite, overwrite-at, overwrite-length}
-use Rattle.refusal.specs.Steps.{Step, answered, refused, verdict, first, Passed, append-refused, append-passed, first-hit, first-skip, first-end, first-passed}
+use Rattle.refusal.specs.Steps.{Step, answered, refused, verdict, Passed, append-refused, append-passed, first-hit, first-skip, first-end, first-passed}
 use Rattle.refusal.specs.Steps.{after-refused, after-passed}
 use Rattle.refusal.specs.Refusal.{refusalNumber}
 use Rattle.refusal.specs.declared.Refusal.{Refusal}
 use Rattle.refusal.specs.declared.Refusal.the-variants.{NotCovered}
-use Rattle.pairs.specs.Pair.{pairTotal}
-use Rattle.columns.specs.Kept.{nonzero, pattern}
+use Rattle.columns.specs.Kept.{nonzero}
 use Rattle.closed_set.specs.ClosedSet.{member-holds}
 use Rattle.closed_set.specs.Size.{closureSize-most}
 use Rattle.closed_set.specs.FactorPattern.{factor-pattern}
@@ -25,11 +24,11 @@ use Rattle.entries.specs.Entries.{columnCount, position, entryStarts, entryValu
 use Rattle.entries.specs.Position.{position-first, position-below, entryValues-at}
 use Rattle.factor_order.specs.Permutation.{index, reordered}
 use Rattle.diagnostics.specs.declared.SelectedInverseDiagnostics.{SelectedInverseDiagnostics}
-use Rattle.selection.specs.Selection.{selectedPattern, Selection, Lent, roomOf, Accepted, selectedSet, selectedSize, selectedComplete, selectedAnswer, selectedTable, fillingOf}
+use Rattle.selection.specs.Selection.{selectedPattern, Selection, Lent, roomOf, selectedSet, selectedSize, selectedComplete, selectedAnswer, selectedTable, fillingOf}
 use Rattle.selection.specs.Selection.{ResultLists, lists-refused, complete-starts, complete-values}
 use Rattle.diagnostics.specs.declared.Selected.the-variants.{Answered, Refused}
 use Rattle.request_marks.specs.DiagonalMarks.{diagonal-requested, diagonals-ranged}
-use Rattle.original_diagonal.specs.Original.{OriginalCall, originalSelection, originalSteps, coveredSteps, factorDiagonal, OriginalDiagonal, FirstEntries, firstEntries}
+use Rattle.original_diagonal.specs.Original.{OriginalCall, originalSelection, originalSteps, factorDiagonal, OriginalDiagonal, FirstEntries, firstEntries}
 use Rattle.original_diagonal.specs.Original.{AcceptedOriginal, original-inside}
 
 module _ (x : OriginalCall) (lent : Lent) (output : List Float) where

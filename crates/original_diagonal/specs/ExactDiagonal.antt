@@ -2,15 +2,15 @@
 -- Assumes nothing.
 use Prim.Native.Nat.{ℕ, _≤_, _<_}
 use native.Mathlib.Omega.{arith}
-use mathlib.Core.Path.{_≡_, refl, sym, ap, subst, _∙_}
-use mathlib.Core.Bool.{Bool, true, not}
+use mathlib.Core.Path.{_≡_, sym, ap, subst, _∙_}
+use mathlib.Core.Bool.{true, not}
 use mathlib.Core.List.{List, [], _∷_, _++_}
 use lib.ListN.{length, getD}
 use lib.IntN.{ℤ}
 use lib.Ieee.{Float, nan}
 use borrow.Author.Tests.{le-leb, lt-leb, leb-true, not-false}
 use Rattle.lists.specs.Tabulate.{tabulate-at}
-use Rattle.lists.specs.Overwrite.{overwrite, overwrite-at}
+use Rattle.lists.specs.Overwrite.{overwrite-at}
 use Rattle.refusal.specs.Steps.{Step, refused, answered, Passed, after-passed, first-hit, first-passed, append-passed, passed-append, passed-front, passed-back, passed-clear, clear-passed}
 use Rattle.refusal.specs.Told.{told-passed, told-answer}
 use Rattle.integers.specs.Matrix.{Matrix}

@@ -40,7 +40,7 @@ use Rattle.diagnostics.specs.Selected.{selectedReplyOf}
 use Rattle.selection.specs.Diagnosis.{diagnosisOf}
 use Rattle.selection.specs.Selection.{Lent, lists, room, roomOf, roomSteps, Accepted, selectedSet, selectedSize, selectedAnswer, lists-passed, fillingOf}
 use Rattle.exact_entries.specs.ExactEntries.{ExactCall}
-use Rattle.exact_entries.specs.Worked.{F2-diagonals, F2-exact, F2-lent, F2-result, F2-cleared, F2-lists}
+use Rattle.exact_entries.specs.Worked.{F2-diagonals, F2-exact, F2-lent, F2-lists}
 use Rattle.request_marks.specs.DiagonalMarks.{diagonalPairs}
 use Rattle.original_diagonal.specs.Original.{OriginalCall, originalCall, originalSelection, originalSteps, OriginalDiagonal, original-accepted}
 use Rattle.original_diagonal.specs.ExactDiagonal.{OriginalExact, within-reply, beyond-reply, original-exact-reply}

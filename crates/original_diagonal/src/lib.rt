@@ -1,6 +1,5 @@
 // The diagonal of the inverse in original order, after `selected_inverse_diag_with_diagnostics` of uncertainty.rs, before its finishing step.
 ghost use mathlib.Core.Path.{_≡_};
-ghost use lib.ListN.{length};
 ghost use Rattle.lists.specs.Overwrite.{overwrite};
 ghost use Rattle.refusal.specs.Steps.{verdict};
 ghost use Rattle.refusal.specs.Refusal.{replyOf};
@@ -20,7 +19,7 @@ use verdicts::check_output;
 use verdicts::first_of;
 use words::at;
 
-// Steps 1 to 7 and 18; the lists lent for writing are judged by their lengths.
+// Refusals 1 to 7 and 18; the lists lent for writing are judged by their lengths.
 fn check_original(
     n: usize,
     starts: &[u32],

@@ -9,7 +9,6 @@ use mathlib.Core.Path.{_≡_, refl, sym, ap, subst, _∙_}
 use mathlib.Core.Bool.{Bool, true, false}
 use mathlib.Core.Logic.{⊎-elim}
 use mathlib.Core.List.{List}
-use lib.Dec.{eqb}
 use lib.ListN.{length}
 use Rattle.bits.specs.Bits.{bitAt}
 use Rattle.lists.specs.Sum.{bit, bit-most, sumTo, sumTo-add, sumTo-eq, sumTo-le, sumTo-most}

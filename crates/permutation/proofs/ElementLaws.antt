@@ -1,19 +1,19 @@
 -- One element of a permutation's check, and what the loop over the elements keeps.
 -- Assumes nothing.
-use Prim.Native.Nat.{ℕ, zero, suc, _+_, _≤_, _<_}
+use Prim.Native.Nat.{ℕ, _+_, _≤_, _<_}
 use native.Mathlib.Omega.{arith}
 use native.Mathlib.Decide.{ℕ-discrete}
-use mathlib.Core.Path.{_≡_, refl, sym, ap, subst, _∙_}
-use mathlib.Core.Bool.{Bool, true, false, not, cond, _&&_, _||_, or-true, or-false, true≢false, false≢true}
-use mathlib.Core.List.{List, [], _∷_, _++_}
-use lib.Dec.{leb, eqb}
+use mathlib.Core.Path.{_≡_, refl, sym, ap, _∙_}
+use mathlib.Core.Bool.{Bool, true, false, not, cond, _&&_, _||_, or-true, or-false, false≢true}
+use mathlib.Core.List.{List, []}
+use lib.Dec.{eqb}
 use lib.ListN.{length, getD, set, length-set, replicate, getD-replicate}
 use lib.Seq.{getD-set-same, getD-set-other}
 use borrow.Author.Tests.{le-leb, lt-leb, eq-eqb, ne-eqb}
-use Rattle.lists.specs.Test.{any, any-none, any-next}
+use Rattle.lists.specs.Test.{any-none, any-next}
 use Rattle.refusal.specs.Bounds.{maxDimension}
-use Rattle.refusal.specs.Steps.{Step, Reply, refused, each, verdict, Passed, first-hit, first-skip, first-end, each-none, each-more}
-use Rattle.factor_order.specs.Permutation.{index, among, indexSteps, inverseSteps, elementSteps}
+use Rattle.refusal.specs.Steps.{refused, each, verdict, Passed, first-hit, first-skip, first-end, each-none, each-more}
+use Rattle.factor_order.specs.Permutation.{index, among, inverseSteps, elementSteps}
 
 -- before element i: no fault so far, and the indices seen are marked
 pub record ElementsChecked (compared : Bool) (perm inv : List ℕ) (i : ℕ) (seen : List Bool) : Type 0 where

@@ -1,9 +1,9 @@
 -- The exact case of two rows: where weights and entries are whole numbers and the exact products and sums stay within 2^53 in size, the rows' value in f64
--- is the whole number wᵀXv.
+-- is the whole number vᵀXu.
 -- Assumes nothing.
 use Prim.Native.Nat.{ℕ, zero, suc, _+_, _-_, _≤_, _<_}
 use native.Mathlib.Omega.{arith}
-use mathlib.Core.Path.{_≡_, sym, ap, ap₂, subst, _∙_}
+use mathlib.Core.Path.{_≡_, sym, ap₂, subst, _∙_}
 use lib.Dec.{lit≤}
 use lib.IntN.{ℤ, _+ℤ_, _*ℤ_, +ℤ-assoc, +ℤ-idr, *ℤ-comm}
 use lib.Ieee.{Float, binary64, mul}
@@ -24,7 +24,7 @@ module _ (k l : ℕ → ℕ) (v u : ℕ → ℤ) (X : ℕ → ℕ → ℤ) (s si
   abbrev pub runningSum : ℕ → ℕ → ℤ
   runningSum i m = Σℤ i (λ a. Σℤ width (exactTerm a)) +ℤ Σℤ m (exactTerm i)
 
-  -- wᵀXv: the sum of all terms
+  -- vᵀXu: the sum of all terms
   abbrev pub bilinear : ℤ
   bilinear = Σℤ size (λ i. Σℤ width (exactTerm i))
 

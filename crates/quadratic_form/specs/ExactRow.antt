@@ -1,5 +1,5 @@
 -- The exact case of an operator's row: where weights and entries are whole numbers and the exact products and sums stay within 2^53 in size,
--- the row's value in f64 is the whole number wᵀXw. It is the case of two equal rows.
+-- the row's value in f64 is the whole number vᵀXv. It is the case of two equal rows.
 -- Assumes nothing.
 use Prim.Native.Nat.{ℕ, _+_, _-_, _<_}
 use lib.IntN.{ℤ}
@@ -8,9 +8,9 @@ use Rattle.takahashi.specs.Recurrence.{at}
 use Rattle.exact.specs.Multiple.{Whole}
 use Rattle.exact.specs.Exact.{floats}
 use Rattle.quadratic_form.specs.RowValue.{rowValue}
-use Rattle.quadratic_form.specs.ExactCross.{bilinear, RowsWithin, WholeRows, crossValue-exact}
+use Rattle.quadratic_form.specs.ExactCross.{bilinear, RowsWithin, crossValue-exact}
 
--- wᵀXw: k gives the column of a place of the operator, v its weight; the row has `size` places, from s on
+-- vᵀXv: k gives the column of a place of the operator, v its weight; the row has `size` places, from s on
 abbrev pub quadratic : (ℕ → ℕ) → (ℕ → ℤ) → (ℕ → ℕ → ℤ) → ℕ → ℕ → ℤ
 quadratic k v X s size = bilinear k k v v X s size s size
 

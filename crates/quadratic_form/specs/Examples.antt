@@ -40,7 +40,7 @@ F2-cross : operatorsValue (0 ∷ 1 ∷ []) (0 ∷ []) (whole 3 ∷ []) (0 ∷ 1 
 unfolding addTerms addPlaces floatTable select picked ofBits ofInt ne add sub mul div neg
 F2-cross = refl
 
--- with the inverse of F2's L·Lᵀ, that row's wᵀXw
+-- with the inverse of F2's L·Lᵀ, that row's vᵀXv
 F2-quadratic : quadratic (termColumn (0 ∷ 1 ∷ [])) (λ p. pos 1) F2-matrix 0 2 ≡ pos 2
 F2-quadratic = refl
 

@@ -1,4 +1,4 @@
--- The value of two operators' rows, wᵀXv, and of a row with itself, wᵀXw.
+-- The value of two operators' rows, vᵀXu, and of a row with itself, vᵀXv.
 pub mod CrossValue
 pub mod RowValue
 pub mod Exchange

@@ -1,6 +1,5 @@
 -- Two groups of steps: the first that refuses decides.
 -- Assumes nothing.
-use Prim.Native.Nat.{ℕ}
 use mathlib.Core.Path.{_≡_, refl, sym, ap, ap₂, _∙_}
 use mathlib.Core.List.{List, _++_}
 use Rattle.refusal.specs.Steps.{Step, Reply, refused, answered, verdict, append-refused, append-passed}

@@ -1,11 +1,10 @@
 -- The reply and the lists of a call, refused or answered.
 -- Assumes nothing.
-use Prim.Native.Nat.{ℕ, _<_}
+use Prim.Native.Nat.{_<_}
 use mathlib.Core.Path.{_≡_, refl, sym, ap, _∙_}
 use mathlib.Core.Bool.{Bool, true, false}
 use mathlib.Core.List.{List, _++_}
 use lib.ListN.{length}
-use lib.Ieee.{Float}
 use lib.Dec.{ltb}
 use borrow.Author.Tests.{lt-ltb}
 use Rattle.refusal.specs.Steps.{Step, answered, refused, verdict, Passed, first-refused, first-passed, append-refused, first-hit, first-skip}

@@ -1,9 +1,6 @@
 -- Selected entries: what the call replies and leaves.
 -- Assumes nothing.
-use Prim.Native.Nat.{ℕ}
 use mathlib.Core.Path.{_≡_}
-use mathlib.Core.List.{List}
-use lib.Ieee.{Float}
 use Rattle.diagnostics.specs.declared.Selected.{Selected}
 use Rattle.diagnostics.specs.Selected.{selectedReplyOf}
 use Rattle.selection.specs.Selection.{Lent, roomOf, ResultLists, fillingOf}

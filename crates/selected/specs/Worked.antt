@@ -1,12 +1,9 @@
 -- F2 of document 01 with the request (0, 0) and limit 3: what the call's contract says of a reply, and what the laws of a reply then give.
 -- Assumes nothing.
-use Prim.Native.Nat.{ℕ}
 use mathlib.Core.Path.{_≡_, refl, sym, ap, _∙_}
-use mathlib.Core.List.{List}
 use lib.IntN.{negsuc}
 use lib.Ieee.{Float}
 use Rattle.refusal.specs.Steps.{answered, first-passed}
-use Rattle.columns.specs.Examples.{F2-starts, F2-rows}
 use Rattle.exact.specs.Multiple.{Whole}
 use Rattle.exact.specs.Examples.{F2-entries, F2-matrix, F2-inverse}
 use Rattle.diagnostics.specs.Diagnosis.{diagnosis}
@@ -17,7 +14,7 @@ use Rattle.diagnostics.specs.declared.Selected.the-variants.{Answered}
 use Rattle.diagnostics.specs.Selected.{selectedReplyOf}
 use Rattle.selection.specs.Selection.{roomOf, selectedAnswer, Lent}
 use Rattle.selection.specs.Call.{selectionOf, selectedSteps}
-use Rattle.exact_entries.specs.Worked.{F2-lent, F2-result, F2-cleared, F2-found, F2ReadsBack, F2-call, F2-passed, F2-call-exact, F2-left, F2-answer, F2-below, F2-complete, F2-lists}
+use Rattle.exact_entries.specs.Worked.{F2-lent, F2-found, F2ReadsBack, F2-call, F2-passed, F2-call-exact, F2-left, F2-answer, F2-below, F2-complete, F2-lists}
 use Rattle.selected.specs.Selected.{SelectedEntries}
 use Rattle.selected.specs.ExactReply.{passed-reply, exact-reply}
 

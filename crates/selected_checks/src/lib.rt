@@ -2,7 +2,7 @@
 pub mod requests;
 
 ghost use mathlib.Core.Path.{_≡_};
-ghost use Prim.Native.Nat.{_*_, _≤_, min};
+ghost use Prim.Native.Nat.{_*_, _≤_};
 ghost use lib.ListN.{length};
 ghost use Rattle.columns.specs.Columns.{factorLists};
 ghost use Rattle.refusal.specs.Bounds.{maxDimension, maxEntries};
@@ -27,7 +27,7 @@ use words::order::smaller;
 // How many times the stored entries the default limit is.
 const LIMIT_FACTOR: usize = 10;
 
-// Step 7.
+// 7: result lists or scratch too short.
 fn check_room(
     n: usize,
     limit: usize,
@@ -64,7 +64,7 @@ pub fn default_limit(stored: usize) -> usize
     LIMIT_FACTOR * stored
 }
 
-// Steps 6 and 7, past the others: what filling result lists asks.
+// 6 and 7, past the others: what filling result lists asks.
 pub fn check_fill(
     n: usize,
     starts: &[u32],
@@ -85,7 +85,7 @@ pub fn check_fill(
     first_of(diagonals, room)
 }
 
-// Step 1 of the requests, which are counted by their rows.
+// 1 of the requests, which are counted by their rows.
 pub fn check_request_bound(requests: usize) -> Checked
     ensures { λ r. ⌜ replyOf r ≡ verdict (requestBoundSteps requests) ⌝ }
 {
@@ -95,7 +95,7 @@ pub fn check_request_bound(requests: usize) -> Checked
     Checked::Accepted
 }
 
-// Steps 1 to 7 and 18; the lists lent for writing are judged by their lengths.
+// Refusals 1 to 7 and 18; the lists lent for writing are judged by their lengths.
 pub fn check_selected(
     n: usize,
     starts: &[u32],

@@ -7,7 +7,7 @@ use refusal::Checked;
 use refusal::Refusal;
 use words::index::index_outside;
 
-// Steps 4 and 5.
+// 4: another dimension, or lists of unequal length; 5: an index of n or more.
 pub fn check_requests(
     n: usize,
     dimension: usize,

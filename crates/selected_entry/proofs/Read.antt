@@ -8,10 +8,9 @@ use mathlib.Core.List.{List}
 use lib.ListN.{length, take, drop}
 use lib.Ieee.{Float}
 use borrow.Author.Tests.{leb-true, leb-false}
-use Rattle.refusal.specs.Steps.{Step, Reply, refused, answered, verdict, Passed}
+use Rattle.refusal.specs.Steps.{Step, Reply, refused, verdict, Passed}
 use Rattle.refusal.specs.Told.{told-refused, told-passed, told-answer}
 use Rattle.refusal.specs.Bounds.{maxDimension}
-use Rattle.refusal.specs.Refusal.{refusalNumber}
 use Rattle.refusal.specs.declared.Refusal.{Refusal}
 use Rattle.diagnostics.specs.declared.SelectedInverseDiagnostics.{SelectedInverseDiagnostics}
 use Rattle.diagnostics.specs.declared.SelectedInverseStatus.{SelectedInverseStatus}

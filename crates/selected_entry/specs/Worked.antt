@@ -1,9 +1,7 @@
 -- F2 of document 01 with the request (0, 0) and limit 3, and the pair (1, 0): what the contract says of every reply.
 -- Assumes nothing.
-use Prim.Native.Nat.{ℕ}
 use mathlib.Core.Path.{_≡_, sym, ap, _∙_}
 use mathlib.Core.Bool.{Bool, true}
-use mathlib.Core.List.{List}
 use lib.IntN.{negsuc}
 use lib.Ieee.{Float, neg}
 use Rattle.refusal.specs.Steps.{Reply, answered}

@@ -1,6 +1,6 @@
--- Selected entries: what a call is handed, and what it refuses in document 01's order.
+-- Selected entries: what a call is handed, and what it refuses in its order.
 -- Assumes nothing.
-use Prim.Native.Nat.{ℕ, _+_, _≤_, _<_, min}
+use Prim.Native.Nat.{ℕ, _+_, _≤_, min}
 use mathlib.Core.List.{List, [], _∷_, _++_}
 use lib.ListN.{length}
 use lib.Ieee.{Float}

@@ -1,13 +1,11 @@
 -- What is refused of requests, a dimension and two lists: steps 4 and 5.
 -- Assumes nothing.
-use Prim.Native.Nat.{ℕ, _≤_, _<_}
-use native.Mathlib.Omega.{arith}
-use mathlib.Core.Path.{_≡_}
+use Prim.Native.Nat.{ℕ}
 use mathlib.Core.Bool.{not}
 use mathlib.Core.List.{List, [], _∷_}
 use lib.Dec.{ltb, eqb}
 use lib.ListN.{length}
-use borrow.Author.Tests.{ltb-false, leb-false, eqb-true, not-false}
+use borrow.Author.Tests.{leb-false, eqb-true, not-false}
 use Rattle.lists.specs.Test.{any-below}
 use Rattle.refusal.specs.Bounds.{maxEntries}
 use Rattle.refusal.specs.Steps.{Step, Passed, passed-clear}

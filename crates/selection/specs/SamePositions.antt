@@ -1,7 +1,7 @@
 -- Factors of one dimension with equal kept positions, and equal requests and limit: equal status and counts, equal starts and filled rows.
 -- Assumes nothing.
 use Prim.Native.Nat.{ℕ, _+_, _≤_, _<_}
-use mathlib.Core.Path.{_≡_, refl, sym, ap, subst, _∙_}
+use mathlib.Core.Path.{_≡_, sym, ap, subst, _∙_}
 use mathlib.Core.Bool.{Bool, true, cond}
 use mathlib.Core.List.{List}
 use lib.ListN.{take}
@@ -20,7 +20,7 @@ use Rattle.closed_set.specs.KeptSet.{SameKept}
 use Rattle.selection.specs.Diagnosis.{member-same, diagnosisOf-same, kept-pattern}
 use Rattle.entries.specs.Entries.{entryStarts, entryRows, entryStarts-length, entryRows-length}
 use Rattle.entries.specs.Position.{entryStarts-cong, entryRows-cong}
-use Rattle.selection.specs.Selection.{Selection, selecting, LentOf, Lent, Room, roomOf, Filling, fillingOf, Accepted, selectedSet, selectedSize, selectedComplete, selectedAnswer}
+use Rattle.selection.specs.Selection.{Selection, selecting, LentOf, Lent, Room, roomOf, Filling, fillingOf, Accepted, selectedSet, selectedSize, selectedAnswer}
 use Rattle.selection.specs.Selection.{filledStarts, filledRows, ResultLists, passed-starts, passed-rows}
 use Rattle.selection.specs.Status.{selected-complete}
 use Rattle.selection.specs.Call.{Call, call, selectionOf, selectedSteps, selectedReply, accepted}

@@ -1,7 +1,7 @@
 -- A check's answer as one number, and that it says what the reply says.
 -- Assumes nothing.
 use Prim.Native.Nat.{ℕ}
-use mathlib.Core.Path.{_≡_, refl, ap, _∙_}
+use mathlib.Core.Path.{_≡_, refl}
 use Rattle.refusal.specs.Steps.{Reply, refused, answered}
 use Rattle.refusal.specs.Refusal.{refusalNumber, replyOf}
 use Rattle.refusal.specs.declared.Checked.{Checked}

@@ -1,7 +1,6 @@
 use Rattle.dependency_chain.specs.declared.Chain.{Chain}
 use Rattle.dependency_chain.specs.Reply.{chainReply}
 use Rattle.c_replies.specs.Numbers.{pairNumbers}
-use Rattle.c_replies.specs.declared.PairNumbers.{PairNumbers}
 use Rattle.refusal.specs.Steps.{refused}
 use Prim.Native.Nat.{ℕ}
 use borrow.Author.Needs.{needs}

@@ -1,7 +1,6 @@
 use Rattle.lookup.specs.declared.ordered.Entry.{Entry}
 use Rattle.lookup.specs.Reply.{entryReply}
 use Rattle.c_replies.specs.Numbers.{entryNumbers}
-use Rattle.c_replies.specs.declared.EntryNumbers.{EntryNumbers}
 use Rattle.refusal.specs.Steps.{refused}
 use Prim.Native.Nat.{ℕ}
 use borrow.Author.Needs.{needs}

@@ -1,7 +1,6 @@
 use Rattle.floor.specs.declared.Stabilized.{Stabilized}
 use Rattle.floor.specs.Floor.{stabilizedReply}
 use Rattle.c_replies.specs.Numbers.{floorNumbers}
-use Rattle.c_replies.specs.declared.FloorNumbers.{FloorNumbers}
 use Rattle.refusal.specs.Steps.{refused}
 use Prim.Native.Nat.{ℕ}
 use borrow.Author.Needs.{needs}

@@ -1,7 +1,6 @@
 use Rattle.pattern_lists.specs.declared.listed.PatternPairs.{PatternPairs}
 use Rattle.pattern_lists.specs.ListedMarks.{listReply}
 use Rattle.c_replies.specs.Numbers.{pairNumbers}
-use Rattle.c_replies.specs.declared.PairNumbers.{PairNumbers}
 use Rattle.refusal.specs.Steps.{refused}
 use Prim.Native.Nat.{ℕ}
 use borrow.Author.Needs.{needs}

@@ -1,7 +1,6 @@
 use Rattle.requests_reader.specs.declared.ReadRequests.{ReadRequests}
 use Rattle.requests_reader.specs.Reader.{readReply}
 use Rattle.c_replies.specs.Numbers.{requestsNumbers}
-use Rattle.c_replies.specs.declared.RequestsNumbers.{RequestsNumbers}
 use Rattle.refusal.specs.Steps.{refused}
 use Prim.Native.Nat.{ℕ}
 use borrow.Author.Needs.{needs}

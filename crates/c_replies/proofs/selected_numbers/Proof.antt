@@ -1,7 +1,6 @@
 use Rattle.diagnostics.specs.declared.Selected.{Selected}
 use Rattle.diagnostics.specs.Selected.{selectedReplyOf}
 use Rattle.c_replies.specs.Numbers.{selectedNumbers, selectedNumbers-answered}
-use Rattle.c_replies.specs.declared.SelectedNumbers.{SelectedNumbers}
 use Rattle.refusal.specs.Steps.{refused}
 use Prim.Native.Nat.{ℕ}
 use borrow.Author.Needs.{needs}

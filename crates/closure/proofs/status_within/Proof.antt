@@ -1,4 +1,4 @@
-use mathlib.Core.Path.{_≡_, sym, ap}
+use mathlib.Core.Path.{sym, ap}
 use borrow.Author.Tests.{le-leb, lt-leb}
 use Rattle.diagnostics.specs.Diagnosis.{statusOf}
 use Rattle.closure.proofs.status_within.Statement.{statement}

@@ -1,8 +1,3 @@
-use native.Mathlib.Omega.{arith}
-use mathlib.Core.Path.{sym, subst}
-use mathlib.Core.List.{List}
-use Prim.Native.Nat.{ℕ}
-use denote.Ref.{now}
 use borrow.Author.Needs.{needs}
 use Rattle.fill.proofs.fill_entries.Statement.{statement}
 use Rattle.fill.proofs.fill_entries.Tie as tie

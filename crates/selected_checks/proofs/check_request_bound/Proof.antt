@@ -1,4 +1,4 @@
-use mathlib.Core.Path.{_≡_, sym}
+use mathlib.Core.Path.{sym}
 use borrow.Author.Tests.{lt-ltb, le-ltb}
 use Rattle.refusal.specs.Steps.{first-hit, first-skip, first-end}
 use Rattle.selected_checks.proofs.check_request_bound.Statement.{statement}

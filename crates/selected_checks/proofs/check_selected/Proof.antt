@@ -4,7 +4,7 @@ use lib.ListN.{length}
 use denote.Ref.{now}
 use borrow.Author.Needs.{needs}
 use Rattle.refusal.specs.Steps.{Step, verdict, Passed, append-refused, append-passed, passed-front}
-use Rattle.refusal.specs.FirstOf.{orElse, verdicts}
+use Rattle.refusal.specs.FirstOf.{verdicts}
 use Rattle.refusal.specs.Refusal.{replyOf}
 use Rattle.columns.specs.Columns.{boundSteps, factorLists}
 use Rattle.columns.specs.Factor.{boundSteps-sound}

@@ -1,4 +1,3 @@
-use native.Mathlib.Omega.{arith}
 use borrow.Author.Needs.{needs}
 use Rattle.set_bits.proofs.BitsLaws.{word-inside, list-room, list-rest, list-all}
 use Rattle.set_bits.proofs.list_bits.Statement.{statement}

@@ -1,13 +1,11 @@
-use Prim.Native.Nat.{ℕ, _≤_, _<_, _-_, _+_}
+use Prim.Native.Nat.{ℕ, _≤_, _-_}
 use native.Mathlib.Omega.{arith}
-use mathlib.Core.Path.{_≡_, sym, ap, subst, _∙_}
-use mathlib.Core.Bool.{Bool, true, false, not, _&&_}
-use lib.Dec.{eqb}
-use lib.ListN.{length, getD}
+use mathlib.Core.Path.{_≡_, sym, subst, _∙_}
+use lib.ListN.{length}
 use denote.Ref.{now}
 use borrow.Author.Needs.{needs}
 use Rattle.refusal.specs.Steps.{each-refused, Passed, each}
-use Rattle.factor_order.specs.Permutation.{index, elementSteps}
+use Rattle.factor_order.specs.Permutation.{elementSteps}
 use Rattle.permutation.proofs.ElementLaws.{ElementsChecked, looked-none, looked-more, element-large, element-repeated, element-disagrees}
 use Rattle.permutation.proofs.elements.check_elements.Statement.{statement}
 use Rattle.permutation.proofs.elements.check_elements.Tie as tie

@@ -1,7 +1,3 @@
-use mathlib.Core.Path.{_≡_, sym, ap, _∙_}
-use mathlib.Core.Bool.{Bool, true, false, not, _&&_}
-use lib.Dec.{eqb}
-use borrow.Author.Needs.{needs}
 use Rattle.permutation.proofs.elements.disagrees.Statement.{statement}
 use Rattle.permutation.proofs.elements.disagrees.Tie as tie
 

@@ -1,11 +1,11 @@
-use Prim.Native.Nat.{ℕ, _≤_, _<_, _-_, _+_}
+use Prim.Native.Nat.{ℕ, _≤_, _<_, _-_}
 use native.Mathlib.Omega.{arith}
-use mathlib.Core.Path.{_≡_, refl, sym, ap, subst, _∙_}
-use lib.ListN.{length, getD, set, length-set}
+use mathlib.Core.Path.{_≡_, refl, ap, _∙_}
+use lib.ListN.{length, set, length-set}
 use denote.Ref.{now}
 use borrow.Author.Needs.{needs}
 use Rattle.factor_order.specs.Permutation.{index}
-use Rattle.factor_order.specs.Laws.{storedTo, storedTo-none, storedTo-more, storedTo-length, stored-inverse}
+use Rattle.factor_order.specs.Laws.{storedTo, storedTo-none, storedTo-more, stored-inverse}
 use Rattle.permutation.proofs.inverse.invert.Statement.{statement}
 use Rattle.permutation.proofs.inverse.invert.Tie as tie
 

@@ -1,12 +1,11 @@
-use native.Mathlib.Omega.{arith}
-use mathlib.Core.Path.{_≡_, sym, ap, _∙_}
-use mathlib.Core.Bool.{false, true≢false}
+use mathlib.Core.Path.{sym, ap, _∙_}
+use mathlib.Core.Bool.{true≢false}
 use denote.Ref.{now}
 use borrow.Author.Needs.{needs}
 use borrow.Author.Tests.{lt-ltb, le-ltb}
 use Rattle.refusal.specs.Steps.{first-hit, first-skip, first-end, append-refused, append-passed}
 use Rattle.refusal.specs.Refusal.{replyOf}
-use Rattle.factor_order.specs.Permutation.{permutationSteps, roomStep}
+use Rattle.factor_order.specs.Permutation.{permutationSteps}
 use Rattle.permutation.proofs.order.check_permutation.Statement.{statement}
 use Rattle.permutation.proofs.order.check_permutation.Tie as tie
 

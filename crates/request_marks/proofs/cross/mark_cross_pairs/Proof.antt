@@ -1,13 +1,12 @@
 use Prim.Native.Nat.{ℕ, _≤_, _<_, _-_, _+_}
 use native.Mathlib.Omega.{arith}
-use mathlib.Core.Path.{_≡_, sym, subst, ap, _∙_}
+use mathlib.Core.Path.{_≡_, sym, ap, _∙_}
 use mathlib.Core.List.{List}
 use denote.Ref.{now}
 use borrow.Author.Needs.{needs}
 use lib.ListN.{length, getD}
 use Rattle.lists.specs.Test.{any, any-none}
 use Rattle.columns.specs.Columns as columns
-use Rattle.columns.specs.Operator.{operatorRows}
 use Rattle.marked_pairs.specs.MarkedPairs.{AlsoMarked, also-none, also-more, pairs-also, pairs-cong}
 use Rattle.request_marks.specs.OperatorMarks.{RowInput}
 use Rattle.request_marks.specs.CrossRequests.{crossSet, pairSet, crossRequested}

@@ -1,9 +1,8 @@
-use Prim.Native.Nat.{ℕ, _≤_, _<_, _-_, _+_}
+use Prim.Native.Nat.{ℕ, _-_}
 use native.Mathlib.Omega.{arith}
-use mathlib.Core.Path.{_≡_, sym, subst, ap, _∙_}
+use mathlib.Core.Path.{_≡_, sym}
 use mathlib.Core.List.{List}
 use denote.Ref.{now}
-use borrow.Author.Needs.{needs}
 use Rattle.marked_pairs.specs.MarkedPairs.{AlsoMarked}
 use Rattle.request_marks.specs.OperatorMarks.{RowInput}
 use Rattle.request_marks.specs.CrossRequests.{crossSet}

@@ -1,6 +1,6 @@
 use native.Mathlib.Omega.{arith}
 use Prim.Native.Nat.{_≤_, _/_, _^_}
-use lib.Count.{ones, ones-le}
+use lib.Count.{ones}
 use borrow.Author.Needs.{needs}
 use Rattle.lists.specs.Select.{tally-most}
 use Rattle.set_bits.specs.Counted.{digitTest}

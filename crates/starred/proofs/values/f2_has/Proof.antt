@@ -1,4 +1,4 @@
-use mathlib.Core.Path.{_≡_, ap, _∙_}
+use mathlib.Core.Path.{ap, _∙_}
 use borrow.Author.Needs.{needs}
 use Rattle.selected_entry.specs.SelectedEntry.{EntryAnswer}
 use Rattle.starred_table.specs.Entries.{isValue}

@@ -1,9 +1,7 @@
 use borrow.Author.Needs.{needs}
-use native.Mathlib.Omega.{arith}
-use Prim.Native.Nat.{ℕ, _≤_, _<_, _-_, _+_}
-use mathlib.Core.Path.{_≡_, refl, ap, sym, _∙_}
+use Prim.Native.Nat.{_-_}
+use mathlib.Core.Path.{refl}
 use Rattle.bits.specs.Bits.{bitAt}
-use lib.ListN.{length, getD}
 use Rattle.words.proofs.bit_words.bit.Statement.{statement}
 use Rattle.words.proofs.bit_words.bit.Tie as tie
 use Rattle.words.proofs.bit_words.bit.Reads as reads

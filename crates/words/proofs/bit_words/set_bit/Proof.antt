@@ -1,14 +1,14 @@
 use borrow.Author.Needs.{needs}
 use native.Mathlib.Omega.{arith}
-use Prim.Native.Nat.{ℕ, _≤_, _<_, _-_, _+_, _*_, _/_, _%_, _^_}
-use mathlib.Core.Path.{_≡_, refl, ap, sym, _∙_}
+use Prim.Native.Nat.{ℕ, _≤_, _-_, _*_, _/_, _%_, _^_}
+use mathlib.Core.Path.{_≡_, ap, _∙_}
 use native.Mathlib.Nat.{one-mul}
 use mathlib.Core.List.{List}
 use denote.Ref.{now}
 use lib.Dec.{lit≤}
 use lib.Bits.{bitOr}
 use lib.Pow.{shl-exact}
-use lib.ListN.{length, getD, set}
+use lib.ListN.{getD, set}
 use Rattle.words.proofs.bit_words.set_bit.Statement.{statement}
 use Rattle.words.proofs.bit_words.set_bit.Tie as tie
 use Rattle.words.proofs.bit_words.set_bit.Reads as reads
