@@ -1,2 +1,1 @@
 // Document 01's starred cases: what each says, as one table. No code.
-// Theory only: see specs/.
