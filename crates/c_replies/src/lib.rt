@@ -9,7 +9,6 @@ ghost use Rattle.requests_reader.specs.Reader.{readReply};
 ghost use Rattle.c_replies.specs.Numbers.{statusNumber, selectedNumbers, entryNumbers, countedNumbers, pairNumbers, requestsNumbers, floorNumbers, leastNumbers};
 use dependency_chain::Chain;
 use diagnostics::Selected;
-use diagnostics::SelectedInverseDiagnostics;
 use diagnostics::SelectedInverseStatus;
 use floor::Stabilized;
 use least::CountAndLeast;

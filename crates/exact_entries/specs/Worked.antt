@@ -146,14 +146,14 @@ unfolding any sumTo picked select cellCount ofInt ofBits ne factorPairs reach me
 F2-answer = refl
 
 -- so the lookup of (1, 0), and of (0, 1), gives a number equal to -2
-pub F2-reads-below : (v : Float) × (F2-found (selectionOf F2-call) 1 0 ≡ answered v) × Whole v (negsuc 1)
+F2-reads-below : (v : Float) × (F2-found (selectionOf F2-call) 1 0 ≡ answered v) × Whole v (negsuc 1)
 F2-reads-below = F2-reads .members F2-complete 1 0 F2-below
 
-pub F2-reads-exchanged : (v : Float) × (F2-found (selectionOf F2-call) 0 1 ≡ answered v) × Whole v (negsuc 1)
+F2-reads-exchanged : (v : Float) × (F2-found (selectionOf F2-call) 0 1 ≡ answered v) × Whole v (negsuc 1)
 F2-reads-exchanged = F2-reads .members F2-complete 0 1 F2-below
 
 -- and that of (2, 0), which is in no set of F2's pairs, 8
-pub F2-reads-outside : F2-found (selectionOf F2-call) 2 0 ≡ refused 8
+F2-reads-outside : F2-found (selectionOf F2-call) 2 0 ≡ refused 8
 F2-reads-outside = F2-reads .others F2-complete 2 0 (λ p. let h = F2-lower cholesky _ 3 (roomOf F2-lent) F2-accepted 2 0 p in omega (arith, h .1))
 
 -- ---- the same call, by the laws that the theorem is made of

@@ -17,26 +17,26 @@ use Rattle.result.specs.Halving.{halvingIn, candidate, standing, halvedP
 use Rattle.result.specs.Lookup.{columnFaults, searchSteps, entrySteps, entryPlace, lookupPlace, entryOf, lookup, resultSteps, diagSteps, diagonals, coverage}
 
 -- F2's result has F2's starts and rows, and these values
-abbrev pub F2-inverse : List Float
-F2-inverse = whole 5 ∷ ofInt binary64 (negsuc 1) ∷ whole 1 ∷ []
+abbrev pub F2-result-values : List Float
+F2-result-values = whole 5 ∷ ofInt binary64 (negsuc 1) ∷ whole 1 ∷ []
 
-F2-first : lookup F2-starts F2-rows F2-inverse 0 0 ≡ answered (whole 5)
+F2-first : lookup F2-starts F2-rows F2-result-values 0 0 ≡ answered (whole 5)
 unfolding entryOf entrySteps searchSteps columnFaults first any anyIn placeFrom
 F2-first = refl
 
-F2-below : lookup F2-starts F2-rows F2-inverse 1 0 ≡ answered (ofInt binary64 (negsuc 1))
+F2-below : lookup F2-starts F2-rows F2-result-values 1 0 ≡ answered (ofInt binary64 (negsuc 1))
 unfolding entryOf entrySteps searchSteps columnFaults first any anyIn placeFrom
 F2-below = refl
 
-F2-exchanged : lookup F2-starts F2-rows F2-inverse 0 1 ≡ answered (ofInt binary64 (negsuc 1))
+F2-exchanged : lookup F2-starts F2-rows F2-result-values 0 1 ≡ answered (ofInt binary64 (negsuc 1))
 unfolding entryOf entrySteps searchSteps columnFaults first any anyIn placeFrom
 F2-exchanged = refl
 
-F2-outside : lookup F2-starts F2-rows F2-inverse 2 0 ≡ refused 8
+F2-outside : lookup F2-starts F2-rows F2-result-values 2 0 ≡ refused 8
 unfolding entryOf entrySteps searchSteps columnFaults first any anyIn placeFrom
 F2-outside = refl
 
-F2-diagonals : diagonals F2-starts F2-rows F2-inverse ≡ whole 5 ∷ whole 1 ∷ []
+F2-diagonals : diagonals F2-starts F2-rows F2-result-values ≡ whole 5 ∷ whole 1 ∷ []
 unfolding diagonals tabulate entryOf entrySteps searchSteps columnFaults first any anyIn placeFrom
 F2-diagonals = refl
 
