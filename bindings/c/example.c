@@ -24,6 +24,15 @@ int main(void)
     double diagonal[2];
     uint8_t marks[2];
 
+    /* The factor's lists may be checked before they are used; rows that do not ascend are refused with 3. */
+    const uint32_t falling[] = {1, 0, 1};
+    uint32_t refusal = redstartgilt_check_factor(
+        2, starts, COUNT(starts), rows, COUNT(rows), values, COUNT(values));
+    printf("factor: refusal %u\n", (unsigned)refusal);
+    refusal = redstartgilt_check_factor(
+        2, starts, COUNT(starts), falling, COUNT(falling), values, COUNT(values));
+    printf("factor with falling rows: refusal %u\n", (unsigned)refusal);
+
     redstartgilt_selected reply = redstartgilt_selected_inverse_entries_with_limit(
         2, starts, COUNT(starts), rows, COUNT(rows), values, COUNT(values),
         2, request_rows, COUNT(request_rows), request_columns, COUNT(request_columns),
@@ -66,7 +75,7 @@ int main(void)
         result_starts, COUNT(result_starts), result_rows, COUNT(result_rows), result_values, COUNT(result_values), 0, 1);
     printf("lookup (0, 1) in a well-formed result: refusal %u, %.17g\n", (unsigned)entry.refusal, entry.value);
     const uint32_t falling_rows[] = {1, 0, 1};
-    uint32_t refusal = redstartgilt_check_result(
+    refusal = redstartgilt_check_result(
         result_starts, COUNT(result_starts), result_rows, COUNT(result_rows), result_values, COUNT(result_values));
     printf("result: refusal %u", (unsigned)refusal);
     refusal = redstartgilt_check_result(

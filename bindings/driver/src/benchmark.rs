@@ -6,9 +6,10 @@
 //! are allocated before and reused, and its scratch is 0 from the run before; the Rust allocates in each run. Tables are
 //! in Markdown.
 
-use crate::call::{Call, Function};
+use crate::call::Call;
 use crate::chains::Chains;
 use crate::compare::{call_of, differences};
+use crate::function::Function;
 use crate::grid::grid;
 use crate::lend::lend;
 use crate::list::List;
@@ -16,6 +17,7 @@ use crate::lookups;
 use crate::random::Random;
 use crate::reading;
 use crate::rules;
+use crate::subjects::{FactorLists, OperatorLists, PermutationLists, RequestLists, RowPairLists};
 use crate::text::{Block, Blocks};
 use std::fs::File;
 use std::io::{self, BufRead, BufReader, Write};
@@ -68,7 +70,7 @@ fn median_ms(call: &mut Call, runs: usize) -> f64 {
 
 /// The median time of setting to 0 the scratch words that every answer leaves 0: no call can take less.
 fn clearing_ms(call: &mut Call, runs: usize) -> f64 {
-    let used = rules::cleared_words(call.function, call.n);
+    let used = rules::cleared_words(call.function, call.dimension());
     median_of(runs, || std::hint::black_box(&mut call.scratch[..used]).fill(0))
 }
 
@@ -230,11 +232,9 @@ pub fn rows_of_covariances(folder: &Path, runs: usize) -> io::Result<()> {
             return Err(io::Error::other(format!("{name}: the covariances differ")));
         }
         let mut joined = Block::new(&case.name, "opvar");
-        joined.put_factor(&blocks);
-        joined.put("ncols", blocks.n);
-        joined.put_numbers("ostarts", &[0, blocks.columns.len() as u32]);
-        joined.put_numbers("ocols", &blocks.columns);
-        joined.put_values("oweights", &blocks.weights);
+        joined.put_factor(&blocks.factor);
+        let row_starts = List::new(&[0, blocks.operator.columns.len() as u32]);
+        joined.put_operator(&OperatorLists { row_starts, ..blocks.operator });
         let row = row(folder, &joined, &call, runs)?;
         if row.closure != reply.closure {
             return Err(io::Error::other(format!("{name}: the Rust computes other entries")));
@@ -246,15 +246,14 @@ pub fn rows_of_covariances(folder: &Path, runs: usize) -> io::Result<()> {
 
 /// The call for the covariances of each row of an operator with each.
 fn all_covariances(call: &Call) -> Call {
-    let rows = call.row_starts.len() - 1;
+    let rows = call.operator.rows();
     Call {
         function: Function::Covariances,
-        b_dimension: call.dimension,
-        b_row_starts: call.row_starts.clone(),
-        b_columns: call.columns.clone(),
-        b_weights: call.weights.clone(),
-        a_rows: List::made(rows * rows, |at| (at / rows) as u32),
-        b_rows: List::made(rows * rows, |at| (at % rows) as u32),
+        other: call.operator.clone(),
+        row_pairs: RowPairLists {
+            a_rows: List::made(rows * rows, |at| (at / rows) as u32),
+            b_rows: List::made(rows * rows, |at| (at % rows) as u32),
+        },
         ..call.clone()
     }
 }
@@ -280,13 +279,15 @@ fn row_of_chains(folder: &Path, name: &str, asked: &Call, runs: usize) -> io::Re
     let requests: Vec<(usize, usize)> = rules::requested(asked).listed().collect();
     let mut call = Call {
         function: Function::DependencyChain,
-        dimension: asked.n,
-        request_rows: List::made(requests.len(), |at| requests[at].0 as u32),
-        request_columns: List::made(requests.len(), |at| requests[at].1 as u32),
+        requests: RequestLists {
+            dimension: asked.factor.n,
+            rows: List::made(requests.len(), |at| requests[at].0 as u32),
+            columns: List::made(requests.len(), |at| requests[at].1 as u32),
+        },
         ..asked.clone()
     };
     let chains = Chains::of(&call);
-    (call.row, call.column) = chains.farthest();
+    (call.pair.row, call.pair.column) = chains.farthest();
     let mut made = lent(call.clone());
     let expected = rules::expected(made.clone());
     let reply = made.make();
@@ -294,10 +295,10 @@ fn row_of_chains(folder: &Path, name: &str, asked: &Call, runs: usize) -> io::Re
         return Err(io::Error::other(format!("{name}: the chains differ")));
     }
     let mut closing = Block::new("closing", "closing");
-    closing.put_factor(&call);
-    closing.put("rdim", call.n);
-    closing.put_numbers("rrows", &call.request_rows);
-    closing.put_numbers("rcols", &call.request_columns);
+    closing.put_factor(&call.factor);
+    closing.put("rdim", call.requests.dimension);
+    closing.put_numbers("rrows", &call.requests.rows);
+    closing.put_numbers("rcols", &call.requests.columns);
     let row = timed(folder, &closing, &call, runs)?;
     let met = if row.ratio <= CHAIN_TARGET { "met" } else { "missed" };
     println!(
@@ -323,16 +324,13 @@ pub fn rows_of_patterns(folder: &Path, runs: usize) -> io::Result<()> {
         let items = match asked.function {
             Function::OriginalDiag => {
                 list = Block::new(&case.name, "patfactor");
-                list.put_factor(&asked);
-                asked.rows.len()
+                list.put_factor(&asked.factor);
+                asked.factor.rows.len()
             }
             Function::OperatorVariances => {
                 list = Block::new(&case.name, "patoperator");
-                list.put("ncols", asked.n);
-                list.put_numbers("ostarts", &asked.row_starts);
-                list.put_numbers("ocols", &asked.columns);
-                list.put_values("oweights", &asked.weights);
-                asked.columns.len()
+                list.put_operator(&asked.operator);
+                asked.operator.columns.len()
             }
             _ => return Ok(()),
         };
@@ -356,12 +354,13 @@ fn diagonal_of(side: usize, nested: bool) -> Call {
     let grid = grid(side, nested);
     Call {
         function: Function::OriginalDiag,
-        n: side * side,
-        dimension: side * side,
-        starts: List::new(&grid.starts),
-        rows: List::new(&grid.rows),
-        values: List::new(&grid.values),
-        orig_to_perm: List::new(&grid.orig_to_perm),
+        factor: FactorLists {
+            n: side * side,
+            starts: List::new(&grid.starts),
+            rows: List::new(&grid.rows),
+            values: List::new(&grid.values),
+        },
+        permutation: PermutationLists { orig_to_perm: List::new(&grid.orig_to_perm), ..PermutationLists::default() },
         ..Call::default()
     }
 }
@@ -374,21 +373,21 @@ fn growth(folder: &Path, runs: usize) -> io::Result<()> {
             for side in [16, 23, 32, 45] {
                 let call = diagonal_of(side, nested);
                 let mut case = Block::new(&format!("{side}"), if first { "entries" } else { "diagorig" });
-                case.put_factor(&call);
+                case.put_factor(&call.factor);
                 if first {
-                    case.put("rdim", call.n);
+                    case.put("rdim", call.factor.n);
                     case.put_numbers("rrows", &[0]);
                     case.put_numbers("rcols", &[0]);
                     case.put("limit", "default");
                 } else {
-                    case.put_numbers("perm", &call.orig_to_perm);
+                    case.put_numbers("perm", &call.permutation.orig_to_perm);
                 }
                 let row = row(folder, &case, &call_of(&case), runs)?;
                 println!(
                     "| {side}x{side} {} | {} | {} | {} | {} | {:.3} | {:.0} | {:.3} | {:.3} |",
                     if nested { "nested" } else { "natural" },
-                    call.n,
-                    call.rows.len(),
+                    call.factor.n,
+                    call.factor.rows.len(),
                     if first { "(0,0)" } else { "all diagonals" },
                     row.closure,
                     row.ours,
@@ -412,8 +411,7 @@ fn split(runs: usize) {
         for side in [16, 23, 32, 45] {
             let call = Call {
                 function: Function::EntriesWithLimit,
-                request_rows: List::new(&[0]),
-                request_columns: List::new(&[0]),
+                requests: RequestLists { dimension: side * side, rows: List::new(&[0]), columns: List::new(&[0]) },
                 limit: usize::MAX,
                 ..diagonal_of(side, nested)
             };

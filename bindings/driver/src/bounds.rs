@@ -1,13 +1,15 @@
 //! Calls at the bounds.
 
-use crate::call::{Call, Function, FUNCTIONS};
+use crate::call::Call;
 use crate::files::plain_file;
+use crate::function::{Function, FUNCTIONS};
 use crate::lend::lend;
 use crate::list::List;
 use crate::matrix_market::HEADER;
 use crate::random::Random;
 use crate::refusals::{MOST_COLUMNS, MOST_ENTRIES};
 use crate::sound::sound;
+use crate::subjects::{FactorLists, OperatorLists, Pair, PairLists, RequestLists, RowPairLists};
 
 /// Calls on both sides of each bound of document 01's step 1, and of those of files; those within it are accepted, or
 /// refused by a later step.
@@ -20,41 +22,43 @@ pub fn bounds() -> Vec<Call> {
         calls.extend(FUNCTIONS.map(|function| sound(function, n, &mut random)));
         // an operator of n rows over a small factor
         for function in [Function::OperatorVariances, Function::OperatorPattern] {
-            let call = sound(function, 2, &mut random);
-            calls.push(Call { row_starts: long(n + 1), columns: long(0), weights: zeros(0), ..call });
+            let mut call = sound(function, 2, &mut random);
+            call.operator =
+                OperatorLists { row_starts: long(n + 1), columns: long(0), weights: zeros(0), ..call.operator };
+            calls.push(call);
         }
         // two operators, one of them of n rows, the last of them in a row pair
-        let rows = |count: usize| List::made(count + 1, |at| u32::from(at == count));
-        let (column, weight) = (long(1), List::made(1, |_| 2.0));
-        let pair = |row: usize| List::new(&[row as u32, 0]);
-        let two = Call {
-            row_starts: rows(n),
-            columns: column.clone(),
-            weights: weight.clone(),
-            b_row_starts: rows(1),
-            b_columns: column.clone(),
-            b_weights: weight.clone(),
-            a_rows: pair(n - 1),
-            b_rows: pair(0),
-            ..sound(Function::Covariances, 2, &mut random)
+        let operator = |rows: usize| OperatorLists {
+            ncols: 2,
+            row_starts: List::made(rows + 1, |at| u32::from(at == rows)),
+            columns: long(1),
+            weights: List::made(1, |_| 2.0),
         };
-        calls.push(Call {
-            row_starts: rows(1),
-            b_row_starts: rows(n),
-            a_rows: pair(0),
-            b_rows: pair(n - 1),
-            ..two.clone()
-        });
-        calls.push(two);
+        let row_pair =
+            |a: usize, b: usize| RowPairLists { a_rows: List::new(&[a as u32, 0]), b_rows: List::new(&[b as u32, 0]) };
+        let two = sound(Function::Covariances, 2, &mut random);
+        for (a, b) in [(1, n), (n, 1)] {
+            let row_pairs = row_pair(a - 1, b - 1);
+            calls.push(Call { operator: operator(a), other: operator(b), row_pairs, ..two.clone() });
+        }
         // one of two lists alone passes the bound
-        calls.push(Call { orig_to_perm: long(1), ..sound(Function::Validate, n, &mut random) });
-        calls.push(Call { perm_to_orig: long(1), ..sound(Function::Validate, n, &mut random) });
-        calls.push(Call { orig_to_perm: long(1), ..sound(Function::Reorder, n, &mut random) });
-        calls.push(Call { input: zeros(1), ..sound(Function::Reorder, n, &mut random) });
-        calls.push(Call { orig_to_perm: long(1), ..sound(Function::ReorderMarked, n, &mut random) });
-        calls.push(Call { input: zeros(1), ..sound(Function::ReorderMarked, n, &mut random) });
-        calls.push(Call { marks: List::made(n, |_| 1), ..sound(Function::ReorderMarked, 1, &mut random) });
-        calls.push(Call { orig_to_perm: long(n), ..sound(Function::OriginalDiag, 3, &mut random) });
+        let mut one_of_two = |function: Function, change: &dyn Fn(&mut Call)| {
+            let mut call = sound(function, n, &mut random);
+            change(&mut call);
+            calls.push(call);
+        };
+        one_of_two(Function::Validate, &|call| call.permutation.orig_to_perm = long(1));
+        one_of_two(Function::Validate, &|call| call.permutation.perm_to_orig = long(1));
+        for function in [Function::Reorder, Function::ReorderMarked] {
+            one_of_two(function, &|call| call.permutation.orig_to_perm = long(1));
+            one_of_two(function, &|call| call.values.input = zeros(1));
+        }
+        let mut call = sound(Function::ReorderMarked, 1, &mut random);
+        call.values.marks = List::made(n, |_| 1);
+        calls.push(call);
+        let mut call = sound(Function::OriginalDiag, 3, &mut random);
+        call.permutation.orig_to_perm = long(n);
+        calls.push(call);
     }
     for count in [MOST_ENTRIES, MOST_ENTRIES + 1] {
         // stored entries: the starts are those of another factor
@@ -65,29 +69,36 @@ pub fn bounds() -> Vec<Call> {
             Function::OperatorVariances,
             Function::Covariances,
             Function::DependencyChain,
+            Function::CheckFactor,
             Function::FactorPattern,
         ] {
-            let call = sound(function, 3, &mut random);
-            calls.push(Call { rows: long(count), values: zeros(count), ..call });
+            let mut call = sound(function, 3, &mut random);
+            (call.factor.rows, call.factor.values) = (long(count), zeros(count));
+            calls.push(call);
         }
         // requests: of so many one pair is distinct
         for function in [Function::EntriesWithLimit, Function::Entries, Function::DependencyChain] {
-            let call = sound(function, 3, &mut random);
-            calls.push(Call { request_rows: long(count), request_columns: long(count), ..call });
-            let call = sound(function, 3, &mut random);
-            calls.push(Call { request_columns: long(count), ..call });
+            let mut call = sound(function, 3, &mut random);
+            (call.requests.rows, call.requests.columns) = (long(count), long(count));
+            calls.push(call);
+            let mut call = sound(function, 3, &mut random);
+            call.requests.columns = long(count);
+            calls.push(call);
         }
         // operator terms: the row starts are those of another operator
         for function in [Function::OperatorVariances, Function::OperatorPattern, Function::Covariances] {
-            let call = sound(function, 3, &mut random);
-            calls.push(Call { columns: long(count), weights: zeros(count), ..call });
+            let mut call = sound(function, 3, &mut random);
+            (call.operator.columns, call.operator.weights) = (long(count), zeros(count));
+            calls.push(call);
         }
-        let call = sound(Function::Covariances, 3, &mut random);
-        calls.push(Call { b_columns: long(count), b_weights: zeros(count), ..call });
+        let mut call = sound(Function::Covariances, 3, &mut random);
+        (call.other.columns, call.other.weights) = (long(count), zeros(count));
+        calls.push(call);
         calls.extend(row_pairs(count));
         for function in [Function::FloorZero, Function::FloorMean, Function::Least] {
-            let call = sound(function, 3, &mut random);
-            calls.push(Call { input: List::made(count, |at| at as f64 - 9.0), ..call });
+            let mut call = sound(function, 3, &mut random);
+            call.values.input = List::made(count, |at| at as f64 - 9.0);
+            calls.push(call);
         }
     }
     // as many stored entries as are allowed: every row of the last columns
@@ -104,22 +115,15 @@ pub fn bounds() -> Vec<Call> {
         starts.push(rows.len() as u32);
     }
     assert_eq!(rows.len(), MOST_ENTRIES);
-    let values: Vec<f64> = rows.iter().map(|&r| 1.0 + r as f64 / 4096.0).collect();
-    for function in [Function::FactorPattern, Function::Entries, Function::DependencyChain] {
-        let call = sound(function, 0, &mut random);
-        let (starts, rows, values) = (List::new(&starts), List::new(&rows), List::new(&values));
-        let request = || List::new(&[(n - n / 4) as u32]);
+    let values = List::made(rows.len(), |at| 1.0 + rows[at] as f64 / 4096.0);
+    let factor = FactorLists { n, starts: List::new(&starts), rows: List::new(&rows), values };
+    let request = List::new(&[(n - n / 4) as u32]);
+    for function in [Function::CheckFactor, Function::FactorPattern, Function::Entries, Function::DependencyChain] {
         calls.push(Call {
-            n,
-            dimension: n,
-            starts,
-            rows,
-            values,
-            request_rows: request(),
-            request_columns: request(),
-            row: n - 1,
-            column: n - 1,
-            ..call
+            factor: factor.clone(),
+            requests: RequestLists { dimension: n, rows: request.clone(), columns: request.clone() },
+            pair: Pair { row: n - 1, column: n - 1 },
+            ..sound(function, 0, &mut random)
         });
     }
     calls.extend(pairs());
@@ -131,15 +135,16 @@ pub fn bounds() -> Vec<Call> {
     // the longest chain with a list one place short
     let longest = calls.iter().rfind(|call| call.function == Function::DependencyChain).expect("made above").clone();
     let words = |count: usize| List::made(count, |at| at as u32);
-    let length = longest.pair_rows.len();
+    let length = longest.pairs.rows.len();
     assert_eq!(length, 2 * MOST_COLUMNS - 1);
-    calls.push(Call { pair_rows: words(length - 1), ..longest.clone() });
-    calls.push(Call { pair_columns: words(length - 1), ..longest.clone() });
+    let pair_lists = |rows: usize, columns: usize| PairLists { rows: words(rows), columns: words(columns) };
+    calls.push(Call { pairs: pair_lists(length - 1, length), ..longest.clone() });
+    calls.push(Call { pairs: pair_lists(length, length - 1), ..longest.clone() });
     calls.push(Call { scratch: words(longest.scratch.len() - 1), ..longest });
     // files of as many entries as are allowed, with a list one place short
     let longest = file(&longest_file(MOST_ENTRIES));
     for (rows, columns) in [(MOST_ENTRIES - 1, MOST_ENTRIES), (MOST_ENTRIES, MOST_ENTRIES - 1)] {
-        calls.push(Call { request_rows: words(rows), request_columns: words(columns), ..longest.clone() });
+        calls.push(Call { pairs: pair_lists(rows, columns), ..longest.clone() });
     }
     calls
 }
@@ -148,38 +153,46 @@ pub fn bounds() -> Vec<Call> {
 /// terms in a row of A, or of B.
 fn row_pairs(count: usize) -> Vec<Call> {
     let words = |count: usize, of: fn(usize) -> usize| List::made(count, |at| of(at) as u32);
-    let small = Call {
-        function: Function::Covariances,
-        n: 2,
-        starts: List::new(&[0, 2, 3]),
-        rows: List::new(&[0, 1, 1]),
-        values: List::new(&[1.0, 2.0, 1.0]),
-        dimension: 2,
-        row_starts: List::new(&[0, 1, 1, 3]),
-        columns: List::new(&[0, 0, 1]),
-        weights: List::new(&[1.0, 3.0, 0.5]),
-        b_dimension: 2,
-        b_row_starts: List::new(&[0, 2, 3]),
-        b_columns: List::new(&[1, 0, 1]),
-        b_weights: List::new(&[1.5, -2.0, 4.0]),
-        ..Call::default()
-    };
-    let pairs =
-        |a: usize, b: usize| Call { a_rows: words(a, |at| at % 3), b_rows: words(b, |at| at % 2), ..small.clone() };
-    let long_a = Call {
+    let long = OperatorLists {
+        ncols: 2,
         row_starts: List::new(&[0, count as u32]),
         columns: words(count, |at| at % 2),
         weights: List::made(count, |at| (at % 5) as f64 - 2.0),
-        a_rows: words(2, |_| 0),
-        b_rows: words(2, |at| at),
+    };
+    let small = Call {
+        function: Function::Covariances,
+        factor: FactorLists {
+            n: 2,
+            starts: List::new(&[0, 2, 3]),
+            rows: List::new(&[0, 1, 1]),
+            values: List::new(&[1.0, 2.0, 1.0]),
+        },
+        operator: OperatorLists {
+            ncols: 2,
+            row_starts: List::new(&[0, 1, 1, 3]),
+            columns: List::new(&[0, 0, 1]),
+            weights: List::new(&[1.0, 3.0, 0.5]),
+        },
+        other: OperatorLists {
+            ncols: 2,
+            row_starts: List::new(&[0, 2, 3]),
+            columns: List::new(&[1, 0, 1]),
+            weights: List::new(&[1.5, -2.0, 4.0]),
+        },
+        ..Call::default()
+    };
+    let pairs = |a: usize, b: usize| Call {
+        row_pairs: RowPairLists { a_rows: words(a, |at| at % 3), b_rows: words(b, |at| at % 2) },
+        ..small.clone()
+    };
+    let long_a = Call {
+        operator: long.clone(),
+        row_pairs: RowPairLists { a_rows: words(2, |_| 0), b_rows: words(2, |at| at) },
         ..small.clone()
     };
     let long_b = Call {
-        b_row_starts: List::new(&[0, count as u32]),
-        b_columns: words(count, |at| at % 2),
-        b_weights: List::made(count, |at| (at % 5) as f64 - 2.0),
-        a_rows: words(2, |at| 2 * at),
-        b_rows: words(2, |_| 0),
+        other: long,
+        row_pairs: RowPairLists { a_rows: words(2, |at| 2 * at), b_rows: words(2, |_| 0) },
         ..small.clone()
     };
     vec![pairs(count, count), pairs(count, 1), pairs(0, count), pairs(1, count), long_a, long_b]
@@ -192,20 +205,21 @@ fn pairs() -> Vec<Call> {
     for n in [1, 2, MOST_COLUMNS] {
         let band = Call {
             function: Function::DependencyChain,
-            n,
-            dimension: n,
-            starts: List::made(n + 1, |c| (2 * c).min(2 * n - 1) as u32),
-            rows: List::made(2 * n - 1, |p| p.div_ceil(2) as u32),
-            values: List::made(2 * n - 1, |_| 1.0),
-            request_rows: List::new(&[0]),
-            request_columns: List::new(&[0]),
+            factor: FactorLists {
+                n,
+                starts: List::made(n + 1, |c| (2 * c).min(2 * n - 1) as u32),
+                rows: List::made(2 * n - 1, |p| p.div_ceil(2) as u32),
+                values: List::made(2 * n - 1, |_| 1.0),
+            },
+            requests: RequestLists { dimension: n, rows: List::new(&[0]), columns: List::new(&[0]) },
             ..Call::default()
         };
+        let mut pair = |row: usize, column: usize| calls.push(Call { pair: Pair { row, column }, ..band.clone() });
         for outside in [n, (1 << 32) + n - 1, usize::MAX] {
-            calls.push(Call { row: outside, column: n - 1, ..band.clone() });
-            calls.push(Call { row: n - 1, column: outside, ..band.clone() });
+            pair(outside, n - 1);
+            pair(n - 1, outside);
         }
-        calls.push(Call { row: n - 1, column: n - 1, ..band });
+        pair(n - 1, n - 1);
     }
     calls
 }

@@ -29,7 +29,7 @@ pub struct Chains {
 impl Chains {
     /// The factor is sound and no request is outside. In one sweep by column then row a pair is met after all that lead to it.
     pub fn of(call: &Call) -> Self {
-        let (n, factor, requests) = (call.n, Factor::kept(call), requested(call));
+        let (n, factor, requests) = (call.factor.n, Factor::kept(&call.factor), requested(call));
         let pairs = triangle(n);
         let (lengths, before, several) = (vec![0; pairs], vec![(0, 0); pairs], vec![false; pairs]);
         let mut chains = Chains { n, lengths, before, several };
@@ -98,7 +98,7 @@ impl Chains {
 
 /// The chain to a pair, chosen among all chains that there are: for small factors alone.
 pub fn chosen(call: &Call, pair: Pair) -> Vec<Pair> {
-    let factor = Factor::kept(call);
+    let factor = Factor::kept(&call.factor);
     let mut best = Vec::new();
     for request in requested(call).listed() {
         each_chain(&factor, &mut vec![request], pair, &mut best);

@@ -5,14 +5,19 @@
 //! document 01 refuses, or document 02 a factor that is not finite, it is that refusal, and how the Rust differs is
 //! counted.
 
-use crate::call::{Call, Function, Reply, LOOKUPS};
+use crate::call::Call;
 use crate::chains::{chosen, Chains};
 use crate::expected::Expected;
+use crate::function::{Function, LOOKUPS};
 use crate::lend::lend;
 use crate::list::List;
 use crate::random::Random;
 use crate::refusals::refusal;
+use crate::reply::Reply;
 use crate::rules;
+use crate::subjects::{
+    EntryLists, FactorLists, OperatorLists, Pair, PermutationLists, RequestLists, ResultLists, RowPairLists, ValueLists,
+};
 use crate::text::{value, Block, Blocks};
 use redstartgilt::sys;
 use std::collections::BTreeMap;
@@ -162,38 +167,55 @@ pub fn differences(case: &Block, answer: &Block) -> usize {
 /// The call of a case, without the lists lent for writing; `get` takes its pairs one by one.
 pub fn call_of(case: &Block) -> Call {
     let (words, values) = (|name| List::new(&case.numbers(name)), |name| List::new(&case.values(name)));
-    let result = || Call { starts: words("starts"), rows: words("rows"), values: values("values"), ..Call::default() };
-    let factor = |function| Call { function, n: case.number("n"), ..result() };
-    let operator =
-        |call| Call { row_starts: words("ostarts"), columns: words("ocols"), weights: values("oweights"), ..call };
+    let entries = || EntryLists { starts: words("starts"), rows: words("rows"), values: values("values") };
+    let factor = |function| Call {
+        function,
+        factor: FactorLists {
+            n: case.number("n"),
+            starts: words("starts"),
+            rows: words("rows"),
+            values: values("values"),
+        },
+        ..Call::default()
+    };
+    let operator = || OperatorLists {
+        ncols: case.number("ncols"),
+        row_starts: words("ostarts"),
+        columns: words("ocols"),
+        weights: values("oweights"),
+    };
+    let permutation = || PermutationLists { orig_to_perm: words("perm"), perm_to_orig: words("inv") };
+    let input = || ValueLists { input: values("input"), ..ValueLists::default() };
     let simple = |function| Call { function, ..Call::default() };
     match case.kind.as_str() {
         "entries" => {
             let default = case.field("limit") == "default";
-            let call = factor(if default { Function::Entries } else { Function::EntriesWithLimit });
-            Call {
-                dimension: case.number("rdim"),
-                request_rows: words("rrows"),
-                request_columns: words("rcols"),
-                limit: if default { 0 } else { case.number("limit") },
-                ..call
+            let requests =
+                RequestLists { dimension: case.number("rdim"), rows: words("rrows"), columns: words("rcols") };
+            if default {
+                Call { requests, ..factor(Function::Entries) }
+            } else {
+                Call { requests, limit: case.number("limit"), ..factor(Function::EntriesWithLimit) }
             }
         }
-        "defaultlimit" => Call { dimension: case.number("n"), ..factor(Function::Entries) },
-        "get" => Call { function: Function::Get, ..result() },
-        "diag" => Call { function: Function::Diag, ..result() },
-        "diagorig" => Call { orig_to_perm: words("perm"), ..factor(Function::OriginalDiag) },
-        "opvar" => Call { dimension: case.number("ncols"), ..operator(factor(Function::OperatorVariances)) },
+        "defaultlimit" => Call {
+            requests: RequestLists { dimension: case.number("n"), ..RequestLists::default() },
+            ..factor(Function::Entries)
+        },
+        "get" => Call { entries: entries(), ..simple(Function::Get) },
+        "diag" => Call { entries: entries(), ..simple(Function::Diag) },
+        "diagorig" => Call { permutation: permutation(), ..factor(Function::OriginalDiag) },
+        "opvar" => Call { operator: operator(), ..factor(Function::OperatorVariances) },
         "patfactor" => factor(Function::FactorPattern),
-        "patoperator" => Call { n: case.number("ncols"), ..operator(simple(Function::OperatorPattern)) },
-        "permvalidate" => {
-            Call { orig_to_perm: words("perm"), perm_to_orig: words("inv"), ..simple(Function::Validate) }
+        "patoperator" => Call { operator: operator(), ..simple(Function::OperatorPattern) },
+        "permvalidate" => Call { permutation: permutation(), ..simple(Function::Validate) },
+        "permfrom" => Call { permutation: permutation(), ..simple(Function::Inverse) },
+        "permapply" => Call { permutation: permutation(), values: input(), ..simple(Function::Reorder) },
+        "floor" if case.field("floor") == "zero" => Call { values: input(), ..simple(Function::FloorZero) },
+        "floor" => {
+            Call { values: ValueLists { scale: value(case.field("scale")), ..input() }, ..simple(Function::FloorMean) }
         }
-        "permfrom" => Call { orig_to_perm: words("perm"), ..simple(Function::Inverse) },
-        "permapply" => Call { orig_to_perm: words("perm"), input: values("input"), ..simple(Function::Reorder) },
-        "floor" if case.field("floor") == "zero" => Call { input: values("input"), ..simple(Function::FloorZero) },
-        "floor" => Call { input: values("input"), scale: value(case.field("scale")), ..simple(Function::FloorMean) },
-        "least" => Call { input: values("input"), ..simple(Function::Least) },
+        "least" => Call { values: input(), ..simple(Function::Least) },
         kind => panic!("{}: kind {kind}", case.name),
     }
 }
@@ -232,7 +254,7 @@ fn compare_case(case: &Block, answer: &Block, seed: u64, random: &mut Random, ta
         }
         tally.intended(what, case, seed);
     }
-    let small = call.n <= RULES_DIMENSION;
+    let small = call.dimension() <= RULES_DIMENSION;
     let by_rules = (small || case.kind == "defaultlimit").then(|| rules::expected(call.clone()));
     let expected = if number > 0 {
         rules::refused(number, call.clone())
@@ -256,6 +278,10 @@ fn compare_case(case: &Block, answer: &Block, seed: u64, random: &mut Random, ta
     if answer.field("route").contains("DIFFERS") || answer.field("finish").contains("DIFFERS") {
         tally.differs(&["the Rust's own routes or finishing step differ".to_string()], case, &call);
     }
+    let checks = usize::from(call.function.takes_factor());
+    if call.function.takes_factor() {
+        compare_factor_check(&call, number, case, tally);
+    }
     let asked = matches!(call.function, Function::EntriesWithLimit | Function::Entries) && case.kind == "entries";
     let chains = if asked { compare_chains(&call, answer, case, random, tally) } else { 0 };
     let more = match call.function {
@@ -270,7 +296,7 @@ fn compare_case(case: &Block, answer: &Block, seed: u64, random: &mut Random, ta
         }
         _ => 0,
     };
-    1 + chains + more
+    1 + checks + chains + more
 }
 
 /// The refusal that the Rust's answer stands for, 0 where it accepts.
@@ -315,12 +341,12 @@ fn answered(case: &Block, answer: &Block, mut call: Call, by_rules: Option<&Expe
             reply.factor = answer.number("factor");
             reply.limit = answer.number("limit");
             reply.ratio = value(answer.field("ratio"));
-            call.scratch[..rules::scratch_words(call.n)].fill(0);
+            call.scratch[..rules::scratch_words(call.factor.n)].fill(0);
             if complete {
-                fill(&mut call.result_starts, answer.numbers("starts"));
-                fill(&mut call.result_rows, answer.numbers("rows"));
-                values_filled = fill(&mut call.result_values, answer.values("values"));
-                output_filled = fill(&mut call.output, answer.values("out"));
+                fill(&mut call.result.starts, answer.numbers("starts"));
+                fill(&mut call.result.rows, answer.numbers("rows"));
+                values_filled = fill(&mut call.result.values, answer.values("values"));
+                output_filled = fill(&mut call.output.values, answer.values("out"));
             }
         }
         "defaultlimit" => {
@@ -330,30 +356,31 @@ fn answered(case: &Block, answer: &Block, mut call: Call, by_rules: Option<&Expe
             call = rules.after.clone();
         }
         "diag" => {
-            output_filled = fill(&mut call.output, answer.values("diag"));
+            output_filled = fill(&mut call.output.values, answer.values("diag"));
             // the marks are what the Rust's lookup finds
-            fill(&mut call.output_marks, answer.items("gets").map(|word| u8::from(word != "none")).collect());
+            fill(&mut call.output.marks, answer.items("gets").map(|word| u8::from(word != "none")).collect());
         }
         "patfactor" | "patoperator" => {
-            call.scratch[..rules::mark_words(call.n)].fill(0);
-            reply.pairs = fill(&mut call.pair_rows, answer.numbers("prows"));
-            fill(&mut call.pair_columns, answer.numbers("pcols"));
+            let words = rules::mark_words(call.dimension());
+            call.scratch[..words].fill(0);
+            reply.pairs = fill(&mut call.pairs.rows, answer.numbers("prows"));
+            fill(&mut call.pairs.columns, answer.numbers("pcols"));
         }
         "permfrom" => {
-            fill(&mut call.perm_to_orig, answer.numbers("inv"));
+            fill(&mut call.permutation.perm_to_orig, answer.numbers("inv"));
         }
-        "permapply" => output_filled = fill(&mut call.output, answer.values("out")),
+        "permapply" => output_filled = fill(&mut call.output.values, answer.values("out")),
         "floor" => {
             reply.floor = value(answer.field("floor"));
             reply.hits = answer.number("hits");
-            output_filled = fill(&mut call.output, answer.values("out"));
+            output_filled = fill(&mut call.output.values, answer.values("out"));
         }
         "least" => {
             reply.negative = answer.number("negative");
             reply.least = value(answer.field("least"));
             if reply.least == 0.0 {
                 // document 01's is the earlier zero
-                reply.least = call.input.iter().copied().find(|&x| x == 0.0).unwrap_or(0.0);
+                reply.least = call.values.input.iter().copied().find(|&x| x == 0.0).unwrap_or(0.0);
             }
         }
         _ => {}
@@ -361,22 +388,39 @@ fn answered(case: &Block, answer: &Block, mut call: Call, by_rules: Option<&Expe
     Expected { reply, after: call, values_filled, output_filled }
 }
 
-/// The same values reordered with marks: the values and the refusal as they were without, the marks by document 02.
-fn compare_marked(call: Call, without: &Expected, case: &Block, random: &mut Random, tally: &mut Tally) -> usize {
-    let length = some_more(random, call.orig_to_perm.len());
-    let call = Call {
-        function: Function::ReorderMarked,
-        marks: List::made(call.input.len(), |_| random.bits() as u8),
-        output_marks: List::made(length, |_| random.bits() as u8),
-        ..call
-    };
-    let mut expected = rules::expected(call.clone());
-    expected.reply = without.reply;
-    expected.after.output = without.after.output.clone();
+/// Makes a call; its reply, and what differs from what is expected, told.
+fn compare_call(call: Call, expected: &Expected, case: &Block, tally: &mut Tally) {
     let mut made = call.clone();
     let reply = made.make();
     tally.replied(&call, &reply);
     tally.differs(&expected.differences(&reply, &made), case, &call);
+}
+
+/// The check of a call's factor: it must refuse with 2, 3 and 18 exactly where the call is refused so, and with 1 only
+/// where the call is, which has other lists to refuse with 1 for.
+fn compare_factor_check(call: &Call, number: u32, case: &Block, tally: &mut Tally) {
+    let check = Call { function: Function::CheckFactor, factor: call.factor.clone(), ..Call::default() };
+    let checked = compare_by_rules(check, case, tally).refusal;
+    let agree = match number {
+        1 => true,
+        2 | 3 | 18 => checked == number,
+        _ => checked == 0,
+    };
+    if !agree {
+        tally.differs(&[format!("check_factor gives {checked}, the call {number}")], case, call);
+    }
+}
+
+/// The same values reordered with marks: the values and the refusal as they were without, the marks by document 02.
+fn compare_marked(call: Call, without: &Expected, case: &Block, random: &mut Random, tally: &mut Tally) -> usize {
+    let length = some_more(random, call.permutation.orig_to_perm.len());
+    let mut call = Call { function: Function::ReorderMarked, ..call };
+    call.values.marks = List::made(call.values.input.len(), |_| random.bits() as u8);
+    call.output.marks = List::made(length, |_| random.bits() as u8);
+    let mut expected = rules::expected(call.clone());
+    expected.reply = without.reply;
+    expected.after.output.values = without.after.output.values.clone();
+    compare_call(call, &expected, case, tally);
     1
 }
 
@@ -384,35 +428,26 @@ fn compare_marked(call: Call, without: &Expected, case: &Block, random: &mut Ran
 /// reply, lists and outputs are as they were, the Rust's; and where the operator is sound, any row pairs, by the driver's
 /// own sums.
 fn compare_covariances(call: Call, same: Expected, case: &Block, random: &mut Random, tally: &mut Tally) -> usize {
-    let rows = call.row_starts.len().saturating_sub(1);
+    let rows = call.operator.rows();
     let each: Vec<u32> = (0..rows as u32).collect();
-    let small = call.n <= RULES_DIMENSION;
+    let small = call.factor.n <= RULES_DIMENSION;
     let two = |call: Call, a_rows: &[u32], b_rows: &[u32]| Call {
         function: Function::Covariances,
-        b_dimension: call.dimension,
-        b_row_starts: call.row_starts.clone(),
-        b_columns: call.columns.clone(),
-        b_weights: call.weights.clone(),
-        a_rows: List::new(a_rows),
-        b_rows: List::new(b_rows),
+        other: call.operator.clone(),
+        row_pairs: RowPairLists { a_rows: List::new(a_rows), b_rows: List::new(b_rows) },
         ..call
     };
-    let mut compared = |call: Call, expected: &Expected| {
-        let mut made = call.clone();
-        let reply = made.make();
-        tally.replied(&call, &reply);
-        tally.differs(&expected.differences(&reply, &made), case, &call);
-    };
     let itself = two(call.clone(), &each, &each);
-    compared(itself, &Expected { after: two(same.after, &each, &each), ..same });
-    if !small || same.reply.refusal > 0 || rows == 0 {
+    let refused = same.reply.refusal > 0;
+    compare_call(itself, &Expected { after: two(same.after, &each, &each), ..same }, case, tally);
+    if !small || refused || rows == 0 {
         return 1;
     }
     let count = random.below(2 * rows + 1);
     let mut some = || (0..count).map(|_| random.below(rows) as u32).collect::<Vec<_>>();
     let mut others = two(call, &some(), &some());
-    others.output = List::made(count, |_| random.any_value());
-    compared(others.clone(), &rules::expected(others));
+    others.output.values = List::made(count, |_| random.any_value());
+    compare_by_rules(others, case, tally);
     2
 }
 
@@ -420,7 +455,7 @@ fn compare_covariances(call: Call, same: Expected, case: &Block, random: &mut Ra
 /// lists it, the second any, a few of them outside. "Not in the set" must be what the Rust's list says; the chain is the
 /// driver's, for small factors held against every chain.
 fn compare_chains(call: &Call, answer: &Block, case: &Block, random: &mut Random, tally: &mut Tally) -> usize {
-    let n = call.n;
+    let n = call.factor.n;
     let complete = refusal(call) == 0 && answer.field("status") == "Complete";
     let (starts, rows) = (answer.numbers("starts"), answer.numbers("rows"));
     let column_of = |p: usize| starts.partition_point(|&start| start as usize <= p) - 1;
@@ -437,11 +472,8 @@ fn compare_chains(call: &Call, answer: &Block, case: &Block, random: &mut Random
         }
         let mut chain = Call {
             function: Function::DependencyChain,
-            row: pair.0,
-            column: pair.1,
-            result_starts: List::default(),
-            result_rows: List::default(),
-            result_values: List::default(),
+            pair: Pair { row: pair.0, column: pair.1 },
+            result: ResultLists::default(),
             ..call.clone()
         };
         lend(&mut chain, random, some_more);
@@ -449,7 +481,7 @@ fn compare_chains(call: &Call, answer: &Block, case: &Block, random: &mut Random
         if reply.refusal > 0 {
             continue;
         }
-        let (row, column) = chain.ordered();
+        let (row, column) = chain.pair.ordered();
         if complete {
             let listed = rows[starts[column] as usize..starts[column + 1] as usize].contains(&(row as u32));
             if listed != (reply.pairs > 0) {
@@ -486,11 +518,8 @@ fn got(word: &str) -> Reply {
 
 /// Makes a call, which must do as the driver's own rules say; the reply that they give.
 fn compare_by_rules(call: Call, case: &Block, tally: &mut Tally) -> Reply {
-    let mut made = call.clone();
-    let reply = made.make();
-    tally.replied(&call, &reply);
     let expected = rules::expected(call.clone());
-    tally.differs(&expected.differences(&reply, &made), case, &call);
+    compare_call(call, &expected, case, tally);
     expected.reply
 }
 
@@ -499,9 +528,11 @@ fn compare_by_rules(call: Call, case: &Block, tally: &mut Tally) -> Reply {
 fn compare_read_back(made: &Call, case: &Block, answer: &Block, tally: &mut Tally) -> usize {
     let mut call = Call {
         function: Function::CheckResult,
-        starts: List::new(&made.result_starts[..made.n + 1]),
-        rows: made.result_rows.clone(),
-        values: made.result_values.clone(),
+        entries: EntryLists {
+            starts: List::new(&made.result.starts[..made.factor.n + 1]),
+            rows: made.result.rows.clone(),
+            values: made.result.values.clone(),
+        },
         ..Call::default()
     };
     let before = call.clone();
@@ -509,7 +540,7 @@ fn compare_read_back(made: &Call, case: &Block, answer: &Block, tally: &mut Tall
         let reply = call.make();
         tally.replied(call, &reply);
         if !expected.same(&reply) {
-            let (name, row, column) = (call.function.name(), call.row, call.column);
+            let (name, row, column) = (call.function.name(), call.pair.row, call.pair.column);
             tally.differs(&[format!("{name} ({row},{column}): {reply:?} in place of {expected:?}")], case, made);
         }
     };
@@ -519,8 +550,8 @@ fn compare_read_back(made: &Call, case: &Block, answer: &Block, tally: &mut Tall
     assert_eq!(gets.len(), pairs.len(), "{}", case.name);
     for (&(row, column), &expected) in pairs.iter().zip(&gets) {
         for function in LOOKUPS {
-            (call.function, call.row, call.column) = (function, row, column);
-            let looks = if function == Function::GetCounted { rules::looks(&call) } else { 0 };
+            (call.function, call.pair) = (function, Pair { row, column });
+            let looks = if function == Function::GetCounted { rules::looks(&call.entries, &call.pair) } else { 0 };
             compared(&mut call, Reply { looks, ..expected });
         }
     }
@@ -537,7 +568,7 @@ fn compare_lookups(mut call: Call, case: &Block, answer: &Block, seed: u64, tall
     let check = Call { function: Function::CheckResult, ..call.clone() };
     let well_formed = compare_by_rules(check, case, tally).refusal == 0;
     for (at, &(row, column)) in pairs.iter().enumerate() {
-        (call.row, call.column) = (row, column);
+        call.pair = Pair { row, column };
         let [expected, _, unchecked] =
             LOOKUPS.map(|function| compare_by_rules(Call { function, ..call.clone() }, case, tally));
         if well_formed && !unchecked.same(&expected) {

@@ -1,8 +1,9 @@
 //! What a call must reply and leave, and how what it did differs.
 
-use crate::call::{Call, Reply};
+use crate::call::Call;
 use crate::list::{Item, List};
-use std::fmt::Debug;
+use crate::reply::Reply;
+use crate::subjects::Part;
 
 pub struct Expected {
     pub reply: Reply,
@@ -25,38 +26,30 @@ impl Expected {
         if !self.reply.same(reply) {
             found.push(format!("reply {reply:?} in place of {:?}", self.reply));
         }
-        for ((name, list), (_, expected)) in call.bytes().into_iter().zip(self.after.bytes()) {
-            number_differences(name, list, expected, &mut found);
-        }
-        for ((name, list), (_, expected)) in call.words().into_iter().zip(self.after.words()) {
-            number_differences(name, list, expected, &mut found);
-        }
-        for ((name, list), (_, expected)) in call.floats().into_iter().zip(self.after.floats()) {
-            let filled = match name {
-                "result_values" => self.values_filled,
-                "output" => self.output_filled,
+        for ((subject, name, part), (_, _, expected)) in call.parts().into_iter().zip(self.after.parts()) {
+            let filled = match (subject, name) {
+                ("result", "values") => self.values_filled,
+                ("output", "values") => self.output_filled,
                 _ => 0,
             };
-            if let Some(at) = list.difference(expected, filled) {
-                let bits = |x: Option<&f64>| x.map(|x| format!("{:016x}", x.to_bits()));
-                found.push(format!(
-                    "{name}[{at}] is {:?} in place of {:?}",
-                    bits(list.get(at)),
-                    bits(expected.get(at))
-                ));
-            }
-            if !list.guards_hold() {
-                found.push(format!("written outside {name}"));
+            let name = format!("{subject} {name}");
+            match (part, expected) {
+                (Part::Count(_), Part::Count(_)) | (Part::Float(_), Part::Float(_)) => {}
+                (Part::Bytes(list), Part::Bytes(expected)) => compare(&name, list, expected, filled, &mut found),
+                (Part::Words(list), Part::Words(expected)) => compare(&name, list, expected, filled, &mut found),
+                (Part::Floats(list), Part::Floats(expected)) => compare(&name, list, expected, filled, &mut found),
+                _ => unreachable!("the parts of a call are of the same types in every call"),
             }
         }
         found
     }
 }
 
-/// The differences of a list of bytes or words.
-fn number_differences<T: Item + Debug>(name: &str, list: &List<T>, expected: &List<T>, found: &mut Vec<String>) {
-    if let Some(at) = list.difference(expected, 0) {
-        found.push(format!("{name}[{at}] is {:?} in place of {:?}", list.get(at), expected.get(at)));
+/// The differences of a list, items by their bits; below `filled` all NaNs are equal.
+fn compare<T: Item>(name: &str, list: &List<T>, expected: &List<T>, filled: usize, found: &mut Vec<String>) {
+    if let Some(at) = list.difference(expected, filled) {
+        let shown = |item: Option<&T>| item.map(|item| item.shown());
+        found.push(format!("{name}[{at}] is {:?} in place of {:?}", shown(list.get(at)), shown(expected.get(at))));
     }
     if !list.guards_hold() {
         found.push(format!("written outside {name}"));

@@ -17,6 +17,8 @@ pub trait Item: Copy + Default {
     const GUARD: Self;
     fn bits(self) -> u64;
     fn is_nan(self) -> bool;
+    /// As it is written out.
+    fn shown(self) -> String;
 }
 
 impl Item for u8 {
@@ -26,6 +28,9 @@ impl Item for u8 {
     }
     fn is_nan(self) -> bool {
         false
+    }
+    fn shown(self) -> String {
+        self.to_string()
     }
 }
 
@@ -37,6 +42,9 @@ impl Item for u32 {
     fn is_nan(self) -> bool {
         false
     }
+    fn shown(self) -> String {
+        self.to_string()
+    }
 }
 
 impl Item for f64 {
@@ -46,6 +54,9 @@ impl Item for f64 {
     }
     fn is_nan(self) -> bool {
         f64::is_nan(self)
+    }
+    fn shown(self) -> String {
+        format!("{:016x}", self.to_bits())
     }
 }
 

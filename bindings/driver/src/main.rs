@@ -7,6 +7,7 @@ mod chains;
 mod compare;
 mod expected;
 mod files;
+mod function;
 mod grid;
 mod lend;
 mod list;
@@ -16,12 +17,14 @@ mod matrix_market;
 mod random;
 mod reading;
 mod refusals;
+mod reply;
 mod rules;
 mod sound;
 mod spoil;
+mod subjects;
 mod text;
 
-use call::FUNCTIONS;
+use function::FUNCTIONS;
 use std::path::Path;
 use std::process::ExitCode;
 

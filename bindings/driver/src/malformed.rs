@@ -6,8 +6,10 @@
 //! results, what the header says.
 
 use crate::bounds::bounds;
-use crate::call::{Call, Function, Reply, FUNCTIONS};
+use crate::call::Call;
+use crate::function::{Function, FUNCTIONS};
 use crate::random::Random;
+use crate::reply::Reply;
 use crate::rules;
 use crate::spoil::random_call;
 use redstartgilt::sys;
@@ -23,7 +25,7 @@ const SHOWN: usize = 20;
 static ENDED: AtomicUsize = AtomicUsize::new(0);
 
 /// The highest refusal.
-const LAST_REFUSAL: usize = 18;
+const LAST_REFUSAL: usize = sys::REDSTARTGILT_NO_REQUESTS as usize;
 
 /// The number of calls that did not do as the documents say; calls `first` to `first + count` of a seed, of every
 /// function or of one alone.

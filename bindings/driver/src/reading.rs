@@ -6,11 +6,13 @@
 //! file, which the system holds in memory, as the readers in C that Matrix Market offers do. Tables are in Markdown.
 
 use crate::benchmark::{machine, processor_ms};
-use crate::call::{Call, Function};
+use crate::call::Call;
 use crate::files::plain_file;
+use crate::function::Function;
 use crate::list::List;
 use crate::random::Random;
 use crate::refusals::{MOST_COLUMNS, MOST_ENTRIES};
+use crate::subjects::PairLists;
 use std::ffi::{c_char, c_int, CString};
 use std::hint::black_box;
 use std::io;
@@ -135,8 +137,7 @@ fn row(pairs: &[[usize; 2]], runs: usize) -> io::Result<Row> {
     let mut call = Call {
         function: Function::ReadRequests,
         text: List::new(&text),
-        request_rows: list(),
-        request_columns: list(),
+        pairs: PairLists { rows: list(), columns: list() },
         ..Call::default()
     };
     let listed = |at: usize| pairs.iter().map(move |pair| pair[at] as u32 - 1);
@@ -145,7 +146,7 @@ fn row(pairs: &[[usize; 2]], runs: usize) -> io::Result<Row> {
 
     let reply = call.make();
     let replied = reply.refusal == 0 && (reply.dimension, reply.requests) == (MOST_COLUMNS, pairs.len());
-    if !replied || !same(&call.request_rows, &call.request_columns) {
+    if !replied || !same(&call.pairs.rows, &call.pairs.columns) {
         return Err(io::Error::other("the library reads another list"));
     }
     let (mut rows, mut columns) = (list(), list());

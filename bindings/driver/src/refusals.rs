@@ -1,9 +1,11 @@
 //! The refusal of a call by documents 01 and 02, read from their text: the first step that fails decides.
 
-use crate::call::{Call, Function};
+use crate::call::Call;
 use crate::chains::Chains;
+use crate::function::Function;
 use crate::matrix_market;
 use crate::rules::{self, triangle, Factor};
+use crate::subjects::{EntryLists, FactorLists, OperatorLists, Pair, PermutationLists, ValueLists};
 
 pub const MOST_COLUMNS: usize = 2_048;
 pub const MOST_ENTRIES: usize = 1_048_576;
@@ -14,9 +16,10 @@ pub type Steps = Result<(), u32>;
 pub fn refusal(call: &Call) -> u32 {
     let steps = match call.function {
         Function::EntriesWithLimit | Function::Entries => entries(call),
-        Function::Get | Function::GetCounted => lookup(call),
-        Function::CheckResult => result(call),
-        Function::GetWellFormed => refuse(8, rules::searched(call).is_none()),
+        Function::CheckFactor => factor_bounds(&call.factor).and_then(|()| factor(&call.factor)),
+        Function::Get | Function::GetCounted => lookup(&call.entries, &call.pair),
+        Function::CheckResult => result(&call.entries),
+        Function::GetWellFormed => refuse(8, rules::searched(&call.entries, &call.pair).is_none()),
         Function::Diag => diagonal_list(call),
         Function::OriginalDiag => original_diagonal(call),
         Function::OperatorVariances => operator_variances(call),
@@ -24,11 +27,12 @@ pub fn refusal(call: &Call) -> u32 {
         Function::DependencyChain => dependency_chain(call),
         Function::FactorPattern => factor_pattern(call),
         Function::OperatorPattern => operator_pattern(call),
-        Function::Validate => validate(call),
-        Function::Inverse => inverse(call),
+        Function::Validate => validate(&call.permutation),
+        Function::Inverse => inverse(&call.permutation),
         Function::Reorder => reorder(call),
         Function::ReorderMarked => reorder_marked(call),
-        Function::FloorZero | Function::FloorMean => floor(call),
+        Function::FloorZero => floor(call, false),
+        Function::FloorMean => floor(call, true),
         Function::Least => Ok(()),
         Function::ReadRequests => file(call),
     };
@@ -43,15 +47,19 @@ fn refuse(number: u32, when: bool) -> Steps {
     }
 }
 
+fn outside(list: &[u32], end: usize) -> bool {
+    list.iter().any(|&index| index as usize >= end)
+}
+
 /// The steps before 7 where a factor and requests are given.
 fn requests(call: &Call) -> Steps {
-    let n = call.n;
-    let outside = |list: &[u32]| list.iter().any(|&i| i as usize >= n);
-    refuse(1, n > MOST_COLUMNS || call.rows.len() > MOST_ENTRIES || call.request_rows.len() > MOST_ENTRIES)?;
-    factor(call)?;
-    refuse(4, call.dimension != n || call.request_rows.len() != call.request_columns.len())?;
-    refuse(5, outside(&call.request_rows) || outside(&call.request_columns))?;
-    diagonals(call)
+    let (n, requests) = (call.factor.n, &call.requests);
+    factor_bounds(&call.factor)?;
+    refuse(1, requests.rows.len() > MOST_ENTRIES)?;
+    factor(&call.factor)?;
+    refuse(4, requests.dimension != n || requests.rows.len() != requests.columns.len())?;
+    refuse(5, outside(&requests.rows, n) || outside(&requests.columns, n))?;
+    diagonals(&call.factor)
 }
 
 fn entries(call: &Call) -> Steps {
@@ -60,148 +68,146 @@ fn entries(call: &Call) -> Steps {
 }
 
 fn dependency_chain(call: &Call) -> Steps {
+    let n = call.factor.n;
     requests(call)?;
-    refuse(7, call.scratch.len() < rules::chain_words(call.n))?;
-    refuse(5, call.row >= call.n || call.column >= call.n)?;
-    let pairs = Chains::of(call).length(call.ordered());
-    refuse(7, call.pair_rows.len() < pairs || call.pair_columns.len() < pairs)
+    refuse(7, call.scratch.len() < rules::chain_words(n))?;
+    refuse(5, call.pair.row >= n || call.pair.column >= n)?;
+    pair_room(call, Chains::of(call).length(call.pair.ordered()))
 }
 
 fn original_diagonal(call: &Call) -> Steps {
-    let n = call.n;
-    refuse(1, n > MOST_COLUMNS || call.rows.len() > MOST_ENTRIES)?;
-    factor(call)?;
-    refuse(4, call.orig_to_perm.len() != n)?;
-    permutation(&call.orig_to_perm, None)?;
-    diagonals(call)?;
+    let n = call.factor.n;
+    factor_bounds(&call.factor)?;
+    factor(&call.factor)?;
+    refuse(4, call.permutation.orig_to_perm.len() != n)?;
+    permutation(&call.permutation.orig_to_perm, None)?;
+    diagonals(&call.factor)?;
     room(call)?;
-    refuse(7, call.output.len() < n)?;
-    let size = rules::requested(call).closed(&Factor::kept(call)).count();
+    refuse(7, call.output.values.len() < n)?;
+    let size = rules::requested(call).closed(&Factor::kept(&call.factor)).count();
     refuse(8, size > rules::limit(call))
 }
 
 fn operator_variances(call: &Call) -> Steps {
-    let rows = call.row_starts.len().saturating_sub(1);
-    refuse(
-        1,
-        call.n > MOST_COLUMNS
-            || call.rows.len() > MOST_ENTRIES
-            || rows > MOST_COLUMNS
-            || call.columns.len() > MOST_ENTRIES,
-    )?;
-    factor(call)?;
-    refuse(4, call.dimension != call.n)?;
-    operator(call, call.n)?;
-    diagonals(call)?;
+    let n = call.factor.n;
+    factor_bounds(&call.factor)?;
+    operator_bounds(&call.operator)?;
+    factor(&call.factor)?;
+    refuse(4, call.operator.ncols != n)?;
+    operator(&call.operator, n)?;
+    diagonals(&call.factor)?;
     room(call)?;
-    refuse(7, call.output.len() < rows)
+    refuse(7, call.output.values.len() < call.operator.rows())
 }
 
 fn covariances(call: &Call) -> Steps {
-    let a_rows = call.row_starts.len().saturating_sub(1);
-    let b_rows = call.b_row_starts.len().saturating_sub(1);
-    let outside = |list: &[u32], rows: usize| list.iter().any(|&row| row as usize >= rows);
-    refuse(1, call.n > MOST_COLUMNS || call.rows.len() > MOST_ENTRIES)?;
-    refuse(1, a_rows > MOST_COLUMNS || call.columns.len() > MOST_ENTRIES)?;
-    refuse(1, b_rows > MOST_COLUMNS || call.b_columns.len() > MOST_ENTRIES)?;
-    refuse(1, call.a_rows.len() > MOST_ENTRIES)?;
-    factor(call)?;
-    refuse(4, call.dimension != call.n || call.b_dimension != call.n || call.a_rows.len() != call.b_rows.len())?;
-    operator(call, call.n)?;
-    refuse(9, broken(&call.b_row_starts, &call.b_columns, &call.b_weights))?;
-    refuse(9, call.b_columns.iter().any(|&c| c as usize >= call.n))?;
-    refuse(9, outside(&call.a_rows, a_rows) || outside(&call.b_rows, b_rows))?;
-    diagonals(call)?;
+    let (n, a, b) = (call.factor.n, &call.operator, &call.other);
+    let (a_rows, b_rows) = (&call.row_pairs.a_rows, &call.row_pairs.b_rows);
+    factor_bounds(&call.factor)?;
+    operator_bounds(a)?;
+    operator_bounds(b)?;
+    refuse(1, a_rows.len() > MOST_ENTRIES)?;
+    factor(&call.factor)?;
+    refuse(4, a.ncols != n || b.ncols != n || a_rows.len() != b_rows.len())?;
+    operator(a, n)?;
+    operator(b, n)?;
+    refuse(9, outside(a_rows, a.rows()) || outside(b_rows, b.rows()))?;
+    diagonals(&call.factor)?;
     room(call)?;
-    refuse(7, call.output.len() < call.a_rows.len())
+    refuse(7, call.output.values.len() < a_rows.len())
 }
 
 fn factor_pattern(call: &Call) -> Steps {
-    refuse(1, call.n > MOST_COLUMNS || call.rows.len() > MOST_ENTRIES)?;
-    factor(call)?;
+    factor_bounds(&call.factor)?;
+    factor(&call.factor)?;
     pattern_room(call)
 }
 
 fn operator_pattern(call: &Call) -> Steps {
-    let rows = call.row_starts.len().saturating_sub(1);
-    refuse(1, call.n > MOST_COLUMNS || rows > MOST_COLUMNS || call.columns.len() > MOST_ENTRIES)?;
-    operator(call, call.n)?;
+    refuse(1, call.operator.ncols > MOST_COLUMNS)?;
+    operator_bounds(&call.operator)?;
+    operator(&call.operator, call.operator.ncols)?;
     pattern_room(call)
 }
 
 fn pattern_room(call: &Call) -> Steps {
-    refuse(7, call.scratch.len() < rules::mark_words(call.n))?;
-    let pairs = rules::requested(call).count();
-    refuse(7, call.pair_rows.len() < pairs || call.pair_columns.len() < pairs)
+    refuse(7, call.scratch.len() < rules::mark_words(call.dimension()))?;
+    pair_room(call, rules::requested(call).count())
+}
+
+/// 7 of the lists that so many pairs are written to.
+fn pair_room(call: &Call, pairs: usize) -> Steps {
+    refuse(7, call.pairs.rows.len() < pairs || call.pairs.columns.len() < pairs)
 }
 
 /// The lookup's steps before it searches its column.
-pub fn before_search(call: &Call) -> Steps {
-    let (row, column) = call.ordered();
-    refuse(2, call.starts.is_empty())?;
-    let n = call.starts.len() - 1;
-    refuse(8, column >= n)?;
-    result_column(call, column)?;
-    refuse(8, row >= n)
+pub fn before_search(entries: &EntryLists, pair: &Pair) -> Steps {
+    let (row, column) = pair.ordered();
+    refuse(2, entries.starts.is_empty())?;
+    refuse(8, column >= entries.dimension())?;
+    result_column(entries, column)?;
+    refuse(8, row >= entries.dimension())
 }
 
-fn lookup(call: &Call) -> Steps {
-    let (row, column) = call.ordered();
-    before_search(call)?;
-    refuse(8, rules::found(call, row, column).is_none())
+fn lookup(entries: &EntryLists, pair: &Pair) -> Steps {
+    let (row, column) = pair.ordered();
+    before_search(entries, pair)?;
+    refuse(8, rules::found(entries, row, column).is_none())
 }
 
 /// The lookup's 2 and 3 of every column.
-fn result(call: &Call) -> Steps {
-    refuse(2, call.starts.is_empty())?;
-    (0..call.starts.len() - 1).try_for_each(|column| result_column(call, column))
+fn result(entries: &EntryLists) -> Steps {
+    refuse(2, entries.starts.is_empty())?;
+    (0..entries.dimension()).try_for_each(|column| result_column(entries, column))
 }
 
 fn diagonal_list(call: &Call) -> Steps {
-    result(call)?;
-    let n = call.starts.len() - 1;
-    refuse(7, call.output.len() < n || call.output_marks.len() < n)
+    result(&call.entries)?;
+    let n = call.entries.dimension();
+    refuse(7, call.output.values.len() < n || call.output.marks.len() < n)
 }
 
-fn validate(call: &Call) -> Steps {
-    let (perm, inverse) = (&call.orig_to_perm, &call.perm_to_orig);
+fn validate(lists: &PermutationLists) -> Steps {
+    let (perm, inverse) = (&lists.orig_to_perm, &lists.perm_to_orig);
     refuse(1, perm.len() > MOST_COLUMNS || inverse.len() > MOST_COLUMNS)?;
     refuse(12, perm.len() != inverse.len())?;
     permutation(perm, Some(inverse))
 }
 
-fn inverse(call: &Call) -> Steps {
-    refuse(1, call.orig_to_perm.len() > MOST_COLUMNS)?;
-    permutation(&call.orig_to_perm, None)?;
-    refuse(7, call.perm_to_orig.len() < call.orig_to_perm.len())
+fn inverse(lists: &PermutationLists) -> Steps {
+    refuse(1, lists.orig_to_perm.len() > MOST_COLUMNS)?;
+    permutation(&lists.orig_to_perm, None)?;
+    refuse(7, lists.perm_to_orig.len() < lists.orig_to_perm.len())
 }
 
 fn reorder(call: &Call) -> Steps {
-    let n = call.orig_to_perm.len();
-    refuse(1, n > MOST_COLUMNS || call.input.len() > MOST_COLUMNS)?;
-    refuse(4, call.input.len() != n)?;
-    permutation(&call.orig_to_perm, None)?;
-    refuse(7, call.output.len() < n)
+    let (perm, ValueLists { input, .. }) = (&call.permutation.orig_to_perm, &call.values);
+    let n = perm.len();
+    refuse(1, n > MOST_COLUMNS || input.len() > MOST_COLUMNS)?;
+    refuse(4, input.len() != n)?;
+    permutation(perm, None)?;
+    refuse(7, call.output.values.len() < n)
 }
 
 fn reorder_marked(call: &Call) -> Steps {
-    let n = call.orig_to_perm.len();
-    refuse(1, n > MOST_COLUMNS || call.input.len() > MOST_COLUMNS || call.marks.len() > MOST_COLUMNS)?;
-    refuse(4, call.input.len() != n || call.marks.len() != n)?;
-    permutation(&call.orig_to_perm, None)?;
-    refuse(7, call.output.len() < n || call.output_marks.len() < n)
+    let (perm, ValueLists { input, marks, .. }) = (&call.permutation.orig_to_perm, &call.values);
+    let n = perm.len();
+    refuse(1, n > MOST_COLUMNS || input.len() > MOST_COLUMNS || marks.len() > MOST_COLUMNS)?;
+    refuse(4, input.len() != n || marks.len() != n)?;
+    permutation(perm, None)?;
+    refuse(7, call.output.values.len() < n || call.output.marks.len() < n)
 }
 
-fn floor(call: &Call) -> Steps {
-    refuse(1, call.input.len() > MOST_ENTRIES)?;
-    refuse(13, call.input.iter().any(|x| !x.is_finite()))?;
-    refuse(14, call.function == Function::FloorMean && (!call.scale.is_finite() || call.scale < 0.0))?;
-    refuse(7, call.output.len() < call.input.len())
+fn floor(call: &Call, scaled: bool) -> Steps {
+    let ValueLists { input, scale, .. } = &call.values;
+    refuse(1, input.len() > MOST_ENTRIES)?;
+    refuse(13, input.iter().any(|x| !x.is_finite()))?;
+    refuse(14, scaled && (!scale.is_finite() || *scale < 0.0))?;
+    refuse(7, call.output.values.len() < input.len())
 }
 
 fn file(call: &Call) -> Steps {
-    let requests = matrix_market::read(&call.text)?.rows.len();
-    refuse(7, call.request_rows.len() < requests || call.request_columns.len() < requests)
+    pair_room(call, matrix_market::read(&call.text)?.rows.len())
 }
 
 /// What 2 says of starts but for their number, and 9 of row starts.
@@ -216,42 +222,50 @@ fn rising(rows: &[u32]) -> bool {
     rows.windows(2).all(|r| r[0] < r[1])
 }
 
+/// 1 of a factor.
+fn factor_bounds(factor: &FactorLists) -> Steps {
+    refuse(1, factor.n > MOST_COLUMNS || factor.rows.len() > MOST_ENTRIES)
+}
+
 /// 2, 3 and 18 of a factor whose n is within bounds.
-fn factor(call: &Call) -> Steps {
-    let n = call.n;
-    refuse(2, call.starts.len() != n + 1 || broken(&call.starts, &call.rows, &call.values))?;
-    refuse(3, call.rows.iter().any(|&r| r as usize >= n))?;
-    refuse(3, call.starts.windows(2).any(|s| !rising(&call.rows[s[0] as usize..s[1] as usize])))?;
-    refuse(18, Factor::kept(call).values().any(|x| !x.is_finite()))
+fn factor(factor: &FactorLists) -> Steps {
+    let FactorLists { n, starts, rows, values } = factor;
+    refuse(2, starts.len() != n + 1 || broken(starts, rows, values))?;
+    refuse(3, outside(rows, *n))?;
+    refuse(3, starts.windows(2).any(|s| !rising(&rows[s[0] as usize..s[1] as usize])))?;
+    refuse(18, Factor::kept(factor).values().any(|x| !x.is_finite()))
+}
+
+/// 1 of an operator.
+fn operator_bounds(operator: &OperatorLists) -> Steps {
+    refuse(1, operator.rows() > MOST_COLUMNS || operator.columns.len() > MOST_ENTRIES)
 }
 
 /// 9.
-fn operator(call: &Call, columns: usize) -> Steps {
-    refuse(9, broken(&call.row_starts, &call.columns, &call.weights))?;
-    refuse(9, call.columns.iter().any(|&c| c as usize >= columns))
+fn operator(operator: &OperatorLists, columns: usize) -> Steps {
+    refuse(9, broken(&operator.row_starts, &operator.columns, &operator.weights))?;
+    refuse(9, outside(&operator.columns, columns))
 }
 
 /// 6.
-fn diagonals(call: &Call) -> Steps {
-    refuse(6, Factor::kept(call).diagonals.iter().any(|d| d.is_none_or(|d| d <= 0.0)))
+fn diagonals(factor: &FactorLists) -> Steps {
+    refuse(6, Factor::kept(factor).diagonals.iter().any(|d| d.is_none_or(|d| d <= 0.0)))
 }
 
 /// 7 of the lists that selecting entries fills.
 fn room(call: &Call) -> Steps {
-    let n = call.n;
+    let (n, result) = (call.factor.n, &call.result);
     let entries = rules::limit(call).min(triangle(n));
-    refuse(
-        7,
-        call.result_starts.len() < n + 1 || call.result_rows.len() < entries || call.result_values.len() < entries,
-    )?;
+    refuse(7, result.starts.len() < n + 1 || result.rows.len() < entries || result.values.len() < entries)?;
     refuse(7, call.scratch.len() < rules::scratch_words(n))
 }
 
 /// The lookup's 2 and 3 of a column.
-fn result_column(call: &Call, column: usize) -> Steps {
-    let (start, end) = (call.starts[column] as usize, call.starts[column + 1] as usize);
-    refuse(2, end < start || end > call.rows.len() || end > call.values.len())?;
-    refuse(3, !rising(&call.rows[start..end]))
+fn result_column(entries: &EntryLists, column: usize) -> Steps {
+    let places = entries.column(column);
+    let end = places.end;
+    refuse(2, end < places.start || end > entries.rows.len() || end > entries.values.len())?;
+    refuse(3, !rising(&entries.rows[places]))
 }
 
 /// 10, 11 and, with the other list of the same length, 12, element by element.

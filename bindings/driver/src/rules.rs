@@ -1,11 +1,14 @@
 //! The rules of documents 01 and 02: the closed set, the recurrence, and what each accepted call replies and leaves.
 //! Sets of pairs are one mark a pair, and the closed set is found in one sweep over the columns.
 
-use crate::call::{Call, Function, Reply};
+use crate::call::Call;
 use crate::chains::Chains;
 use crate::expected::Expected;
+use crate::function::Function;
 use crate::matrix_market;
 use crate::refusals::{before_search, refusal};
+use crate::reply::Reply;
+use crate::subjects::{EntryLists, FactorLists, OperatorLists, Pair};
 use redstartgilt::sys;
 use std::cmp::Ordering::{Equal, Greater, Less};
 use std::ops::Range;
@@ -37,7 +40,7 @@ pub fn cleared_words(function: Function, n: usize) -> usize {
 }
 
 fn clear(call: &mut Call) {
-    let words = cleared_words(call.function, call.n);
+    let words = cleared_words(call.function, call.dimension());
     call.scratch[..words].fill(0);
 }
 
@@ -46,7 +49,7 @@ pub fn limit(call: &Call) -> usize {
     if call.function == Function::EntriesWithLimit {
         call.limit
     } else {
-        10 * call.rows.len()
+        10 * call.factor.rows.len()
     }
 }
 
@@ -58,12 +61,12 @@ pub struct Factor {
 }
 
 impl Factor {
-    pub fn kept(call: &Call) -> Self {
+    pub fn kept(lists: &FactorLists) -> Self {
+        let FactorLists { n, starts, rows, values } = lists;
         let (mut diagonals, mut below) = (Vec::new(), Vec::new());
-        for column in 0..call.n {
-            let places = call.starts[column] as usize..call.starts[column + 1] as usize;
-            let entries =
-                places.map(|p| (call.rows[p] as usize, call.values[p])).filter(|e| e.0 >= column && e.1 != 0.0);
+        for column in 0..*n {
+            let places = starts[column] as usize..starts[column + 1] as usize;
+            let entries = places.map(|p| (rows[p] as usize, values[p])).filter(|e| e.0 >= column && e.1 != 0.0);
             let (diagonal, rest): (Vec<_>, Vec<_>) = entries.partition(|e| e.0 == column);
             diagonals.push(diagonal.first().map(|e| e.1));
             below.push(rest);
@@ -129,47 +132,47 @@ impl Pairs {
 
 /// The pairs that a call asks for, or lists.
 pub fn requested(call: &Call) -> Pairs {
-    let mut pairs = Pairs::new(call.n);
+    let n = call.dimension();
+    let mut pairs = Pairs::new(n);
     match call.function {
-        Function::OriginalDiag => (0..call.n).for_each(|i| pairs.insert(i, i)),
+        Function::OriginalDiag => (0..n).for_each(|i| pairs.insert(i, i)),
         Function::OperatorVariances | Function::OperatorPattern => {
-            for row in call.row_starts.windows(2) {
-                let columns = &call.columns[row[0] as usize..row[1] as usize];
+            for row in 0..call.operator.rows() {
+                let columns = &call.operator.columns[call.operator.terms(row)];
                 for &a in columns {
                     columns.iter().for_each(|&b| pairs.insert(a as usize, b as usize));
                 }
             }
         }
         Function::Covariances => {
+            let (a_columns, b_columns) = (&call.operator.columns, &call.other.columns);
             for (a_terms, b_terms) in row_pairs(call) {
                 for a in a_terms {
-                    b_terms.clone().for_each(|b| pairs.insert(call.columns[a] as usize, call.b_columns[b] as usize));
+                    b_terms.clone().for_each(|b| pairs.insert(a_columns[a] as usize, b_columns[b] as usize));
                 }
             }
         }
         Function::FactorPattern => {
-            let factor = Factor::kept(call);
-            for column in 0..call.n {
+            let factor = Factor::kept(&call.factor);
+            for column in 0..n {
                 if factor.diagonals[column].is_some() {
                     pairs.insert(column, column);
                 }
                 factor.below[column].iter().for_each(|e| pairs.insert(e.0, column));
             }
         }
-        _ => call
-            .request_rows
-            .iter()
-            .zip(call.request_columns.iter())
-            .for_each(|(&r, &c)| pairs.insert(r as usize, c as usize)),
+        _ => {
+            let requests = call.requests.rows.iter().zip(call.requests.columns.iter());
+            requests.for_each(|(&r, &c)| pairs.insert(r as usize, c as usize));
+        }
     }
     pairs
 }
 
 /// The places of the terms of A's row and of B's row, for each row pair.
 fn row_pairs(call: &Call) -> impl Iterator<Item = (Range<usize>, Range<usize>)> + '_ {
-    let terms = |starts: &[u32], row: u32| starts[row as usize] as usize..starts[row as usize + 1] as usize;
-    let pairs = call.a_rows.iter().zip(call.b_rows.iter());
-    pairs.map(move |(&a, &b)| (terms(&call.row_starts, a), terms(&call.b_row_starts, b)))
+    let pairs = call.row_pairs.a_rows.iter().zip(call.row_pairs.b_rows.iter());
+    pairs.map(|(&a, &b)| (call.operator.terms(a as usize), call.other.terms(b as usize)))
 }
 
 /// Takahashi's recurrence over a closed set, each pair's value at its place.
@@ -196,9 +199,8 @@ fn recurrence(factor: &Factor, set: &Pairs) -> Vec<f64> {
 }
 
 /// The value of a row of a result's column that passes the lookup's checks.
-pub fn found(call: &Call, row: usize, column: usize) -> Option<f64> {
-    let mut places = call.starts[column] as usize..call.starts[column + 1] as usize;
-    places.find(|&p| call.rows[p] as usize == row).map(|p| call.values[p])
+pub fn found(entries: &EntryLists, row: usize, column: usize) -> Option<f64> {
+    entries.column(column).find(|&p| entries.rows[p] as usize == row).map(|p| entries.values[p])
 }
 
 /// How many places document 02's search looks at in a part of a column.
@@ -216,12 +218,12 @@ fn looks_in(part: &[u32], row: u32) -> usize {
 }
 
 /// How many places a lookup looks at, 0 where it does not search.
-pub fn looks(call: &Call) -> usize {
-    if before_search(call).is_err() {
+pub fn looks(entries: &EntryLists, pair: &Pair) -> usize {
+    if before_search(entries, pair).is_err() {
         return 0;
     }
-    let (row, column) = call.ordered();
-    looks_in(&call.rows[call.starts[column] as usize..call.starts[column + 1] as usize], row as u32)
+    let (row, column) = pair.ordered();
+    looks_in(&entries.rows[entries.column(column)], row as u32)
 }
 
 /// The place that halving leaves of a part that is not empty: from its middle on where the row there is not above the one
@@ -238,16 +240,16 @@ fn halved(part: &[u32], row: u32) -> usize {
 }
 
 /// What the lookup in well-formed results finds in any lists.
-pub fn searched(call: &Call) -> Option<f64> {
-    let (row, column) = call.ordered();
-    if row >= call.starts.len().saturating_sub(1) {
+pub fn searched(entries: &EntryLists, pair: &Pair) -> Option<f64> {
+    let (row, column) = pair.ordered();
+    if row >= entries.dimension() {
         return None;
     }
-    let places = call.starts[column] as usize..call.starts[column + 1] as usize;
-    if places.is_empty() || places.end > call.rows.len() || places.end > call.values.len() {
+    let places = entries.column(column);
+    if places.is_empty() || places.end > entries.rows.len() || places.end > entries.values.len() {
         return None;
     }
-    let (part, row) = (&call.rows[places.clone()], row as u32);
+    let (part, row) = (&entries.rows[places.clone()], row as u32);
     let (first, last) = (part[0], part[part.len() - 1]);
     let at = if first == row {
         0
@@ -258,7 +260,7 @@ pub fn searched(call: &Call) -> Option<f64> {
     } else {
         halved(part, row)
     };
-    (part[at] == row).then(|| call.values[places.start + at])
+    (part[at] == row).then(|| entries.values[places.start + at])
 }
 
 /// What a call must reply and leave.
@@ -266,7 +268,7 @@ pub fn expected(call: Call) -> Expected {
     let number = refusal(&call);
     let mut expected = if number > 0 { refused(number, call) } else { accepted(call) };
     if expected.after.function == Function::GetCounted {
-        expected.reply.looks = looks(&expected.after);
+        expected.reply.looks = looks(&expected.after.entries, &expected.after.pair);
     }
     expected
 }
@@ -279,7 +281,7 @@ pub fn refused(number: u32, mut call: Call) -> Expected {
         Function::OriginalDiag => number == 8,
         _ => false,
     };
-    if late && call.scratch.len() >= cleared_words(call.function, call.n) {
+    if late && call.scratch.len() >= cleared_words(call.function, call.dimension()) {
         clear(&mut call);
     }
     Expected::untouched(Reply::refused(number), call)
@@ -289,28 +291,28 @@ fn accepted(mut call: Call) -> Expected {
     match call.function {
         function if function.selects() => selected(call),
         Function::Get | Function::GetCounted => {
-            let (row, column) = call.ordered();
-            let value = found(&call, row, column).expect("not refused");
+            let (row, column) = call.pair.ordered();
+            let value = found(&call.entries, row, column).expect("not refused");
             Expected::untouched(Reply { value, ..Reply::default() }, call)
         }
         Function::GetWellFormed => {
-            let value = searched(&call).expect("not refused");
+            let value = searched(&call.entries, &call.pair).expect("not refused");
             Expected::untouched(Reply { value, ..Reply::default() }, call)
         }
         Function::Diag => {
-            let n = call.starts.len() - 1;
+            let n = call.entries.dimension();
             for i in 0..n {
-                let value = found(&call, i, i);
-                call.output[i] = value.unwrap_or(0.0);
-                call.output_marks[i] = u8::from(value.is_some());
+                let value = found(&call.entries, i, i);
+                call.output.values[i] = value.unwrap_or(0.0);
+                call.output.marks[i] = u8::from(value.is_some());
             }
             Expected { output_filled: n, ..Expected::untouched(Reply::default(), call) }
         }
         Function::DependencyChain => {
-            let chain = Chains::of(&call).chain(call.ordered());
+            let chain = Chains::of(&call).chain(call.pair.ordered());
             for (at, &(row, column)) in chain.iter().enumerate() {
-                call.pair_rows[at] = row as u32;
-                call.pair_columns[at] = column as u32;
+                call.pairs.rows[at] = row as u32;
+                call.pairs.columns[at] = column as u32;
             }
             clear(&mut call);
             Expected::untouched(Reply { pairs: chain.len(), ..Reply::default() }, call)
@@ -318,51 +320,49 @@ fn accepted(mut call: Call) -> Expected {
         Function::FactorPattern | Function::OperatorPattern => {
             let set = requested(&call);
             for (at, (row, column)) in set.listed().enumerate() {
-                call.pair_rows[at] = row as u32;
-                call.pair_columns[at] = column as u32;
+                call.pairs.rows[at] = row as u32;
+                call.pairs.columns[at] = column as u32;
             }
             clear(&mut call);
             Expected::untouched(Reply { pairs: set.count(), ..Reply::default() }, call)
         }
         Function::Inverse => {
-            for (at, &index) in call.orig_to_perm.iter().enumerate() {
-                call.perm_to_orig[index as usize] = at as u32;
+            for (at, &index) in call.permutation.orig_to_perm.iter().enumerate() {
+                call.permutation.perm_to_orig[index as usize] = at as u32;
             }
             Expected::untouched(Reply::default(), call)
         }
-        Function::Reorder => {
-            for (at, &index) in call.orig_to_perm.iter().enumerate() {
-                call.output[at] = call.input[index as usize];
+        Function::Reorder | Function::ReorderMarked => {
+            for (at, &index) in call.permutation.orig_to_perm.iter().enumerate() {
+                call.output.values[at] = call.values.input[index as usize];
+                if call.function == Function::ReorderMarked {
+                    call.output.marks[at] = call.values.marks[index as usize];
+                }
             }
-            Expected { output_filled: call.input.len(), ..Expected::untouched(Reply::default(), call) }
-        }
-        Function::ReorderMarked => {
-            for (at, &index) in call.orig_to_perm.iter().enumerate() {
-                call.output[at] = call.input[index as usize];
-                call.output_marks[at] = call.marks[index as usize];
-            }
-            Expected { output_filled: call.input.len(), ..Expected::untouched(Reply::default(), call) }
+            Expected { output_filled: call.values.input.len(), ..Expected::untouched(Reply::default(), call) }
         }
         Function::FloorZero | Function::FloorMean => floored(call),
         Function::Least => {
-            let negative = call.input.iter().filter(|&&x| x < 0.0).count();
-            let least = call.input.iter().fold(f64::INFINITY, |least, &x| if x < least { x } else { least });
-            let least = if call.input.is_empty() { 0.0 } else { least };
+            let input = &call.values.input;
+            let negative = input.iter().filter(|&&x| x < 0.0).count();
+            let least = input.iter().fold(f64::INFINITY, |least, &x| if x < least { x } else { least });
+            let least = if input.is_empty() { 0.0 } else { least };
             Expected::untouched(Reply { negative, least, ..Reply::default() }, call)
         }
         Function::ReadRequests => {
             let read = matrix_market::read(&call.text).expect("not refused");
             let requests = read.rows.len();
-            call.request_rows[..requests].copy_from_slice(&read.rows);
-            call.request_columns[..requests].copy_from_slice(&read.columns);
+            call.pairs.rows[..requests].copy_from_slice(&read.rows);
+            call.pairs.columns[..requests].copy_from_slice(&read.columns);
             Expected::untouched(Reply { dimension: read.dimension, requests, ..Reply::default() }, call)
         }
+        // those that write nothing
         _ => Expected::untouched(Reply::default(), call),
     }
 }
 
 fn selected(mut call: Call) -> Expected {
-    let (n, limit, factor) = (call.n, limit(&call), Factor::kept(&call));
+    let (n, limit, factor) = (call.factor.n, limit(&call), Factor::kept(&call.factor));
     let set = requested(&call);
     let requested = set.count();
     let set = set.closed(&factor);
@@ -378,14 +378,14 @@ fn selected(mut call: Call) -> Expected {
     }
     let z = recurrence(&factor, &set);
     let mut at = 0;
-    call.result_starts[0] = 0;
+    call.result.starts[0] = 0;
     for column in 0..n {
         for row in (column..n).filter(|&row| set.has(row, column)) {
-            call.result_rows[at] = row as u32;
-            call.result_values[at] = z[place(row, column)];
+            call.result.rows[at] = row as u32;
+            call.result.values[at] = z[place(row, column)];
             at += 1;
         }
-        call.result_starts[column + 1] = at as u32;
+        call.result.starts[column + 1] = at as u32;
     }
     let output_filled = outputs(&mut call, &z);
     Expected { reply, after: call, values_filled: size, output_filled }
@@ -393,62 +393,53 @@ fn selected(mut call: Call) -> Expected {
 
 /// The output of a diagonal in original order, of an operator or of row pairs, and its length.
 fn outputs(call: &mut Call, z: &[f64]) -> usize {
-    match call.function {
+    let (a, b) = (&call.operator, &call.other);
+    let values: Vec<f64> = match call.function {
         Function::OriginalDiag => {
-            for (at, &index) in call.orig_to_perm.iter().enumerate() {
-                call.output[at] = z[place(index as usize, index as usize)];
-            }
-            call.n
+            let indices = call.permutation.orig_to_perm.iter().map(|&index| index as usize);
+            indices.map(|index| z[place(index, index)]).collect()
         }
-        Function::OperatorVariances => {
-            for (at, row) in call.row_starts.windows(2).enumerate() {
-                let mut sum = 0.0;
-                for a in row[0] as usize..row[1] as usize {
-                    for b in row[0] as usize..row[1] as usize {
-                        sum += call.weights[a]
-                            * call.weights[b]
-                            * z[place(call.columns[a] as usize, call.columns[b] as usize)];
-                    }
-                }
-                call.output[at] = sum;
-            }
-            call.row_starts.len() - 1
-        }
+        Function::OperatorVariances => (0..a.rows()).map(|row| weighted(a, a.terms(row), a, a.terms(row), z)).collect(),
         Function::Covariances => {
-            let mut sums = Vec::new();
-            for (a_terms, b_terms) in row_pairs(call) {
-                let mut sum = 0.0;
-                for a in a_terms {
-                    for b in b_terms.clone() {
-                        let weight = call.weights[a] * call.b_weights[b];
-                        sum += weight * z[place(call.columns[a] as usize, call.b_columns[b] as usize)];
-                    }
-                }
-                sums.push(sum);
-            }
-            call.output[..sums.len()].copy_from_slice(&sums);
-            sums.len()
+            row_pairs(call).map(|(a_terms, b_terms)| weighted(a, a_terms, b, b_terms, z)).collect()
         }
-        _ => 0,
+        _ => Vec::new(),
+    };
+    call.output.values[..values.len()].copy_from_slice(&values);
+    values.len()
+}
+
+/// The sum over terms of A and, for each, over terms of B.
+fn weighted(a: &OperatorLists, a_terms: Range<usize>, b: &OperatorLists, b_terms: Range<usize>, z: &[f64]) -> f64 {
+    let mut sum = 0.0;
+    for i in a_terms {
+        for j in b_terms.clone() {
+            let weight = a.weights[i] * b.weights[j];
+            sum += weight * z[place(a.columns[i] as usize, b.columns[j] as usize)];
+        }
     }
+    sum
 }
 
 fn floored(mut call: Call) -> Expected {
     let mut floor = 0.0;
     if call.function == Function::FloorMean {
         let (mut sum, mut count) = (0.0, 0);
-        for &x in call.input.iter().filter(|&&x| x > 0.0) {
+        for &x in call.values.input.iter().filter(|&&x| x > 0.0) {
             sum += x;
             count += 1;
         }
         let mean: f64 = if count > 0 { sum / count as f64 } else { 1.0 };
-        floor = mean.abs().max(1.0) * call.scale;
+        floor = mean.abs().max(1.0) * call.values.scale;
     }
     let mut hits = 0;
-    for (at, &x) in call.input.iter().enumerate() {
+    for (at, &x) in call.values.input.iter().enumerate() {
         let above = x > floor;
-        call.output[at] = if above { x } else { floor };
+        call.output.values[at] = if above { x } else { floor };
         hits += usize::from(!above);
     }
-    Expected { output_filled: call.input.len(), ..Expected::untouched(Reply { floor, hits, ..Reply::default() }, call) }
+    Expected {
+        output_filled: call.values.input.len(),
+        ..Expected::untouched(Reply { floor, hits, ..Reply::default() }, call)
+    }
 }

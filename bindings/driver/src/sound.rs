@@ -1,10 +1,14 @@
 //! Sound calls of every function, before lists are lent for writing.
 
-use crate::call::{Call, Function};
+use crate::call::Call;
 use crate::files::sound_file;
+use crate::function::Function;
 use crate::list::List;
 use crate::random::Random;
 use crate::rules::{requested, triangle, Factor};
+use crate::subjects::{
+    EntryLists, FactorLists, OperatorLists, Pair, PermutationLists, RequestLists, RowPairLists, ValueLists,
+};
 use std::cmp::Ordering::{Equal, Greater, Less};
 
 struct Columns {
@@ -81,56 +85,73 @@ fn factor(random: &mut Random, n: usize) -> Columns {
     columns
 }
 
-fn put_factor(call: &mut Call, random: &mut Random) {
-    let columns = factor(random, call.n);
-    call.starts = List::new(&columns.starts);
-    call.rows = List::new(&columns.rows);
-    call.values = List::new(&columns.values);
+fn factor_lists(random: &mut Random, n: usize) -> FactorLists {
+    let Columns { starts, rows, values } = factor(random, n);
+    FactorLists { n, starts: List::new(&starts), rows: List::new(&rows), values: List::new(&values) }
 }
 
 /// A result, and the column to look in: the lists of a factor; or, where n is large, one long column of some density,
 /// the others empty.
-fn put_result(call: &mut Call, random: &mut Random) -> usize {
-    let n = call.n;
+fn result_lists(random: &mut Random, n: usize) -> (EntryLists, usize) {
     if n <= 64 || random.chance(10) {
-        put_factor(call, random);
-        return random.below(n.max(1));
+        let FactorLists { starts, rows, values, .. } = factor_lists(random, n);
+        return (EntryLists { starts, rows, values }, random.below(n.max(1)));
     }
     let (column, percent) = (random.below(n), random.pick(&[1, 10, 50, 90, 100]));
     let rows: Vec<u32> = (column as u32..n as u32).filter(|_| random.chance(percent)).collect();
-    call.starts = List::made(n + 1, |at| if at > column { rows.len() as u32 } else { 0 });
-    call.rows = List::new(&rows);
-    call.values = List::made(rows.len(), |_| some_value(random));
-    column
+    let starts = List::made(n + 1, |at| if at > column { rows.len() as u32 } else { 0 });
+    let values = List::made(rows.len(), |_| some_value(random));
+    (EntryLists { starts, rows: List::new(&rows), values }, column)
+}
+
+/// A pair to look up: mostly one of the column, stored or not; in either order.
+fn pair_of_result(random: &mut Random, entries: &EntryLists, column: usize) -> Pair {
+    let n = entries.dimension();
+    let row = random.below(n + 2);
+    let column = if random.chance(80) { column } else { random.below(n + 2) };
+    let mut pair = Pair { row, column };
+    if column < n && random.chance(75) {
+        // a stored entry
+        let places = entries.column(column);
+        if !places.is_empty() {
+            pair.row = entries.rows[places.start + random.below(places.len())] as usize;
+        }
+    }
+    if random.chance(30) {
+        pair = Pair { row: pair.column, column: pair.row };
+    }
+    pair
 }
 
 /// Requests, some of them twice.
-fn put_requests(call: &mut Call, random: &mut Random) {
-    let n = call.n;
+fn request_lists(random: &mut Random, n: usize) -> RequestLists {
     let count = if n == 0 { 0 } else { random.below(n.min(64) + 3) };
-    call.request_rows = List::made(count, |_| random.below(n) as u32);
-    call.request_columns = List::made(count, |_| random.below(n) as u32);
+    let mut rows = List::made(count, |_| random.below(n) as u32);
+    let mut columns = List::made(count, |_| random.below(n) as u32);
     if count > 0 && random.chance(30) {
         // what needs most
-        (call.request_rows[0], call.request_columns[0]) = (0, 0);
+        (rows[0], columns[0]) = (0, 0);
     }
+    RequestLists { dimension: n, rows, columns }
 }
 
 /// A pair: mostly one of the closed set, in either order; where n is large, any.
-fn put_pair(call: &mut Call, random: &mut Random) {
-    let n = call.n.max(1);
-    (call.row, call.column) = (random.below(n), random.below(n));
-    if call.n <= 64 && random.chance(80) {
-        let set: Vec<_> = requested(call).closed(&Factor::kept(call)).listed().collect();
+fn pair_of_set(random: &mut Random, call: &Call) -> Pair {
+    let n = call.factor.n;
+    let (mut row, mut column) = (random.below(n.max(1)), random.below(n.max(1)));
+    if n <= 64 && random.chance(80) {
+        let set: Vec<_> = requested(call).closed(&Factor::kept(&call.factor)).listed().collect();
         if !set.is_empty() {
-            let (row, column) = random.pick(&set);
-            (call.row, call.column) = if random.chance(50) { (row, column) } else { (column, row) };
+            (row, column) = random.pick(&set);
+            if !random.chance(50) {
+                (row, column) = (column, row);
+            }
         }
     }
+    Pair { row, column }
 }
 
-/// Row starts, columns and weights.
-fn operator(random: &mut Random, n: usize) -> (List<u32>, List<u32>, List<f64>) {
+fn operator_lists(random: &mut Random, n: usize) -> OperatorLists {
     let (mut starts, mut columns) = (vec![0], Vec::new());
     for _ in 0..random.below(6) {
         let terms = if n == 0 { 0 } else { random.below(6) };
@@ -138,30 +159,26 @@ fn operator(random: &mut Random, n: usize) -> (List<u32>, List<u32>, List<f64>) 
         starts.push(columns.len() as u32);
     }
     let weights = List::made(columns.len(), |_| some_value(random));
-    (List::new(&starts), List::new(&columns), weights)
-}
-
-fn put_operator(call: &mut Call, random: &mut Random) {
-    (call.row_starts, call.columns, call.weights) = operator(random, call.n);
+    OperatorLists { ncols: n, row_starts: List::new(&starts), columns: List::new(&columns), weights }
 }
 
 /// Operator B, which is A in one case of five, and row pairs, some of them twice.
 fn put_other_operator(call: &mut Call, random: &mut Random) {
-    call.b_dimension = call.n;
-    (call.b_row_starts, call.b_columns, call.b_weights) = if random.chance(20) {
-        (call.row_starts.clone(), call.columns.clone(), call.weights.clone())
-    } else {
-        operator(random, call.n)
-    };
-    let (rows, others) = (call.row_starts.len() - 1, call.b_row_starts.len() - 1);
+    let n = call.factor.n;
+    call.other = if random.chance(20) { call.operator.clone() } else { operator_lists(random, n) };
+    let (rows, others) = (call.operator.rows(), call.other.rows());
     let count = if rows == 0 || others == 0 { 0 } else { random.below(12) };
-    call.a_rows = List::made(count, |_| random.below(rows) as u32);
-    call.b_rows = List::made(count, |_| random.below(others) as u32);
-    if call.n > 32 && count > 0 && call.row_starts[1] > 0 && call.b_row_starts[1] > 0 && random.chance(60) {
+    let mut pairs = RowPairLists {
+        a_rows: List::made(count, |_| random.below(rows) as u32),
+        b_rows: List::made(count, |_| random.below(others) as u32),
+    };
+    let first = |operator: &OperatorLists| !operator.terms(0).is_empty();
+    if n > 32 && count > 0 && first(&call.operator) && first(&call.other) && random.chance(60) {
         // what needs most
-        (call.columns[0], call.b_columns[0]) = (0, 0);
-        (call.a_rows[0], call.b_rows[0]) = (0, 0);
+        (call.operator.columns[0], call.other.columns[0]) = (0, 0);
+        (pairs.a_rows[0], pairs.b_rows[0]) = (0, 0);
     }
+    call.row_pairs = pairs;
 }
 
 fn permutation(random: &mut Random, n: usize) -> Vec<u32> {
@@ -185,72 +202,63 @@ fn some_limit(random: &mut Random, n: usize) -> usize {
 
 /// A call that the documents accept, but for some values of a factor, before its lists are lent.
 pub fn sound(function: Function, n: usize, random: &mut Random) -> Call {
-    let mut call = Call { function, n, dimension: n, ..Call::default() };
+    let mut call = Call { function, ..Call::default() };
     match function {
         Function::EntriesWithLimit | Function::Entries => {
-            put_factor(&mut call, random);
-            put_requests(&mut call, random);
+            call.factor = factor_lists(random, n);
+            call.requests = request_lists(random, n);
             call.limit = some_limit(random, n);
         }
         Function::DependencyChain => {
-            put_factor(&mut call, random);
-            put_requests(&mut call, random);
+            call.factor = factor_lists(random, n);
+            call.requests = request_lists(random, n);
             if random.chance(40) {
                 // fewer requests make longer chains
-                call.request_rows.edit(|rows| rows.truncate(1));
-                call.request_columns.edit(|columns| columns.truncate(1));
+                call.requests.rows.edit(|rows| rows.truncate(1));
+                call.requests.columns.edit(|columns| columns.truncate(1));
             }
-            put_pair(&mut call, random);
+            call.pair = pair_of_set(random, &call);
         }
         Function::OriginalDiag => {
-            put_factor(&mut call, random);
-            call.orig_to_perm = List::new(&permutation(random, n));
+            call.factor = factor_lists(random, n);
+            call.permutation.orig_to_perm = List::new(&permutation(random, n));
         }
         Function::OperatorVariances => {
-            put_factor(&mut call, random);
-            put_operator(&mut call, random);
+            call.factor = factor_lists(random, n);
+            call.operator = operator_lists(random, n);
         }
         Function::Covariances => {
-            put_factor(&mut call, random);
-            put_operator(&mut call, random);
+            call.factor = factor_lists(random, n);
+            call.operator = operator_lists(random, n);
             put_other_operator(&mut call, random);
         }
-        Function::FactorPattern => put_factor(&mut call, random),
-        Function::OperatorPattern => put_operator(&mut call, random),
+        Function::CheckFactor | Function::FactorPattern => call.factor = factor_lists(random, n),
+        Function::OperatorPattern => call.operator = operator_lists(random, n),
         Function::Get | Function::GetCounted | Function::CheckResult | Function::GetWellFormed | Function::Diag => {
-            let column = put_result(&mut call, random);
-            call.row = random.below(n + 2);
-            call.column = if random.chance(80) { column } else { random.below(n + 2) };
-            if call.column < n && random.chance(75) {
-                // a stored entry
-                let (start, end) = (call.starts[call.column] as usize, call.starts[call.column + 1] as usize);
-                call.row = if start < end { call.rows[start + random.below(end - start)] as usize } else { call.row };
-            }
-            if random.chance(30) {
-                (call.row, call.column) = (call.column, call.row);
-            }
+            let (entries, column) = result_lists(random, n);
+            call.pair = pair_of_result(random, &entries, column);
+            call.entries = entries;
         }
         Function::Validate => {
             let list = permutation(random, n);
             let mut inverse = vec![0; n];
             list.iter().enumerate().for_each(|(at, &index)| inverse[index as usize] = at as u32);
-            call.orig_to_perm = List::new(&list);
-            call.perm_to_orig = List::new(&inverse);
+            call.permutation = PermutationLists { orig_to_perm: List::new(&list), perm_to_orig: List::new(&inverse) };
         }
-        Function::Inverse => call.orig_to_perm = List::new(&permutation(random, n)),
+        Function::Inverse => call.permutation.orig_to_perm = List::new(&permutation(random, n)),
         Function::Reorder | Function::ReorderMarked => {
-            call.orig_to_perm = List::new(&permutation(random, n));
-            call.input = List::made(n, |_| random.any_value());
+            call.permutation.orig_to_perm = List::new(&permutation(random, n));
+            call.values.input = List::made(n, |_| random.any_value());
             if function == Function::ReorderMarked {
-                call.marks = List::made(n, |_| random.bits() as u8);
+                call.values.marks = List::made(n, |_| random.bits() as u8);
             }
         }
         Function::FloorZero | Function::FloorMean => {
             let finite = |x: f64| if x.is_finite() { x } else { 1.0 };
-            call.input = List::made(n, |_| finite(some_value(random)));
-            call.scale = finite(some_value(random)).abs();
+            let input = List::made(n, |_| finite(some_value(random)));
+            call.values = ValueLists { input, scale: finite(some_value(random)).abs(), ..ValueLists::default() };
         }
-        Function::Least => call.input = List::made(n, |_| some_value(random)),
+        Function::Least => call.values.input = List::made(n, |_| some_value(random)),
         Function::ReadRequests => call.text = List::new(&sound_file(n, random)),
     }
     call

@@ -1,12 +1,14 @@
 //! Random calls: sound ones with something spoilt.
 
-use crate::call::{Call, Function};
+use crate::call::Call;
 use crate::files::damage;
+use crate::function::Function;
 use crate::lend::lend;
 use crate::list::List;
 use crate::random::Random;
 use crate::refusals::MOST_COLUMNS;
 use crate::sound::sound;
+use crate::subjects::{EntryLists, FactorLists, OperatorLists, Pair, RequestLists};
 
 /// One call of so many is large.
 const LARGE: usize = 4_000;
@@ -92,112 +94,122 @@ fn some_size(random: &mut Random, n: usize) -> usize {
     }
 }
 
-fn spoil(call: &mut Call, random: &mut Random) {
-    let n = call.n;
+/// In how many ways a subject is spoilt.
+const FACTOR: usize = 5;
+const REQUESTS: usize = 3;
+const PAIR: usize = 2;
+const OPERATOR: usize = 4;
+const ENTRIES: usize = 4;
+
+fn spoil_factor(factor: &mut FactorLists, way: usize, n: usize, random: &mut Random) {
+    match way {
+        0 => factor.n = some_size(random, n),
+        1 => spoil_words(random, &mut factor.starts, n),
+        2 => spoil_words(random, &mut factor.rows, n),
+        3 => spoil_values(random, &mut factor.values),
+        _ => spoil_finite(random, &mut factor.values),
+    }
+}
+
+fn spoil_requests(requests: &mut RequestLists, way: usize, n: usize, random: &mut Random) {
+    match way {
+        0 => requests.dimension = some_size(random, n),
+        1 => spoil_words(random, &mut requests.rows, n),
+        _ => spoil_words(random, &mut requests.columns, n),
+    }
+}
+
+fn spoil_pair(pair: &mut Pair, way: usize, n: usize, random: &mut Random) {
+    match way {
+        0 => pair.row = some_size(random, n),
+        _ => pair.column = some_size(random, n),
+    }
+}
+
+fn spoil_operator(operator: &mut OperatorLists, way: usize, n: usize, random: &mut Random) {
+    match way {
+        0 => operator.ncols = some_size(random, n),
+        1 => spoil_words(random, &mut operator.row_starts, n),
+        2 => spoil_words(random, &mut operator.columns, n),
+        _ => spoil_values(random, &mut operator.weights),
+    }
+}
+
+fn spoil_entries(entries: &mut EntryLists, way: usize, n: usize, random: &mut Random) {
+    match way {
+        0 => spoil_words(random, &mut entries.starts, n),
+        1 => spoil_words(random, &mut entries.rows, n),
+        2 => spoil_values(random, &mut entries.values),
+        _ => entries.rows.edit(|rows| {
+            // in any order from one place to another: the ends of a run may stay
+            let (a, b) = (random.below(rows.len() + 1), random.below(rows.len() + 1));
+            random.shuffle(&mut rows[a.min(b)..a.max(b)]);
+        }),
+    }
+}
+
+/// Spoils something of a call whose dimension was n.
+fn spoil(call: &mut Call, n: usize, random: &mut Random) {
     match call.function {
-        Function::EntriesWithLimit | Function::Entries => match random.below(8) {
-            0 => call.n = some_size(random, n),
-            1 => spoil_words(random, &mut call.starts, n),
-            2 => spoil_words(random, &mut call.rows, n),
-            3 => spoil_values(random, &mut call.values),
-            4 => call.dimension = some_size(random, n),
-            5 => spoil_words(random, &mut call.request_rows, n),
-            6 => spoil_words(random, &mut call.request_columns, n),
-            _ => spoil_finite(random, &mut call.values),
+        Function::EntriesWithLimit | Function::Entries => match random.below(FACTOR + REQUESTS) {
+            way if way < FACTOR => spoil_factor(&mut call.factor, way, n, random),
+            way => spoil_requests(&mut call.requests, way - FACTOR, n, random),
         },
-        Function::DependencyChain => match random.below(10) {
-            0 => call.n = some_size(random, n),
-            1 => spoil_words(random, &mut call.starts, n),
-            2 => spoil_words(random, &mut call.rows, n),
-            3 => spoil_values(random, &mut call.values),
-            4 => call.dimension = some_size(random, n),
-            5 => spoil_words(random, &mut call.request_rows, n),
-            6 => spoil_words(random, &mut call.request_columns, n),
-            7 => call.row = some_size(random, n),
-            8 => call.column = some_size(random, n),
-            _ => spoil_finite(random, &mut call.values),
+        Function::DependencyChain => match random.below(FACTOR + REQUESTS + PAIR) {
+            way if way < FACTOR => spoil_factor(&mut call.factor, way, n, random),
+            way if way < FACTOR + REQUESTS => spoil_requests(&mut call.requests, way - FACTOR, n, random),
+            way => spoil_pair(&mut call.pair, way - FACTOR - REQUESTS, n, random),
         },
-        Function::OriginalDiag => match random.below(6) {
-            0 => call.n = some_size(random, n),
-            1 => spoil_words(random, &mut call.starts, n),
-            2 => spoil_words(random, &mut call.rows, n),
-            3 => spoil_values(random, &mut call.values),
-            4 => spoil_words(random, &mut call.orig_to_perm, n),
-            _ => spoil_finite(random, &mut call.values),
+        Function::OriginalDiag => match random.below(FACTOR + 1) {
+            way if way < FACTOR => spoil_factor(&mut call.factor, way, n, random),
+            _ => spoil_words(random, &mut call.permutation.orig_to_perm, n),
         },
-        Function::OperatorVariances => match random.below(9) {
-            0 => call.n = some_size(random, n),
-            1 => spoil_words(random, &mut call.starts, n),
-            2 => spoil_words(random, &mut call.rows, n),
-            3 => spoil_values(random, &mut call.values),
-            4 => call.dimension = some_size(random, n),
-            5 => spoil_words(random, &mut call.row_starts, n),
-            6 => spoil_words(random, &mut call.columns, n),
-            7 => spoil_values(random, &mut call.weights),
-            _ => spoil_finite(random, &mut call.values),
+        Function::OperatorVariances => match random.below(FACTOR + OPERATOR) {
+            way if way < FACTOR => spoil_factor(&mut call.factor, way, n, random),
+            way => spoil_operator(&mut call.operator, way - FACTOR, n, random),
         },
-        Function::Covariances => match random.below(15) {
-            0 => call.n = some_size(random, n),
-            1 => spoil_words(random, &mut call.starts, n),
-            2 => spoil_words(random, &mut call.rows, n),
-            3 => spoil_values(random, &mut call.values),
-            4 => call.dimension = some_size(random, n),
-            5 => spoil_words(random, &mut call.row_starts, n),
-            6 => spoil_words(random, &mut call.columns, n),
-            7 => spoil_values(random, &mut call.weights),
-            8 => call.b_dimension = some_size(random, n),
-            9 => spoil_words(random, &mut call.b_row_starts, n),
-            10 => spoil_words(random, &mut call.b_columns, n),
-            11 => spoil_values(random, &mut call.b_weights),
+        Function::Covariances => match random.below(FACTOR + 2 * OPERATOR + 2) {
+            way if way < FACTOR => spoil_factor(&mut call.factor, way, n, random),
+            way if way < FACTOR + OPERATOR => spoil_operator(&mut call.operator, way - FACTOR, n, random),
+            way if way < FACTOR + 2 * OPERATOR => spoil_operator(&mut call.other, way - FACTOR - OPERATOR, n, random),
             // a row of about the number of rows
-            12 => spoil_words(random, &mut call.a_rows, call.row_starts.len()),
-            13 => spoil_words(random, &mut call.b_rows, call.b_row_starts.len()),
-            _ => spoil_finite(random, &mut call.values),
+            way if way == FACTOR + 2 * OPERATOR => {
+                spoil_words(random, &mut call.row_pairs.a_rows, call.operator.row_starts.len())
+            }
+            _ => spoil_words(random, &mut call.row_pairs.b_rows, call.other.row_starts.len()),
         },
-        Function::FactorPattern => match random.below(5) {
-            0 => call.n = some_size(random, n),
-            1 => spoil_words(random, &mut call.starts, n),
-            2 => spoil_words(random, &mut call.rows, n),
-            3 => spoil_values(random, &mut call.values),
-            _ => spoil_finite(random, &mut call.values),
-        },
-        Function::OperatorPattern => match random.below(4) {
-            0 => call.n = some_size(random, n),
-            1 => spoil_words(random, &mut call.row_starts, n),
-            2 => spoil_words(random, &mut call.columns, n),
-            _ => spoil_values(random, &mut call.weights),
-        },
+        Function::CheckFactor | Function::FactorPattern => {
+            let way = random.below(FACTOR);
+            spoil_factor(&mut call.factor, way, n, random)
+        }
+        Function::OperatorPattern => {
+            let way = random.below(OPERATOR);
+            spoil_operator(&mut call.operator, way, n, random)
+        }
         Function::Get | Function::GetCounted | Function::CheckResult | Function::GetWellFormed | Function::Diag => {
-            match random.below(6) {
-                0 => call.row = some_size(random, n),
-                1 => call.column = some_size(random, n),
-                2 => spoil_words(random, &mut call.starts, n),
-                3 => spoil_words(random, &mut call.rows, n),
-                4 => spoil_values(random, &mut call.values),
-                _ => call.rows.edit(|rows| {
-                    // in any order from one place to another: the ends of a run may stay
-                    let (a, b) = (random.below(rows.len() + 1), random.below(rows.len() + 1));
-                    random.shuffle(&mut rows[a.min(b)..a.max(b)]);
-                }),
+            match random.below(ENTRIES + PAIR) {
+                way if way < ENTRIES => spoil_entries(&mut call.entries, way, n, random),
+                way => spoil_pair(&mut call.pair, way - ENTRIES, n, random),
             }
         }
         Function::Validate | Function::Inverse => {
             let first = call.function == Function::Inverse || random.chance(50);
-            spoil_words(random, if first { &mut call.orig_to_perm } else { &mut call.perm_to_orig }, n)
+            let lists = &mut call.permutation;
+            spoil_words(random, if first { &mut lists.orig_to_perm } else { &mut lists.perm_to_orig }, n)
         }
         Function::Reorder => match random.below(2) {
-            0 => spoil_words(random, &mut call.orig_to_perm, n),
-            _ => spoil_values(random, &mut call.input),
+            0 => spoil_words(random, &mut call.permutation.orig_to_perm, n),
+            _ => spoil_values(random, &mut call.values.input),
         },
         Function::ReorderMarked => match random.below(3) {
-            0 => spoil_words(random, &mut call.orig_to_perm, n),
-            1 => spoil_values(random, &mut call.input),
-            _ => call.marks.edit(|marks| spoil_length(random, marks, |random| random.bits() as u8)),
+            0 => spoil_words(random, &mut call.permutation.orig_to_perm, n),
+            1 => spoil_values(random, &mut call.values.input),
+            _ => call.values.marks.edit(|marks| spoil_length(random, marks, |random| random.bits() as u8)),
         },
-        Function::FloorZero | Function::Least => spoil_values(random, &mut call.input),
+        Function::FloorZero | Function::Least => spoil_values(random, &mut call.values.input),
         Function::FloorMean => match random.below(2) {
-            0 => spoil_values(random, &mut call.input),
-            _ => call.scale = random.any_value(),
+            0 => spoil_values(random, &mut call.values.input),
+            _ => call.values.scale = random.any_value(),
         },
         Function::ReadRequests => call.text.edit(|text| damage(text, random)),
     }
@@ -229,7 +241,7 @@ pub fn random_call(function: Function, random: &mut Random) -> Call {
     let mut call = sound(function, n, random);
     let faults = random.pick(&[0, 0, 0, 1, 1, 1, 1, 2, 2, 12]);
     for _ in 0..faults {
-        spoil(&mut call, random);
+        spoil(&mut call, n, random);
     }
     lend(&mut call, random, some_length);
     call

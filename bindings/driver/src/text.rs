@@ -1,6 +1,6 @@
 //! The text form of cases and answers: `case ID KIND`, a line for each field, `end`.
 
-use crate::call::Call;
+use crate::subjects::{FactorLists, OperatorLists};
 use std::fmt::Write;
 use std::io::{self, BufRead};
 
@@ -54,11 +54,18 @@ impl Block {
         self.put(name, format!("{} {}", list.len(), words.join(" ")));
     }
 
-    pub fn put_factor(&mut self, call: &Call) {
-        self.put("n", call.n);
-        self.put_numbers("starts", &call.starts);
-        self.put_numbers("rows", &call.rows);
-        self.put_values("values", &call.values);
+    pub fn put_factor(&mut self, factor: &FactorLists) {
+        self.put("n", factor.n);
+        self.put_numbers("starts", &factor.starts);
+        self.put_numbers("rows", &factor.rows);
+        self.put_values("values", &factor.values);
+    }
+
+    pub fn put_operator(&mut self, operator: &OperatorLists) {
+        self.put("ncols", operator.ncols);
+        self.put_numbers("ostarts", &operator.row_starts);
+        self.put_numbers("ocols", &operator.columns);
+        self.put_values("oweights", &operator.weights);
     }
 
     pub fn text(&self) -> String {

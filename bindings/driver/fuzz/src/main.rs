@@ -7,20 +7,30 @@
 
 #[path = "../../src/call.rs"]
 mod call;
+#[path = "../../src/chains.rs"]
+mod chains;
 #[path = "../../src/expected.rs"]
 mod expected;
+#[path = "../../src/function.rs"]
+mod function;
 #[path = "../../src/list.rs"]
 mod list;
 #[path = "../../src/matrix_market.rs"]
 mod matrix_market;
 #[path = "../../src/refusals.rs"]
 mod refusals;
+#[path = "../../src/reply.rs"]
+mod reply;
 #[path = "../../src/rules.rs"]
 mod rules;
+#[path = "../../src/subjects.rs"]
+mod subjects;
 
-use call::{Call, Function};
+use call::Call;
+use function::Function;
 use list::List;
 use matrix_market::HEADER;
+use subjects::PairLists;
 
 #[no_mangle]
 pub extern "C" fn LLVMFuzzerTestOneInput(data: *const u8, size: usize) -> i32 {
@@ -46,8 +56,7 @@ fn compare_call(text: &[u8], rows: usize, columns: usize) {
     let call = Call {
         function: Function::ReadRequests,
         text: List::new(text),
-        request_rows: words(rows),
-        request_columns: words(columns),
+        pairs: PairLists { rows: words(rows), columns: words(columns) },
         ..Call::default()
     };
     let mut made = call.clone();

@@ -1,0 +1,109 @@
+//! The functions of the C interface.
+
+#[derive(Clone, Copy, Debug, PartialEq, Eq, PartialOrd, Ord, Default)]
+pub enum Function {
+    EntriesWithLimit,
+    Entries,
+    CheckFactor,
+    #[default]
+    Get,
+    GetCounted,
+    CheckResult,
+    GetWellFormed,
+    Diag,
+    OriginalDiag,
+    OperatorVariances,
+    Covariances,
+    DependencyChain,
+    FactorPattern,
+    OperatorPattern,
+    Validate,
+    Inverse,
+    Reorder,
+    ReorderMarked,
+    FloorZero,
+    FloorMean,
+    Least,
+    ReadRequests,
+}
+
+pub const FUNCTIONS: [Function; 22] = [
+    Function::EntriesWithLimit,
+    Function::Entries,
+    Function::CheckFactor,
+    Function::Get,
+    Function::GetCounted,
+    Function::CheckResult,
+    Function::GetWellFormed,
+    Function::Diag,
+    Function::OriginalDiag,
+    Function::OperatorVariances,
+    Function::Covariances,
+    Function::DependencyChain,
+    Function::FactorPattern,
+    Function::OperatorPattern,
+    Function::Validate,
+    Function::Inverse,
+    Function::Reorder,
+    Function::ReorderMarked,
+    Function::FloorZero,
+    Function::FloorMean,
+    Function::Least,
+    Function::ReadRequests,
+];
+
+/// The functions that look up a pair.
+pub const LOOKUPS: [Function; 3] = [Function::Get, Function::GetCounted, Function::GetWellFormed];
+
+impl Function {
+    /// The name in the C interface, without `redstartgilt_`.
+    pub fn name(self) -> &'static str {
+        match self {
+            Function::EntriesWithLimit => "selected_inverse_entries_with_limit",
+            Function::Entries => "selected_inverse_entries",
+            Function::CheckFactor => "check_factor",
+            Function::Get => "get",
+            Function::GetCounted => "get_counted",
+            Function::CheckResult => "check_result",
+            Function::GetWellFormed => "get_well_formed",
+            Function::Diag => "diag",
+            Function::OriginalDiag => "selected_inverse_diag_with_diagnostics",
+            Function::OperatorVariances => "selected_inverse_transformed_diag",
+            Function::Covariances => "selected_inverse_transformed_covariances",
+            Function::DependencyChain => "dependency_chain",
+            Function::FactorPattern => "from_cholesky_factor",
+            Function::OperatorPattern => "from_transformed_operator",
+            Function::Validate => "validate",
+            Function::Inverse => "from_orig_to_perm",
+            Function::Reorder => "permute_factor_to_original",
+            Function::ReorderMarked => "permute_factor_to_original_marked",
+            Function::FloorZero => "stabilize_variances_zero",
+            Function::FloorMean => "stabilize_variances_positive_mean",
+            Function::Least => "count_and_least",
+            Function::ReadRequests => "read_requests",
+        }
+    }
+
+    /// Whether it selects entries: its reply has a status, and it is lent result lists and scratch.
+    pub fn selects(self) -> bool {
+        matches!(
+            self,
+            Function::EntriesWithLimit
+                | Function::Entries
+                | Function::OriginalDiag
+                | Function::OperatorVariances
+                | Function::Covariances
+        )
+    }
+
+    /// Whether it is given a factor.
+    pub fn takes_factor(self) -> bool {
+        let others = [Function::CheckFactor, Function::DependencyChain, Function::FactorPattern];
+        self.selects() || others.contains(&self)
+    }
+
+    /// Whether it reads a result.
+    pub fn reads_result(self) -> bool {
+        self == Function::Diag || self == Function::CheckResult || LOOKUPS.contains(&self)
+    }
+}

@@ -1,0 +1,145 @@
+//! What a call is given, by subject: a struct for each, with its parts by name. A new kind of call adds its own.
+
+use crate::list::List;
+
+/// A number or a list of one of the types of the C interface.
+pub enum Part<'a> {
+    Count(usize),
+    Float(f64),
+    Bytes(&'a List<u8>),
+    Words(&'a List<u32>),
+    Floats(&'a List<f64>),
+}
+
+impl From<&usize> for Part<'_> {
+    fn from(count: &usize) -> Self {
+        Part::Count(*count)
+    }
+}
+
+impl From<&f64> for Part<'_> {
+    fn from(float: &f64) -> Self {
+        Part::Float(*float)
+    }
+}
+
+impl<'a> From<&'a List<u8>> for Part<'a> {
+    fn from(list: &'a List<u8>) -> Self {
+        Part::Bytes(list)
+    }
+}
+
+impl<'a> From<&'a List<u32>> for Part<'a> {
+    fn from(list: &'a List<u32>) -> Self {
+        Part::Words(list)
+    }
+}
+
+impl<'a> From<&'a List<f64>> for Part<'a> {
+    fn from(list: &'a List<f64>) -> Self {
+        Part::Floats(list)
+    }
+}
+
+/// The struct of a subject, and its parts by name.
+macro_rules! subject {
+    ($(#[$about:meta])* $name:ident { $($part:ident: $kind:ty),* }) => {
+        $(#[$about])*
+        #[derive(Clone, Default)]
+        pub struct $name {
+            $(pub $part: $kind,)*
+        }
+
+        impl $name {
+            pub fn parts(&self) -> Vec<(&'static str, Part<'_>)> {
+                vec![$((stringify!($part), Part::from(&self.$part)),)*]
+            }
+        }
+    };
+}
+
+subject! {
+    /// A factor of dimension n.
+    FactorLists { n: usize, starts: List<u32>, rows: List<u32>, values: List<f64> }
+}
+
+subject! {
+    /// Requests that are read.
+    RequestLists { dimension: usize, rows: List<u32>, columns: List<u32> }
+}
+
+subject! {
+    /// An operator.
+    OperatorLists { ncols: usize, row_starts: List<u32>, columns: List<u32>, weights: List<f64> }
+}
+
+subject! {
+    /// Pairs of a row of operator A and one of operator B.
+    RowPairLists { a_rows: List<u32>, b_rows: List<u32> }
+}
+
+subject! {
+    /// A result that is read.
+    EntryLists { starts: List<u32>, rows: List<u32>, values: List<f64> }
+}
+
+subject! {
+    /// The pair that is looked up, or whose chain is asked for.
+    Pair { row: usize, column: usize }
+}
+
+subject! {
+    /// A permutation, and its inverse: read by `validate`, written by `from_orig_to_perm`.
+    PermutationLists { orig_to_perm: List<u32>, perm_to_orig: List<u32> }
+}
+
+subject! {
+    /// Values to reorder, with their marks, to floor or to count; the scale is that of the floor.
+    ValueLists { input: List<f64>, marks: List<u8>, scale: f64 }
+}
+
+subject! {
+    /// The lists that entries are written to.
+    ResultLists { starts: List<u32>, rows: List<u32>, values: List<f64> }
+}
+
+subject! {
+    /// The lists that pairs are written to: those of a pattern list, of a chain or of a file.
+    PairLists { rows: List<u32>, columns: List<u32> }
+}
+
+subject! {
+    /// The lists that values are written to, and their marks.
+    OutputLists { values: List<f64>, marks: List<u8> }
+}
+
+impl OperatorLists {
+    /// The number of its rows.
+    pub fn rows(&self) -> usize {
+        self.row_starts.len().saturating_sub(1)
+    }
+
+    /// The places of a row's terms.
+    pub fn terms(&self, row: usize) -> std::ops::Range<usize> {
+        self.row_starts[row] as usize..self.row_starts[row + 1] as usize
+    }
+}
+
+impl EntryLists {
+    /// The number of its columns.
+    pub fn dimension(&self) -> usize {
+        self.starts.len().saturating_sub(1)
+    }
+
+    /// The places of a column's entries.
+    pub fn column(&self, column: usize) -> std::ops::Range<usize> {
+        self.starts[column] as usize..self.starts[column + 1] as usize
+    }
+}
+
+impl Pair {
+    /// Row and column, exchanged if row < column.
+    pub fn ordered(&self) -> (usize, usize) {
+        (self.row.max(self.column), self.row.min(self.column))
+    }
+}
