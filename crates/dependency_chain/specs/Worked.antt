@@ -13,6 +13,7 @@ use Rattle.lists.specs.Overwrite.{overwrite, filled}
 use Rattle.lists.specs.Select.{select, picked}
 use Rattle.refusal.specs.Steps.{Reply, answered, first, after}
 use Rattle.pairs.specs.Pair.{pairTotal}
+use Rattle.pairs.specs.Scratch.{chainWords}
 use Rattle.columns.specs.Columns.{boundSteps, brokenSteps, startsSteps, rowsSteps, columnSteps}
 use Rattle.columns.specs.Stored.{finiteSteps, storedSteps}
 use Rattle.columns.specs.Diagonal.{diagonalSteps}
@@ -26,7 +27,7 @@ use Rattle.chains.specs.Chain.{Chain}
 use Rattle.chains.specs.Before.{above, beside, beforeColumn, beforeRow}
 use Rattle.chains.specs.ChainOf.{chainBack, chainOf}
 use Rattle.selection.specs.RequestSteps.{requestSteps}
-use Rattle.dependency_chain.specs.Chain.{ChainCall, chainCall, chainWords, seekSteps, chainRoomSteps, askedSteps, chainSteps, ChainListed}
+use Rattle.dependency_chain.specs.Chain.{ChainCall, chainCall, seekSteps, chainRoomSteps, askedSteps, chainSteps, ChainListed}
 use Rattle.dependency_chain.specs.Answer.{ChainAnswer, Asked, places-enough, reply-none, reply-chain}
 
 -- the chain to (2, 1) with the request (row, column)
