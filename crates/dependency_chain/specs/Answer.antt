@@ -20,7 +20,7 @@ use Rattle.closed_set.specs.Requests.{requested}
 use Rattle.chains.specs.Chain.{Chain, LowerBack, Shown, pairAt, chain-some, chain-first, chain-leads, chain-last}
 use Rattle.levels.specs.Written.{rowsOf, columnsOf}
 use Rattle.dependency_chain.specs.Chain.{ChainCall, chainTo, chainRoomSteps, askedSteps, chainSteps, ChainListed}
-use Rattle.dependency_chain.specs.Laws.{asked-shown, asked-none, asked-most}
+use Rattle.dependency_chain.specs.Laws.{asked-shown, asked-needed, asked-none, asked-most}
 
 -- the first k pairs of two lists
 abbrev pub firstPairs : ℕ → List ℕ → List ℕ → List (ℕ × ℕ)
@@ -134,7 +134,8 @@ module _ (x : ChainCall) {s chainRows chainColumns : List ℕ} {reply : Reply �
         empty (p ∷ l) q = absurd (omega arith)
 
     -- else its chain
-    pub reply-chain : Asked x → ChainAnswer (desc x) (req x) (max (x .row) (x .column)) (min (x .row) (x .column)) k chainRows′ chainColumns′
-    reply-chain needed =
+    pub reply-chain : 0 < k → ChainAnswer (desc x) (req x) (max (x .row) (x .column)) (min (x .row) (x .column)) k chainRows′ chainColumns′
+    reply-chain some =
         shown-answer (desc x) (req x) _ _ k chainRows′ chainColumns′
-        (subst (λ (l : List (ℕ × ℕ)). Shown (desc x) (req x) l (max (x .row) (x .column)) (min (x .row) (x .column))) (sym reply-pairs) (asked-shown x s before needed))
+        (subst (λ (l : List (ℕ × ℕ)). Shown (desc x) (req x) l (max (x .row) (x .column)) (min (x .row) (x .column))) (sym reply-pairs)
+        (asked-shown x s before (asked-needed x s before (omega (arith, count)))))

@@ -20,7 +20,7 @@ use Rattle.closed_set.specs.ClosedSet.{Needed, Pattern, Ranged}
 use Rattle.closed_set.specs.Requests.{Requests, requested, requested-ranged}
 use Rattle.closed_set.specs.FactorPattern.{factor-pattern}
 use Rattle.chains.specs.Chain.{Shown}
-use Rattle.chains.specs.ChainOf.{chain-shown, chain-empty, chainOf-most}
+use Rattle.chains.specs.ChainOf.{chain-shown, chain-empty, chainOf-needed, chainOf-most}
 use Rattle.selection.specs.RequestSteps.{requestBoundSteps, requestSteps-sound}
 use Rattle.levels.specs.Levels.{levelWord}
 use Rattle.levels.specs.Written.{BackInput}
@@ -83,6 +83,12 @@ module _ (x : ChainCall) (s : List ℕ) (p : Passed (askedSteps x (length s))) w
   asked-most =
       let I = asked-accepted x s p in
       chainOf-most (x .factor .n) desc req asked-pattern asked-ranged (max (x .row) (x .column)) (min (x .row) (x .column)) (I .ordered) (I .inside)
+
+  -- of a pair of the set, if there are any
+  pub asked-needed : 0 < length (chainTo x) → Needed desc req (max (x .row) (x .column)) (min (x .row) (x .column))
+  asked-needed some =
+      let I = asked-accepted x s p in
+      chainOf-needed (x .factor .n) desc req asked-pattern asked-ranged (max (x .row) (x .column)) (min (x .row) (x .column)) (I .ordered) (I .inside) some
 
   -- no pairs exactly if it is not in the set
   pub asked-none : (chainTo x ≡ []) ↔ (Needed desc req (max (x .row) (x .column)) (min (x .row) (x .column)) → ⊥)

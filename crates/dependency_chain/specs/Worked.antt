@@ -4,7 +4,7 @@
 use Prim.Native.Nat.{ℕ, _≤_}
 use mathlib.Core.Path.{_≡_, refl}
 use mathlib.Core.List.{List, [], _∷_}
-use lib.Dec.{lit≤}
+use lib.Dec.{lit≤, lit<}
 use lib.ListN.{length}
 use lib.Ieee.{ofInt, ofBits, ne, le}
 use Rattle.lists.specs.Test.{any, anyIn}
@@ -19,7 +19,7 @@ use Rattle.columns.specs.Stored.{finiteSteps, storedSteps}
 use Rattle.columns.specs.Diagonal.{diagonalSteps}
 use Rattle.columns.specs.Kept.{nonzero, pattern}
 use Rattle.columns.specs.Examples.{F3-starts, F3-rows, F3-values}
-use Rattle.closed_set.specs.ClosedSet.{request, dependency, reach, member}
+use Rattle.closed_set.specs.ClosedSet.{reach, member}
 use Rattle.closed_set.specs.Requests.{requested}
 use Rattle.chains.specs.Least.{least}
 use Rattle.chains.specs.Distance.{distance}
@@ -44,14 +44,9 @@ unfolding any anyIn picked select tabulate filled overwrite ofInt ofBits ne le f
     requestSteps diagonalSteps seekSteps askedSteps chainWords chainSteps chainRoomSteps chainOf chainBack distance above beside beforeColumn beforeRow least reach member requested
 F3-listed = record { answer = refl; scratch-after = refl; rows-after = refl; columns-after = refl }
 
--- (2, 1) is in the closed set: (1, 0) is a dependency of (0, 0), and (2, 1) of (1, 0)
-F3-asked : Asked (F3-call 0 0)
-unfolding any picked select ofInt ofBits ne requested
-F3-asked = dependency 2 (dependency 1 (request {r = 0} {c = 0} refl) refl) refl
-
 -- `reply-chain`: the three pairs are the chain
 F3-answer : ChainAnswer (pattern F3-starts F3-rows (nonzero F3-values)) (requested (0 ∷ []) (0 ∷ [])) 2 1 3 (0 ∷ 1 ∷ 2 ∷ 9 ∷ 9 ∷ []) (0 ∷ 0 ∷ 1 ∷ 9 ∷ 9 ∷ [])
-F3-answer = reply-chain (F3-call 0 0) F3-listed refl F3-asked
+F3-answer = reply-chain (F3-call 0 0) F3-listed refl (lit< tt)
 
 -- so no chain to (2, 1) has two pairs
 F3-shortest : (m : List (ℕ × ℕ)) → Chain (pattern F3-starts F3-rows (nonzero F3-values)) (requested (0 ∷ []) (0 ∷ [])) m 2 1 → 3 ≤ length m
