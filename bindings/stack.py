@@ -19,20 +19,20 @@ WORD = 8
 # Functions of the C library that compilers call, and what is allowed for one of them.
 OUTSIDE = {"memset", "memcpy", "memmove", "memcmp", "bcmp"}
 OUTSIDE_BYTES = 512
-# Functions that call themselves, and how often at most one inside the other: `search` goes on in less than half of a list.
+# Functions that call themselves, and how deep at most: `search` goes on in at most half of its part.
 NESTED = {"column_search::search": 64}
 # A large frame is touched page by page: these steps, the first two of which hold its end and its size.
 PROBE = [r"mov +%rsp,%r11", r"sub +\$(0x[0-9a-f]+),%r11", r"sub +\$0x1000,%rsp", r"movq? +\$0x0,\(%rsp\)", r"cmp +%r11,%rsp", r"jne .*"]
 
 
-class Unread(Exception):
+class Fault(Exception):
     pass
 
 
 def promised():
     found = re.search(r"at\s+most\s+(\d+)\s+KiB\s+of\s+stack", HEADER.read_text().replace("\n *", "\n"))
     if not found:
-        raise Unread(f"{HEADER} promises no stack")
+        raise Fault(f"{HEADER} promises no stack")
     return int(found.group(1)) * 1024
 
 
@@ -41,7 +41,7 @@ def disassembled(archive):
     command = ["objdump", "-dr", "--no-show-raw-insn", archive]
     text = subprocess.run(command, capture_output=True, text=True, check=True).stdout
     if "elf64-x86-64" not in text:
-        raise Unread(f"{archive} is not x86-64")
+        raise Fault(f"{archive} is not x86-64")
     functions, places, section, code = {}, {}, None, None
     for line in text.splitlines():
         if found := re.match(r"Disassembly of section (.*):$", line):
@@ -49,7 +49,7 @@ def disassembled(archive):
         elif found := re.match(r"([0-9a-f]+) <(.*)>:$", line):
             address, name = int(found.group(1), 16), found.group(2)
             if name in functions:
-                raise Unread(f"two functions are named {name}")
+                raise Fault(f"two functions are named {name}")
             code = functions[name] = []
             places[section, address] = name
         elif found := re.match(r"\s+[0-9a-f]+: (R_X86_64_\w+)\t(.*)$", line):
@@ -66,10 +66,10 @@ def named(symbol, places):
     return places.get((name, offset), name if offset == 0 else symbol)
 
 
-def local(name, text, places):
+def local(name, operands, places):
     """The function that a call without a relocation names, which stands in the section of the function that calls it."""
     section = next(section for (section, _), function in places.items() if function == name)
-    return places.get((section, int(text.split()[1], 16)), text)
+    return places.get((section, int(operands.split()[0], 16)), operands)
 
 
 def probed(code, at):
@@ -83,51 +83,44 @@ def probed(code, at):
 def followed(name, code, places):
     """The greatest depth of a function itself, and its calls, each with the depth at which it is made."""
     index = {address: at for at, (address, _, _) in enumerate(code)}
-    calls, depths, todo = [], {}, [(0, 0)]
-
-    def go(at, depth):
-        if at >= len(code):
-            raise Unread(f"{name} runs past its end")
-        if depths.setdefault(at, depth) != depth:
-            raise Unread(f"{name} has two depths at {code[at][0]:x}")
-        todo.append((at, depth))
-
-    seen = set()
+    depths, calls, todo = {}, [], [(0, 0)]
     while todo:
         at, depth = todo.pop()
-        if at in seen:
+        if at in depths and depths[at] == depth:
             continue
-        seen.add(at)
+        if at in depths or at >= len(code):
+            raise Fault(f"{name} has two depths at a place, or runs past its end")
         depths[at] = depth
         _, text, symbol = code[at]
-        words = text.split(None, 1)
-        operation, operands = words[0], words[1] if len(words) > 1 else ""
+        operation, _, operands = text.partition(" ")
+        operands = operands.strip()
         if (size := probed(code, at)) is not None:
-            go(at + len(PROBE), depth + size)
+            todo.append((at + len(PROBE), depth + size))
         elif operation.startswith(("call", "j")):
             if "*" in operands:
-                raise Unread(f"{name} calls or jumps by pointer: {text}")
+                raise Fault(f"{name} calls or jumps by pointer: {text}")
             if operation.startswith("call"):
-                calls.append((depth + WORD, named(symbol, places) if symbol else local(name, text, places)))
+                calls.append((depth + WORD, named(symbol, places) if symbol else local(name, operands, places)))
             elif symbol:
                 calls.append((depth, named(symbol, places)))
             else:
-                go(index[int(operands.split()[0], 16)], depth)
+                todo.append((index[int(operands.split()[0], 16)], depth))
             if operation != "jmp":
-                go(at + 1, depth)
+                todo.append((at + 1, depth))
         elif operation.startswith(("ret", "ud2")):
             continue
         elif operation.startswith("push"):
-            go(at + 1, depth + WORD)
+            todo.append((at + 1, depth + WORD))
         elif operation.startswith("pop"):
-            go(at + 1, depth - WORD)
+            todo.append((at + 1, depth - WORD))
         elif found := re.fullmatch(r"(sub|add)q? +\$(-?0x[0-9a-f]+),%rsp", text):
-            go(at + 1, depth + int(found.group(2), 16) * (1 if found.group(1) == "sub" else -1))
+            size = int(found.group(2), 16)
+            todo.append((at + 1, depth + size if found.group(1) == "sub" else depth - size))
         elif operands.endswith(",%rsp") and operation not in ("cmp", "test"):
-            raise Unread(f"{name} sets the stack pointer: {text}")
+            raise Fault(f"{name} sets the stack pointer: {text}")
         else:
-            go(at + 1, depth)
-    return max(depths.values(), default=0), calls
+            todo.append((at + 1, depth))
+    return max(depths.values()), calls
 
 
 def main(archive):
@@ -139,14 +132,14 @@ def main(archive):
         if name in OUTSIDE:
             return OUTSIDE_BYTES, [name]
         if name in above:
-            raise Unread(f"{name} calls itself")
+            raise Fault(f"{name} calls itself")
         if name not in functions:
-            raise Unread(f"{above[-1]} calls {name}, which is not in the archive")
+            raise Fault(f"{above[-1]} calls {name}, which is not in the archive")
         if name not in deepest:
             own, calls = followed(name, functions[name], places)
             again = max((at for at, called in calls if called == name), default=0)
             if again and name not in NESTED:
-                raise Unread(f"{name} calls itself")
+                raise Fault(f"{name} calls itself")
             paths = [(own, [name])]
             for at, called in calls:
                 if called != name:
@@ -158,19 +151,20 @@ def main(archive):
 
     exports = [name for name in functions if name.startswith(EXPORT)]
     if not exports:
-        raise Unread(f"{archive} has no function {EXPORT}..")
+        raise Fault(f"{archive} has no function {EXPORT}..")
     # a call puts its place of return on the stack
     bytes_, path = max(depth(name, []) for name in exports)
     bytes_ += WORD
     most = promised()
     print(f"stack: {bytes_:,} bytes of {most:,} at most, by {' > '.join(path)}; {len(exports)} exported functions")
-    return 0 if bytes_ <= most else 1
+    if bytes_ > most:
+        raise Fault("that is more than include/redstartgilt.h promises")
 
 
 if __name__ == "__main__":
     if len(sys.argv) != 2:
         sys.exit(__doc__)
     try:
-        sys.exit(main(sys.argv[1]))
-    except Unread as unread:
-        sys.exit(f"stack: {unread}")
+        main(sys.argv[1])
+    except Fault as fault:
+        sys.exit(f"stack: {fault}")
