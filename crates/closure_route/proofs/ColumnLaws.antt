@@ -18,9 +18,9 @@ use Rattle.columns.specs.Factor.{Column, factor-column}
 use Rattle.columns.specs.Pattern.{pattern-at}
 use Rattle.entries.specs.Entries.{columnCount, position}
 use Rattle.entries.specs.Position.{columnCount-mono, position-first, position-below, position-rises, position-found}
-use Rattle.column_sums.specs.Column.{SumTerms, SumColumn, sumTerms, sumColumn, TermAt, termPosition}
-use Rattle.column_sums.specs.Sums.{SumInput}
-use Rattle.column_sums.specs.Stored.{StoreSumsInput}
+use Rattle.closure_route.specs.Column.{SumTerms, SumColumn, sumTerms, sumColumn, TermAt, termPosition}
+use Rattle.closure_route.specs.Sums.{SumInput}
+use Rattle.closure_route.specs.Stored.{StoreSumsInput}
 use Rattle.closure_route.specs.Finish.{StoreDiagonalInput}
 use Rattle.closure_route.specs.Route.{RouteLists, routeSet, ClosureRouteInput}
 

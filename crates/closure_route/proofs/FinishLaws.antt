@@ -10,8 +10,8 @@ use lib.Seq.{getD-append-add, getD-take, getD-drop, length-take-le}
 use lib.Ieee.{Float, nan}
 use Rattle.columns.specs.Columns.{row}
 use Rattle.columns.specs.Factor.{FirstFrom}
-use Rattle.column_sums.specs.Part.{PartSet}
-use Rattle.column_sums.proofs.StoredLaws.{first-less}
+use Rattle.closure_route.specs.Part.{PartSet}
+use Rattle.closure_route.proofs.StoredLaws.{first-less}
 use Rattle.closure_route.specs.Finish.{SumsFinished}
 
 -- ---- the last step

@@ -18,9 +18,9 @@ use Rattle.columns.specs.Kept.{desc}
 use Rattle.takahashi.specs.Recurrence.{Lower, Solves, at}
 use Rattle.exact.specs.Exact.{floats}
 use Rattle.entries.specs.Position.{columnCount-mono, position-first, position-in, position-below, position-rises}
-use Rattle.column_sums.specs.Column.{sumTerms, sumColumn}
-use Rattle.column_sums.specs.Sums.{inverseAt, sumBetween, sumBetween-cong, entrySum}
-use Rattle.column_sums.specs.Stored.{StoreSumsInput, SumsStored}
+use Rattle.closure_route.specs.Column.{sumTerms, sumColumn}
+use Rattle.closure_route.specs.Sums.{inverseAt, sumBetween, sumBetween-cong, entrySum}
+use Rattle.closure_route.specs.Stored.{StoreSumsInput, SumsStored}
 use Rattle.closure_route.specs.Finish.{SumsFinished, putIf, StoreDiagonalInput}
 use Rattle.closure_route.specs.Route.{RouteLists, routeSet, ClosureRouteInput, SolvedFrom, ColumnsSolved}
 use Rattle.closure_route.proofs.ColumnLaws.{placeIn, firstOf, routeTerms, routeColumn, column, row-below, row-inside, dependency, word-is}

@@ -1,3 +1,11 @@
+pub mod PartLaws
+pub mod RunLaws
+pub mod ProductLaws
+pub mod SumLaws
+pub mod RestLaws
+pub mod StoredLaws
+pub mod LowerLaws
+pub mod UpperLaws
 pub mod FinishLaws
 pub mod RouteLaws
 pub mod ColumnLaws

@@ -7,8 +7,8 @@ use mathlib.Core.List.{List}
 use lib.ListN.{length, getD, set}
 use lib.Ieee.{Float, nan}
 use Rattle.columns.specs.Columns.{row}
-use Rattle.column_sums.specs.Column.{SumTerms}
-use Rattle.column_sums.specs.Sums.{SumInput}
+use Rattle.closure_route.specs.Column.{SumTerms}
+use Rattle.closure_route.specs.Sums.{SumInput}
 
 -- the places from first to below last have had the last step where their row is below j, and the later ones are as they were
 pub record SumsFinished (j : ℕ) (step : Float → Float) (rows : List ℕ) (first last : ℕ) (z₀ z : List Float) : Type 0 where

@@ -1,6 +1,10 @@
 // Takahashi's recurrence over a closed set of pairs, columns from the last to the first, after `takahashi_selected_inverse_on_closure`
 // of uncertainty.rs.
 pub mod finish;
+pub mod products;
+pub mod runs;
+pub mod stored_sums;
+pub mod sums;
 
 ghost use mathlib.Core.Path.{_≡_};
 ghost use Prim.Native.Nat.{_+_, _<_};
@@ -10,10 +14,10 @@ ghost use Rattle.pairs.specs.ColumnOrder.{columnMarking};
 ghost use Rattle.columns.specs.Diagonal.{Diagonals};
 ghost use Rattle.entries.specs.Entries.{entryValues, floatTable};
 ghost use Rattle.closure_route.specs.Route.{routeLists, ClosureRouteInput, ColumnInput, ColumnsSolved};
-use column_sums::store_sums;
 use finish::divide_part;
 use finish::store_diagonal;
 use kept_entries::diagonal::diagonal;
+use stored_sums::store_sums;
 use words::at;
 
 // The entries of column j, once those of the later columns are there: the sums, their division, and last the diagonal's entry. A column without

@@ -30,7 +30,7 @@ use Rattle.closed_set.specs.FactorPattern.{factor-pattern}
 use Rattle.layout.specs.Layout.{LayOut, LaidOut}
 use Rattle.closure_route.specs.Route.{routeLists, ClosureRouteInput, laid-same, laid-route}
 use Rattle.closure_route.specs.Members.{marked-size, marked-closed}
-use Rattle.routes.specs.Routes.{RoutesInput}
+use Rattle.fill.specs.Routes.{RoutesInput}
 use Rattle.diagnostics.specs.Diagnosis.{maxCount}
 use Rattle.selection.specs.Diagnosis.{diagnosisOf}
 use Rattle.selection.specs.Selection.{Selection, selecting, choleskyOf, Lent, roomOf, Accepted, scratchWords, selectedSet, selectedSize, selectedComplete, selectedAnswer, selectedTable, lists, fillingOf, selectedPattern}

@@ -1,4 +1,7 @@
 // Filling result lists: what every call does past its checks, once the requested pairs are marked.
+pub mod kept_pattern;
+pub mod routes;
+
 ghost use Rattle.columns.specs.Columns.{factorLists};
 ghost use Rattle.columns.specs.Form.{cholesky};
 ghost use Rattle.selection.specs.Selection.{lists};

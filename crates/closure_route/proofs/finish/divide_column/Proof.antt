@@ -6,8 +6,8 @@ use lib.Ieee.{nan}
 use denote.Ref.{now}
 use borrow.Author.Needs.{needs}
 use Rattle.exact.specs.Exact.{float-off}
-use Rattle.column_sums.specs.Part.{PartSet}
-use Rattle.column_sums.proofs.PartLaws.{part-none, part-more}
+use Rattle.closure_route.specs.Part.{PartSet}
+use Rattle.closure_route.proofs.PartLaws.{part-none, part-more}
 use Rattle.closure_route.proofs.FinishLaws.{sums-finished}
 use Rattle.closure_route.proofs.finish.divide_column.Statement.{statement}
 use Rattle.closure_route.proofs.finish.divide_column.Tie as tie

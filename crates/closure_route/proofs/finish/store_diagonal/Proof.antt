@@ -8,8 +8,8 @@ use borrow.Author.Needs.{needs}
 use borrow.Author.Tests.{eq-eqb, ne-eqb}
 use Rattle.columns.specs.Columns.{row}
 use Rattle.exact.specs.Exact.{float-on}
-use Rattle.column_sums.specs.Column.{sumTerms}
-use Rattle.column_sums.specs.Sums.{entrySum}
+use Rattle.closure_route.specs.Column.{sumTerms}
+use Rattle.closure_route.specs.Sums.{entrySum}
 use Rattle.closure_route.specs.Finish.{putIf}
 use Rattle.closure_route.proofs.finish.store_diagonal.Statement.{statement}
 use Rattle.closure_route.proofs.finish.store_diagonal.Tie as tie

@@ -1,3 +1,0 @@
-pub mod AgreeLaws
-pub mod KeptLaws
-pub mod ChoiceLaws
