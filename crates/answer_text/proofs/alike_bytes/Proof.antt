@@ -1,5 +1,5 @@
 use borrow.Author.Needs.{needs}
-use Prim.Native.Nat.{_≤_, _<_, _-_, _+_}
+use Prim.Native.Nat.{_≤_, _<_, _-_}
 use lib.ListN.{length}
 use Rattle.answer_text.proofs.alike_bytes.Statement.{statement}
 use Rattle.answer_text.proofs.alike_bytes.Tie as tie

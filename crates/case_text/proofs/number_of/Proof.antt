@@ -1,4 +1,3 @@
-use Prim.Native.Nat.{ℕ}
 use Rattle.case_text.specs.Text.{numberAt}
 use borrow.Author.Needs.{needs}
 use denote.Ref.{now}
