@@ -117,8 +117,8 @@ SCALARS = ("n", "rdim", "limit", "ncols", "ancols", "bncols", "prow", "pcol", "f
 VALUES = ("values", "oweights", "aweights", "bweights", "input", "lvalues", "lout")
 BYTES = ("file",)
 MARKS = ("marks", "lmarks")
-# what the program has room for: ROOM items of a list, so many pairs and bytes, and this dimension where it lends its own lists
-PAIRS, TEXT, DIMENSION = 64, 2097152, 256
+# what the program has room for: ROOM items of a list, so many pairs, bytes of a case, and this dimension where it lends its own lists
+PAIRS, LONGEST, DIMENSION = 64, 1048576, 256
 SEVENS = struct.pack(">d", 7777.0).hex()
 
 
@@ -1390,7 +1390,7 @@ def write_list(programs):
     cases = [case for part in parts.values() for case in part]
     stdin, stdout = "".join(case.text for case in cases), "".join(case.answer for case in cases)
     assert len({case.name for case in cases}) == len(cases)
-    assert len(stdin) <= TEXT, len(stdin)
+    assert max(len(case.text) for case in cases) <= LONGEST
     for name, text in (("stdin", stdin), ("stdout", stdout)):
         with open(os.path.join(top, name), "w") as file:
             file.write(text)
@@ -1402,26 +1402,18 @@ def write_list(programs):
 
 
 def compare(programs, program, *seed):
-    """Runs the program on all cases, as many at a time as its text holds."""
+    """Runs the program on all cases, a set at a time."""
     found = []
     for name in ["cases.txt", *SETS]:
         cases = given(programs) if name == "cases.txt" else generated(programs, name, *seed)
-        wrong = at = 0
-        while at < len(cases):
-            end, length = at, 0
-            while end < len(cases) and length + len(cases[end].text) <= TEXT:
-                length += len(cases[end].text)
-                end += 1
-            got = [block(*x) for x in blocks(run(program, text="".join(c.text for c in cases[at:end])))]
-            assert len(got) == end - at, (name, len(got), end - at)
-            for case, text in zip(cases[at:end], got):
-                if case.answer != text:
-                    wrong += 1
-                    if wrong <= 3:
-                        print("DIFFERENT", case.text, "expected", case.answer, "got", text, sep="\n")
-            at = end
+        assert max(len(case.text) for case in cases) <= LONGEST, name
+        got = [block(*x) for x in blocks(run(program, text="".join(case.text for case in cases)))]
+        assert len(got) == len(cases), (name, len(got), len(cases))
+        wrong = [(case, text) for case, text in zip(cases, got) if case.answer != text]
+        for case, text in wrong[:3]:
+            print("DIFFERENT", case.text, "expected", case.answer, "got", text, sep="\n")
         found += [case for case in cases if case.difference]
-        print(name, len(cases), "cases,", wrong, "different")
+        print(name, len(cases), "cases,", len(wrong), "different")
     put_differences(found)
 
 

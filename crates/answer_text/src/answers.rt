@@ -61,16 +61,16 @@ fn put_pair_count(count: usize) {
     put_number(b"pairs ", count);
 }
 
-fn put_listed(answer: PatternPairs) {
+// The reply of a call for pattern lists.
+pub fn put_listed(answer: PatternPairs) {
     match answer {
         PatternPairs::Listed(count) => put_pair_count(count),
         PatternPairs::Refused(why) => put_refused(why),
     }
 }
 
-// The reply of a call for pattern lists, and the lists after it.
-pub fn put_pairs(answer: PatternPairs, scratch: &[u32], pair_rows: &[u32], pair_columns: &[u32]) {
-    put_listed(answer);
+// The lists after it.
+pub fn put_pairs(scratch: &[u32], pair_rows: &[u32], pair_columns: &[u32]) {
     put_scratch(scratch);
     put_words(b"prows ", pair_rows);
     put_words(b"pcols ", pair_columns);
@@ -86,37 +86,37 @@ fn put_chain_length(count: usize) {
     }
 }
 
-fn put_chain_reply(answer: Chain) {
+// The reply of a call for a chain.
+pub fn put_chain(answer: Chain) {
     match answer {
         Chain::Pairs(count) => put_chain_length(count),
         Chain::Refused(why) => put_refused(why),
     }
 }
 
-// The reply of a call for a chain, and the lists after it.
-pub fn put_chain(answer: Chain, scratch: &[u32], chain_rows: &[u32], chain_columns: &[u32]) {
-    put_chain_reply(answer);
+// The lists after it.
+pub fn put_chain_pairs(scratch: &[u32], chain_rows: &[u32], chain_columns: &[u32]) {
     put_scratch(scratch);
     put_words(b"crows ", chain_rows);
     put_words(b"ccols ", chain_columns);
 }
 
-fn put_requests(dimension: usize, count: usize) {
+fn put_sizes(dimension: usize, count: usize) {
     put_ok();
     put_number(b"rdim ", dimension);
     put_number(b"requests ", count);
 }
 
-fn put_read(answer: ReadRequests) {
+// The reply of reading a file of requests.
+pub fn put_read(answer: ReadRequests) {
     match answer {
-        ReadRequests::Read(dimension, count) => put_requests(dimension, count),
+        ReadRequests::Read(dimension, count) => put_sizes(dimension, count),
         ReadRequests::Refused(why) => put_refused(why),
     }
 }
 
-// The reply of reading a file of requests, and the lists after it.
-pub fn put_file(answer: ReadRequests, rows: &[u32], columns: &[u32]) {
-    put_read(answer);
+// The lists after it.
+pub fn put_requests(rows: &[u32], columns: &[u32]) {
     put_words(b"rrows ", rows);
     put_words(b"rcols ", columns);
 }
@@ -160,29 +160,25 @@ fn put_diagnosis(d: SelectedInverseDiagnostics) {
     put_value_line(b"ratio ", d.closure_over_factor);
 }
 
-fn put_answer(answer: Selected) {
+// The reply of a call that fills result lists; true where it filled them.
+pub fn put_answer(answer: Selected) -> bool {
     match answer {
-        Selected::Answered(d) => put_diagnosis(d),
-        Selected::Refused(why) => put_refused(why),
+        Selected::Answered(d) => {
+            put_diagnosis(d);
+            d.is_complete()
+        }
+        Selected::Refused(why) => {
+            put_refused(why);
+            false
+        }
     }
 }
 
-fn put_result(starts: &[u32], rows: &[u32], values: &[f64]) {
+// The lists after a call that fills result lists.
+pub fn put_result(starts: &[u32], rows: &[u32], values: &[f64], scratch: &[u32]) {
     put_words(b"starts ", starts);
     put_words(b"rows ", rows);
     put_values(b"values ", values);
-}
-
-// The reply of a call for selected entries, and the lists after it.
-pub fn put_selected(
-    answer: Selected,
-    starts: &[u32],
-    rows: &[u32],
-    values: &[f64],
-    scratch: &[u32],
-) {
-    put_answer(answer);
-    put_result(starts, rows, values);
     put_scratch(scratch);
 }
 

@@ -2,4 +2,4 @@
 pub mod Text
 pub mod Items
 pub mod Fields
-pub mod Groups
+pub mod Examples

@@ -1,64 +1,38 @@
-// The fields of a case: a label, then a number or a counted list. A field that does not stand at the place is read as 0, or as an empty list.
+// The fields of a case, each found by its label, which starts with the line end before it. A field that the case lacks is read as 0, or as an empty list.
 ghost use mathlib.Core.Path.{_≡_};
-ghost use Rattle.case_text.specs.Items.{wordAt, byteAt, valueAt};
-ghost use Rattle.case_text.specs.Fields.{numberField, pastNumberField, ListField};
-use super::begins;
+ghost use Rattle.case_text.specs.Items.{wordAt, byteAt, valueAt, Listing};
+ghost use Rattle.case_text.specs.Fields.{fieldAt, numberField};
 use super::decimal;
-use super::items::Listed;
 use super::items::read_bytes;
 use super::items::read_values;
 use super::items::read_words;
-use super::past_label;
 use super::skip_blanks;
-use super::skip_word;
-
-// A number, and the place after it.
-pub struct Number {
-    pub value: usize,
-    pub next: usize,
-}
+use super::skip_to;
 
 // The number after the label.
-pub fn number_field(text: &[u8], p: usize, label: &[u8]) -> Number
-    ensures { λ r. ⌜ r .value ≡ numberField (now (text .entry)) p (now (label .entry)) ⌝ }
-    ensures { λ r. ⌜ r .next ≡ pastNumberField (now (text .entry)) p (now (label .entry)) ⌝ }
+pub fn number_field(text: &[u8], label: &[u8]) -> usize
+    ensures { λ r. ⌜ r ≡ numberField (now (text .entry)) (now (label .entry)) ⌝ }
 {
-    if begins(text, skip_blanks(text, p), label) {
-        let at = skip_blanks(text, past_label(text, p, label));
-        return Number {
-            value: decimal(text, at) as usize,
-            next: skip_word(text, at),
-        };
-    }
-    Number { value: 0, next: p }
+    decimal(text, skip_blanks(text, skip_to(text, 0, label))) as usize
 }
 
-// The list of words after the label, put to the front of the lent list.
-pub fn word_field(text: &[u8], p: usize, label: &[u8], list: &mut [u32]) -> Listed
-    ensures { λ r. ⌜ ListField wordAt (now (text .entry)) p (now (label .entry)) (now (list .entry)) (r .count) (r .next) (now (list .exit)) ⌝ }
+// The list of words after the label, put to the front of the lent list; the reply is how many.
+pub fn word_field(text: &[u8], label: &[u8], list: &mut [u32]) -> usize
+    ensures { λ r. ⌜ Listing wordAt (now (text .entry)) (fieldAt (now (text .entry)) (now (label .entry))) (now (list .entry)) r (now (list .exit)) ⌝ }
 {
-    if begins(text, skip_blanks(text, p), label) {
-        return read_words(text, past_label(text, p, label), list);
-    }
-    Listed { count: 0, next: p }
+    read_words(text, skip_to(text, 0, label), list)
 }
 
-// The list of bytes after the label.
-pub fn byte_field(text: &[u8], p: usize, label: &[u8], hex: bool, list: &mut [u8]) -> Listed
-    ensures { λ r. ⌜ ListField (byteAt hex) (now (text .entry)) p (now (label .entry)) (now (list .entry)) (r .count) (r .next) (now (list .exit)) ⌝ }
+// The same with bytes, as hexadecimal or decimal numbers.
+pub fn byte_field(text: &[u8], label: &[u8], hex: bool, list: &mut [u8]) -> usize
+    ensures { λ r. ⌜ Listing (byteAt hex) (now (text .entry)) (fieldAt (now (text .entry)) (now (label .entry))) (now (list .entry)) r (now (list .exit)) ⌝ }
 {
-    if begins(text, skip_blanks(text, p), label) {
-        return read_bytes(text, past_label(text, p, label), hex, list);
-    }
-    Listed { count: 0, next: p }
+    read_bytes(text, skip_to(text, 0, label), hex, list)
 }
 
-// The list of values after the label.
-pub fn value_field(text: &[u8], p: usize, label: &[u8], list: &mut [f64]) -> Listed
-    ensures { λ r. ⌜ ListField valueAt (now (text .entry)) p (now (label .entry)) (now (list .entry)) (r .count) (r .next) (now (list .exit)) ⌝ }
+// The same with values.
+pub fn value_field(text: &[u8], label: &[u8], list: &mut [f64]) -> usize
+    ensures { λ r. ⌜ Listing valueAt (now (text .entry)) (fieldAt (now (text .entry)) (now (label .entry))) (now (list .entry)) r (now (list .exit)) ⌝ }
 {
-    if begins(text, skip_blanks(text, p), label) {
-        return read_values(text, past_label(text, p, label), list);
-    }
-    Listed { count: 0, next: p }
+    read_values(text, skip_to(text, 0, label), list)
 }

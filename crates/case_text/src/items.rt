@@ -3,19 +3,13 @@ ghost use mathlib.Core.Path.{_≡_};
 ghost use Prim.Native.Nat.{_≤_, min};
 ghost use lib.ListN.{length};
 ghost use Rattle.lists.specs.Overwrite.{filled};
-ghost use Rattle.case_text.specs.Items.{pastItems, wordAt, byteAt, valueAt, pastCount, Listing};
+ghost use Rattle.case_text.specs.Items.{wordAt, byteAt, valueAt, Listing};
 use super::decimal;
 use super::float_value;
 use super::number_of;
 use super::skip_blanks;
 use super::skip_word;
 use words::order::smaller;
-
-// How many items were put, and the place after the list.
-pub struct Listed {
-    pub count: usize,
-    pub next: usize,
-}
 
 fn narrow(x: u64) -> u32
     ensures { λ r. ⌜ r ≡ min x 4294967295 ⌝ }
@@ -35,23 +29,9 @@ fn narrow_byte(x: u64) -> u8
     255
 }
 
-// The place after `count` items from p on.
-fn skip_items(text: &[u8], p: usize, count: usize) -> usize
-    ensures { λ r. ⌜ r ≡ pastItems (now (text .entry)) p count ⌝ }
-{
-    let mut q = p;
-    let mut i = 0;
-    while i < count {
-        q = skip_word(text, skip_blanks(text, q));
-        i += 1;
-    }
-    q
-}
-
-// Puts the first `count` items after p to the front of the list; the reply is the place after them.
-fn put_words(text: &[u8], p: usize, count: usize, list: &mut [u32]) -> usize
+// Puts the first `count` items after p to the front of the list.
+fn put_words(text: &[u8], p: usize, count: usize, list: &mut [u32])
     requires { ⌜ count ≤ length (now list) ⌝ }
-    ensures { λ r. ⌜ r ≡ pastItems (now (text .entry)) p count ⌝ }
     ensures { λ _. ⌜ now (list .exit) ≡ filled (wordAt (now (text .entry)) p) count (now (list .entry)) ⌝ }
 {
     let mut q = p;
@@ -62,13 +42,11 @@ fn put_words(text: &[u8], p: usize, count: usize, list: &mut [u32]) -> usize
         q = skip_word(text, q);
         i += 1;
     }
-    q
 }
 
 // The same with bytes, as hexadecimal or decimal numbers.
-fn put_bytes(text: &[u8], p: usize, count: usize, hex: bool, list: &mut [u8]) -> usize
+fn put_bytes(text: &[u8], p: usize, count: usize, hex: bool, list: &mut [u8])
     requires { ⌜ count ≤ length (now list) ⌝ }
-    ensures { λ r. ⌜ r ≡ pastItems (now (text .entry)) p count ⌝ }
     ensures { λ _. ⌜ now (list .exit) ≡ filled (byteAt hex (now (text .entry)) p) count (now (list .entry)) ⌝ }
 {
     let mut q = p;
@@ -79,13 +57,11 @@ fn put_bytes(text: &[u8], p: usize, count: usize, hex: bool, list: &mut [u8]) ->
         q = skip_word(text, q);
         i += 1;
     }
-    q
 }
 
 // The same with values.
-fn put_values(text: &[u8], p: usize, count: usize, list: &mut [f64]) -> usize
+fn put_values(text: &[u8], p: usize, count: usize, list: &mut [f64])
     requires { ⌜ count ≤ length (now list) ⌝ }
-    ensures { λ r. ⌜ r ≡ pastItems (now (text .entry)) p count ⌝ }
     ensures { λ _. ⌜ now (list .exit) ≡ filled (valueAt (now (text .entry)) p) count (now (list .entry)) ⌝ }
 {
     let mut q = p;
@@ -96,50 +72,37 @@ fn put_values(text: &[u8], p: usize, count: usize, list: &mut [f64]) -> usize
         q = skip_word(text, q);
         i += 1;
     }
-    q
 }
 
 // Reads a counted list of words.
-pub fn read_words(text: &[u8], p: usize, list: &mut [u32]) -> Listed
-    ensures { λ r. ⌜ Listing (wordAt (now (text .entry)) (pastCount (now (text .entry)) p)) (now (text .entry)) p (now (list .entry)) (r .count) (r .next) (now (list .exit)) ⌝ }
+pub fn read_words(text: &[u8], p: usize, list: &mut [u32]) -> usize
+    ensures { λ r. ⌜ Listing wordAt (now (text .entry)) p (now (list .entry)) r (now (list .exit)) ⌝ }
 {
     let at = skip_blanks(text, p);
     let items = decimal(text, at) as usize;
-    let first = skip_word(text, at);
     let count = smaller(items, list.len());
-    let next = put_words(text, first, count, list);
-    Listed {
-        count: count,
-        next: skip_items(text, next, items - count),
-    }
+    put_words(text, skip_word(text, at), count, list);
+    count
 }
 
 // Reads a counted list of bytes.
-pub fn read_bytes(text: &[u8], p: usize, hex: bool, list: &mut [u8]) -> Listed
-    ensures { λ r. ⌜ Listing (byteAt hex (now (text .entry)) (pastCount (now (text .entry)) p)) (now (text .entry)) p (now (list .entry)) (r .count) (r .next) (now (list .exit)) ⌝ }
+pub fn read_bytes(text: &[u8], p: usize, hex: bool, list: &mut [u8]) -> usize
+    ensures { λ r. ⌜ Listing (byteAt hex) (now (text .entry)) p (now (list .entry)) r (now (list .exit)) ⌝ }
 {
     let at = skip_blanks(text, p);
     let items = decimal(text, at) as usize;
-    let first = skip_word(text, at);
     let count = smaller(items, list.len());
-    let next = put_bytes(text, first, count, hex, list);
-    Listed {
-        count: count,
-        next: skip_items(text, next, items - count),
-    }
+    put_bytes(text, skip_word(text, at), count, hex, list);
+    count
 }
 
 // Reads a counted list of values.
-pub fn read_values(text: &[u8], p: usize, list: &mut [f64]) -> Listed
-    ensures { λ r. ⌜ Listing (valueAt (now (text .entry)) (pastCount (now (text .entry)) p)) (now (text .entry)) p (now (list .entry)) (r .count) (r .next) (now (list .exit)) ⌝ }
+pub fn read_values(text: &[u8], p: usize, list: &mut [f64]) -> usize
+    ensures { λ r. ⌜ Listing valueAt (now (text .entry)) p (now (list .entry)) r (now (list .exit)) ⌝ }
 {
     let at = skip_blanks(text, p);
     let items = decimal(text, at) as usize;
-    let first = skip_word(text, at);
     let count = smaller(items, list.len());
-    let next = put_values(text, first, count, list);
-    Listed {
-        count: count,
-        next: skip_items(text, next, items - count),
-    }
+    put_values(text, skip_word(text, at), count, list);
+    count
 }

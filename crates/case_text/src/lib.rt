@@ -1,13 +1,12 @@
 // Reading the text of cases: what stands at a place, and the place after it.
 pub mod fields;
-pub mod groups;
 pub mod items;
 
 ghost use mathlib.Core.Path.{_≡_};
 ghost use mathlib.Core.Bool.{cond};
 ghost use Prim.Native.Nat.{_+_, _*_, _≤_, _<_};
 ghost use lib.Ieee.{binary64, ofBits};
-ghost use Rattle.case_text.specs.Text.{pastBlanks, pastWord, digitOf, digitMore, numberAt, pastLabel, pastFirst, begins as Text·begins};
+ghost use Rattle.case_text.specs.Text.{pastBlanks, pastWord, digitOf, digitMore, numberAt, pastFirst, begins as Text·begins};
 
 fn wide(b: u8) -> u64
     ensures { λ r. ⌜ r ≡ b ⌝ }
@@ -157,17 +156,6 @@ pub fn begins(text: &[u8], p: usize, label: &[u8]) -> bool
 }
 
 // The place after the label, where it stands first from p on; else the text's end.
-pub fn past_label(text: &[u8], p: usize, label: &[u8]) -> usize
-    ensures { λ r. ⌜ r ≡ pastLabel (now (text .entry)) p (now (label .entry)) ⌝ }
-{
-    let at = skip_blanks(text, p);
-    if begins(text, at, label) {
-        return at + label.len();
-    }
-    text.len()
-}
-
-// The place after the label, where it stands first anywhere from p on; else the text's end.
 pub fn skip_to(text: &[u8], p: usize, label: &[u8]) -> usize
     ensures { λ r. ⌜ r ≡ pastFirst (now (text .entry)) p (now (label .entry)) ⌝ }
 {

@@ -1,73 +1,85 @@
 // The cases of a text, one after another.
-use super::chains::chains;
-use super::files::reading;
-use super::floors::least_value;
-use super::floors::stabilization;
-use super::lookups::diagonals;
-use super::lookups::lookups;
-use super::patterns::patterns;
-use super::permutations::application;
-use super::permutations::inversion;
-use super::permutations::marked_application;
-use super::permutations::validation;
-use super::searches::searches;
+ghost use Prim.Native.Nat.{_≤_};
+ghost use lib.ListN.{length};
+use super::files::of_files;
+use super::floors::of_floors;
+use super::permutations::of_permutations;
 use answer_text::put;
 use answer_text::put_part;
 use case_text::begins;
-use case_text::past_label;
 use case_text::skip_blanks;
 use case_text::skip_to;
 use case_text::skip_word;
-use replay_results::results;
+use replay_entries::of_entries;
+use replay_lookups::of_lookups;
+use replay_patterns::of_patterns;
+use replay_variances::of_variances;
 
-// The call of the kind, with the fields from p on.
-fn call(text: &[u8], kind: usize, p: usize) {
-    if begins(text, kind, b"permvalidate\n") {
-        validation(text, p);
-    } else if begins(text, kind, b"permfrom\n") {
-        inversion(text, p);
-    } else if begins(text, kind, b"permapply\n") {
-        application(text, p);
-    } else if begins(text, kind, b"permmarked\n") {
-        marked_application(text, p);
-    } else if begins(text, kind, b"floor\n") {
-        stabilization(text, p);
-    } else if begins(text, kind, b"least\n") {
-        least_value(text, p);
-    } else if begins(text, kind, b"get\n") {
-        lookups(text, p);
-    } else if begins(text, kind, b"diag\n") {
-        diagonals(text, p);
-    } else if begins(text, kind, b"search\n") {
-        searches(text, p);
-    } else if begins(text, kind, b"chain\n") {
-        chains(text, p);
-    } else if begins(text, kind, b"mmread\n") {
-        reading(text, p);
-    } else if begins(text, kind, b"pat") {
-        patterns(text, kind, p);
-    } else {
-        results(text, kind, p);
+// The call of the kind that is named at `name`, and its answer.
+fn call(text: &[u8], name: usize) {
+    if of_entries(text, name) {
+        return;
     }
+    if of_variances(text, name) {
+        return;
+    }
+    if of_lookups(text, name) {
+        return;
+    }
+    if of_patterns(text, name) {
+        return;
+    }
+    if of_permutations(text, name) {
+        return;
+    }
+    if of_floors(text, name) {
+        return;
+    }
+    if of_files(text, name) {
+        return;
+    }
+    put(b"unknown kind\n");
 }
 
-// The case at p: its first line as it stands, the answer, and its last line.
-fn case(text: &[u8], p: usize) {
-    let name = past_label(text, p, b"case ");
+// A case: its first line as it stands, the answer, and its last line.
+fn case(text: &[u8]) {
+    let name = skip_to(text, 0, b"case ");
     let kind = skip_blanks(text, skip_word(text, name));
-    let fields = skip_word(text, kind);
     put(b"case ");
-    put_part(text, name, fields);
+    put_part(text, name, skip_word(text, kind));
     put(b"\n");
-    call(text, kind, fields);
+    call(text, kind);
     put(b"end\n");
 }
 
-// Each case ends with a line `end`.
-pub fn replay(text: &[u8]) {
+// The place after the case at p; p itself where the text does not have its end.
+fn past_case(text: &[u8], p: usize) -> usize
+    requires { ⌜ p ≤ length (now text) ⌝ }
+    ensures { λ r. ⌜ p ≤ r ⌝ }
+    ensures { λ r. ⌜ r ≤ length (now (text .entry)) ⌝ }
+{
+    let next = skip_to(text, p, b"\nend\n");
+    if p + 5 <= next {
+        if next <= text.len() {
+            if begins(text, next - 5, b"\nend\n") {
+                return next;
+            }
+        }
+    }
+    p
+}
+
+// All cases that are whole in the text; the reply is the place after them.
+pub fn replay(text: &[u8]) -> usize
+    ensures { λ r. ⌜ r ≤ length (now (text .entry)) ⌝ }
+{
     let mut p = 0;
-    while p < text.len() {
-        case(text, p);
-        p = skip_to(text, p, b"\nend\n");
+    loop {
+        let next = past_case(text, p);
+        if next <= p {
+            return p;
+        }
+        case(&text[p..next]);
+        p = next;
     }
 }

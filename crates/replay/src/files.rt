@@ -1,24 +1,33 @@
 // Requests read from Matrix Market files.
-use answer_text::answers::put_file;
-use case_text::fields::byte_field;
-use case_text::groups::lent_words;
+use answer_text::answers::put_read;
+use answer_text::answers::put_requests;
+use case_lists::ROOM;
+use case_lists::bytes_of;
+use case_lists::lent::lent_words;
+use case_text::begins;
 use requests_reader::read_requests;
 
-// The places of each list that a case is read into.
-const ROOM: usize = 4608;
-
-fn read(text: &[u8], p: usize, rows: &mut [u32], columns: &mut [u32]) {
+fn read(text: &[u8], rows: &mut [u32], columns: &mut [u32]) {
     let mut file = [0u8; ROOM];
-    let f = byte_field(text, p, b"file ", true, &mut file);
-    let answer = read_requests(&file[..f.count], rows, columns);
-    put_file(answer, rows, columns);
+    put_read(read_requests(bytes_of(text, b"\nfile ", true, &mut file), rows, columns));
+    put_requests(rows, columns);
 }
 
-// The requests of the file after p; the lists that stand at p are lent or, where none do, lists of 7777.
-pub fn reading(text: &[u8], p: usize) {
+fn reading(text: &[u8]) {
     let mut rows = [7777u32; ROOM];
     let mut columns = [7777u32; ROOM];
-    let i = lent_words(text, p, b"lrrows ", &mut rows);
-    let j = lent_words(text, i.next, b"lrcols ", &mut columns);
-    read(text, j.next, &mut rows[..i.count], &mut columns[..j.count]);
+    read(
+        text,
+        lent_words(text, b"\nlrrows ", &mut rows),
+        lent_words(text, b"\nlrcols ", &mut columns),
+    );
+}
+
+// The case, if the kind that is named at `name` is this.
+pub fn of_files(text: &[u8], name: usize) -> bool {
+    if begins(text, name, b"mmread\n") {
+        reading(text);
+        return true;
+    }
+    false
 }

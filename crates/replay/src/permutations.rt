@@ -3,91 +3,102 @@ use answer_text::answers::put_checked;
 use answer_text::answers::put_marks;
 use answer_text::answers::put_output;
 use answer_text::put_words;
-use case_text::fields::byte_field;
-use case_text::fields::value_field;
-use case_text::fields::word_field;
-use case_text::groups::lent_marks;
-use case_text::groups::lent_output;
-use case_text::groups::lent_words;
-use case_text::groups::permutation_field;
+use case_lists::ROOM;
+use case_lists::bytes_of;
+use case_lists::input;
+use case_lists::lent::lent_marks;
+use case_lists::lent::lent_output;
+use case_lists::lent::lent_words;
+use case_lists::permutation;
+use case_lists::words_of;
+use case_text::begins;
 use permutation::from_orig_to_perm;
 use permutation::permute_factor_to_original;
 use permutation::permute_factor_to_original_marked;
 use permutation::validate;
 
-// The places of each list that a case is read into.
-const ROOM: usize = 4608;
-
-// Permutation and inverse that stand at p.
-pub fn validation(text: &[u8], p: usize) {
+fn validation(text: &[u8]) {
     let mut orig_to_perm = [0u32; ROOM];
     let mut perm_to_orig = [0u32; ROOM];
-    let i = permutation_field(text, p, &mut orig_to_perm);
-    let j = word_field(text, i.next, b"inv ", &mut perm_to_orig);
-    put_checked(validate(&orig_to_perm[..i.count], &perm_to_orig[..j.count]));
+    put_checked(validate(
+        permutation(text, &mut orig_to_perm),
+        words_of(text, b"\ninv ", &mut perm_to_orig),
+    ));
 }
 
-fn invert(text: &[u8], p: usize, perm_to_orig: &mut [u32]) {
+fn invert(text: &[u8], perm_to_orig: &mut [u32]) {
     let mut orig_to_perm = [0u32; ROOM];
-    let i = permutation_field(text, p, &mut orig_to_perm);
-    let answer = from_orig_to_perm(&orig_to_perm[..i.count], perm_to_orig);
-    put_checked(answer);
+    put_checked(from_orig_to_perm(permutation(text, &mut orig_to_perm), perm_to_orig));
     put_words(b"inv ", perm_to_orig);
 }
 
-// The inverse of the permutation after p; the list that stands at p is lent or, where none does, one of 7777.
-pub fn inversion(text: &[u8], p: usize) {
+fn inversion(text: &[u8]) {
     let mut perm_to_orig = [7777u32; ROOM];
-    let j = lent_words(text, p, b"linv ", &mut perm_to_orig);
-    invert(text, j.next, &mut perm_to_orig[..j.count]);
+    invert(text, lent_words(text, b"\nlinv ", &mut perm_to_orig));
 }
 
-fn permute(text: &[u8], p: usize, output: &mut [f64]) {
+fn permute(text: &[u8], output: &mut [f64]) {
     let mut orig_to_perm = [0u32; ROOM];
-    let mut input = [0.0; ROOM];
-    let i = permutation_field(text, p, &mut orig_to_perm);
-    let v = value_field(text, i.next, b"input ", &mut input);
-    let answer = permute_factor_to_original(&orig_to_perm[..i.count], &input[..v.count], output);
-    put_checked(answer);
+    let mut values = [0.0; ROOM];
+    put_checked(permute_factor_to_original(
+        permutation(text, &mut orig_to_perm),
+        input(text, &mut values),
+        output,
+    ));
     put_output(output);
 }
 
-// Values put in the original order; the list that stands at p is lent or, where none does, one of 7777.
-pub fn application(text: &[u8], p: usize) {
+fn application(text: &[u8]) {
     let mut output = [7777.0; ROOM];
-    let o = lent_output(text, p, &mut output);
-    permute(text, o.next, &mut output[..o.count]);
+    permute(text, lent_output(text, &mut output));
 }
 
-fn permute_marked(text: &[u8], p: usize, output: &mut [f64], output_marks: &mut [u8]) {
+fn marks_of<'a>(text: &[u8], list: &'a mut [u8]) -> &'a [u8] {
+    bytes_of(text, b"\nmarks ", false, list)
+}
+
+fn permute_marked(text: &[u8], output: &mut [f64], output_marks: &mut [u8]) {
     let mut orig_to_perm = [0u32; ROOM];
-    let mut input = [0.0; ROOM];
+    let mut values = [0.0; ROOM];
     let mut marks = [0u8; ROOM];
-    let i = permutation_field(text, p, &mut orig_to_perm);
-    let v = value_field(text, i.next, b"input ", &mut input);
-    let m = byte_field(text, v.next, b"marks ", false, &mut marks);
-    let answer = permute_factor_to_original_marked(
-        &orig_to_perm[..i.count],
-        &input[..v.count],
-        &marks[..m.count],
+    put_checked(permute_factor_to_original_marked(
+        permutation(text, &mut orig_to_perm),
+        input(text, &mut values),
+        marks_of(text, &mut marks),
         output,
         output_marks,
-    );
-    put_checked(answer);
+    ));
     put_output(output);
     put_marks(output_marks);
 }
 
-// Values and marks put in the original order; the lists that stand at p are lent or, where none do, lists of 7777 and of 77.
-pub fn marked_application(text: &[u8], p: usize) {
+fn marked_application(text: &[u8]) {
     let mut output = [7777.0; ROOM];
     let mut output_marks = [77u8; ROOM];
-    let o = lent_output(text, p, &mut output);
-    let m = lent_marks(text, o.next, &mut output_marks);
     permute_marked(
         text,
-        m.next,
-        &mut output[..o.count],
-        &mut output_marks[..m.count],
+        lent_output(text, &mut output),
+        lent_marks(text, &mut output_marks),
     );
+}
+
+// The case, if the kind that is named at `name` is one of these.
+pub fn of_permutations(text: &[u8], name: usize) -> bool {
+    if begins(text, name, b"permvalidate\n") {
+        validation(text);
+        return true;
+    }
+    if begins(text, name, b"permfrom\n") {
+        inversion(text);
+        return true;
+    }
+    if begins(text, name, b"permapply\n") {
+        application(text);
+        return true;
+    }
+    if begins(text, name, b"permmarked\n") {
+        marked_application(text);
+        return true;
+    }
+    false
 }

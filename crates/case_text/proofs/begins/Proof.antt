@@ -1,5 +1,6 @@
 use Prim.Native.Nat.{_≤_, _-_, _+_}
-use Rattle.case_text.specs.Text.{differs, begins-short, begins-differs, begins-same}
+use Rattle.case_text.specs.Text.{differs}
+use Rattle.case_text.proofs.TextLaws.{begins-short, begins-differs, begins-same}
 use Rattle.lists.specs.Test.{any, any-none, any-more, any-less}
 use borrow.Author.Needs.{needs}
 use borrow.Author.Tests.{eq-eqb, ne-eqb}

@@ -1,5 +1,6 @@
 use Prim.Native.Nat.{ℕ, _<_, _-_, _+_}
-use Rattle.case_text.specs.Text.{digitMore, digitAt, numberFrom, numberAt, numberFrom-end, numberFrom-stop, numberFrom-more}
+use Rattle.case_text.specs.Text.{digitMore, digitAt, numberFrom, numberAt}
+use Rattle.case_text.proofs.TextLaws.{numberFrom-end, numberFrom-stop, numberFrom-more}
 use borrow.Author.Needs.{needs}
 use borrow.Author.Tests.{lt-ltb, le-ltb}
 use denote.Ref.{now}

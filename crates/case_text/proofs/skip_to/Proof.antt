@@ -1,5 +1,6 @@
 use Prim.Native.Nat.{_-_}
-use Rattle.case_text.specs.Text.{pastFirst, begins-within, first-end, first-found, first-more}
+use Rattle.case_text.specs.Text.{pastFirst}
+use Rattle.case_text.proofs.TextLaws.{begins-within, first-end, first-found, first-more}
 use borrow.Author.Needs.{needs}
 use lib.ListN.{length}
 use mathlib.Core.Path.{_≡_, refl, sym, _∙_}

@@ -1,5 +1,6 @@
 use Prim.Native.Nat.{_-_}
-use Rattle.case_text.specs.Text.{pastWord, pastRun-end, pastRun-stop, pastRun-more}
+use Rattle.case_text.specs.Text.{pastWord}
+use Rattle.case_text.proofs.TextLaws.{pastRun-end, pastRun-stop, pastRun-more}
 use borrow.Author.Needs.{needs}
 use borrow.Author.Tests.{le-leb, lt-leb}
 use lib.ListN.{length}

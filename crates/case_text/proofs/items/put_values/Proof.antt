@@ -1,5 +1,6 @@
 use Prim.Native.Nat.{ℕ, _≤_, _<_, _-_}
-use Rattle.case_text.specs.Items.{pastItems, pastItems-none, pastItems-more, valueAt, filled-step}
+use Rattle.case_text.specs.Items.{pastItems, valueAt}
+use Rattle.case_text.proofs.ItemLaws.{pastItems-none, pastItems-more, filled-step}
 use Rattle.case_text.specs.Text.{pastBlanks, pastWord, numberAt}
 use Rattle.lists.specs.Overwrite.{filled, filled-none}
 use borrow.Author.Needs.{needs}
@@ -63,7 +64,7 @@ returns c =
     let a = c .before .before .before .before .args in
     let at = c .before .loop in
     let e : at .i ≡ a .count = omega arith in
-    (at .inv .2 ∙ ap (pastItems (now (a .text)) (a .p)) e, at .inv .3 ∙ ap (λ (k : ℕ). filled (valueAt (now (a .text)) (a .p)) k (now (a .list))) e)
+    at .inv .3 ∙ ap (λ (k : ℕ). filled (valueAt (now (a .text)) (a .p)) k (now (a .list))) e
 
 pub put-values-spec : {M : Type 1} → statement M
 put-values-spec =

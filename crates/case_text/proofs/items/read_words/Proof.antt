@@ -1,6 +1,6 @@
-use Rattle.case_text.specs.Items.{listing, wordAt}
+use Rattle.case_text.specs.Items.{wordAt}
+use Rattle.case_text.proofs.ItemLaws.{listing}
 use borrow.Author.Needs.{needs}
-use denote.Ref.{now}
 use Rattle.case_text.proofs.items.read_words.Statement.{statement}
 use Rattle.case_text.proofs.items.read_words.Tie as tie
 
@@ -10,31 +10,24 @@ skip-blanks-requires c κs = search needs
 decimal-requires : tie.Need-decimal-requires
 decimal-requires c κs = search needs
 
-skip-word-requires : tie.Need-skip-word-requires
-skip-word-requires c κs = search needs
-
 smaller-requires : tie.Need-smaller-requires
 smaller-requires c κs = search needs
 
+skip-word-requires : tie.Need-skip-word-requires
+skip-word-requires c κs = search needs
+
 put-words-requires : tie.Need-put-words-requires
 put-words-requires c κs = search needs
-
-sub-skip-items : tie.Need-sub-skip-items
-sub-skip-items c = search needs
-
-skip-items-requires : tie.Need-skip-items-requires
-skip-items-requires c κs = search needs
 
 same-length : tie.Need-same-length
 same-length c = search needs
 
 returns : tie.Need-returns
 returns c =
-    let put = c .before .before .before .put-words in
-    let b = c .before .before .before .before .before in
-    let text = now (c .before .before .before .before .before .before .before .before .before .before .before .args .text) in
-    listing (wordAt text) text _ _ _ _ _ _ _ _ _ (b .before .before .before .skip-blanks .ensures) (b .before .before .decimal .ensures)
-    (b .before .skip-word .ensures) (b .smaller .ensures) (put .ensures .0) (put .ensures .1) (c .skip-items .ensures)
+    let put = c .before .before in
+    let s = put .before .before in
+    listing wordAt _ _ _ _ _ _ _ _ (s .before .before .before .skip-blanks .ensures) (s .before .before .decimal .ensures) (s .skip-word .ensures)
+    (s .before .smaller .ensures) (put .put-words .ensures)
 
 pub read-words-spec : {M : Type 1} → statement M
 read-words-spec =
@@ -42,10 +35,8 @@ read-words-spec =
     (tie.spec
     skip-blanks-requires
     decimal-requires
-    skip-word-requires
     smaller-requires
+    skip-word-requires
     put-words-requires
-    sub-skip-items
-    skip-items-requires
     same-length
     returns)
