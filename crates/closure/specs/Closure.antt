@@ -4,7 +4,7 @@ use Prim.Native.Nat.{ℕ, _+_, _≤_, _<_}
 use native.Mathlib.Omega.{arith}
 use mathlib.Core.Path.{_≡_, refl, sym, ap₂, _∙_}
 use mathlib.Core.Bool.{Bool, _&&_}
-use mathlib.Core.List.{List}
+use mathlib.Core.List.{List, []}
 use lib.Dec.{leb, ltb}
 use lib.ListN.{length, drop}
 use lib.Ieee.{Float}
@@ -17,7 +17,8 @@ use Rattle.pairs.specs.Scratch.{queueStart}
 use Rattle.pairs.specs.ColumnOrder.{columnMarking}
 use Rattle.columns.specs.Factor.{Factor}
 use Rattle.columns.specs.Kept.{nonzero, pattern}
-use Rattle.kept_entries.specs.KeptBy.{keptAt, kept-floats, pattern-same}
+use Rattle.columns.specs.WholeFactor.{wholeNonzero, wholePattern}
+use Rattle.kept_entries.specs.KeptBy.{keptAt, kept-floats, kept-wholes, factor-rows, pattern-same}
 use Rattle.closure.specs.Nested.{Unlisted}
 use Rattle.closed_set.specs.ClosedSet.{member, member-cong, Ranged}
 use Rattle.closed_set.specs.Size.{closureSize, closureSize-cong}
@@ -93,7 +94,7 @@ pub closure-rows : {n : ℕ} {starts rows : List ℕ} {values requested : ℕ} {
     → ClosureInput n starts rows (length rows) requested stops s
 closure-rows G = record {
   small = G .small;
-  factor = record { starts-rise = G .factor .starts-rise; rows-ascend = G .factor .rows-ascend; valued = refl };
+  factor = factor-rows (G .factor);
   unlisted = G .unlisted;
   marked = G .marked;
 }
@@ -104,3 +105,10 @@ pub diagnoses-floats : {n : ℕ} {starts rows : List ℕ} (values : List Float) 
     → Diagnoses n (pattern starts rows (keptAt values wholes)) kept limit s₀ d stops s → Diagnoses n (pattern starts rows (nonzero values)) kept limit s₀ d stops s
 diagnoses-floats values wholes F none =
     diagnoses-same (pattern-same F (keptAt values wholes) (nonzero values) (λ p l. kept-floats values wholes p none))
+
+-- and of one of whole numbers, by these and no float
+pub diagnoses-wholes : {n : ℕ} {starts rows : List ℕ} (values : List ℤ) → Factor n starts rows (length values)
+    → {kept limit : ℕ} {s₀ : List ℕ} {d : SelectedInverseDiagnostics} {stops s : List ℕ}
+    → Diagnoses n (pattern starts rows (keptAt [] values)) kept limit s₀ d stops s → Diagnoses n (wholePattern starts rows values) kept limit s₀ d stops s
+diagnoses-wholes values F =
+    diagnoses-same (pattern-same F (keptAt [] values) (wholeNonzero values) (λ p l. kept-wholes [] values p (λ e. omega (arith, e, l, F .valued))))

@@ -1,6 +1,7 @@
 // The closure of requested pairs under the dependencies of a factor, after `takahashi_dependency_closure` of uncertainty.rs, and its diagnosis.
 pub mod queue;
 pub mod stops;
+pub mod whole;
 
 ghost use mathlib.Core.Path.{_≡_};
 ghost use Prim.Native.Nat.{_≤_};

@@ -1,6 +1,6 @@
 -- What the recurrence over a closed set asks, and what it leaves while its columns are done from the last to the first.
 -- Assumes nothing.
-use Prim.Native.Nat.{ℕ, _+_, _/_, _≤_, _<_}
+use Prim.Native.Nat.{ℕ, _+_, _≤_, _<_}
 use native.Mathlib.Omega.{arith}
 use mathlib.Core.Path.{_≡_, sym, ap, _∙_}
 use mathlib.Core.Bool.{Bool, true}
@@ -9,17 +9,16 @@ use lib.ListN.{length, getD}
 use lib.Ieee.{Float, nan}
 use Rattle.lists.specs.Tabulate.{tabulate-at}
 use Rattle.lists.specs.Overwrite.{overwrite-at, overwrite-length}
-use Rattle.bits.specs.Bits.{bit-same}
 use Rattle.refusal.specs.Bounds.{maxDimension}
 use Rattle.pairs.specs.Pair.{pairTotal}
-use Rattle.pairs.specs.Scratch.{queueStart, queueStart-mark}
-use Rattle.pairs.specs.ColumnOrder.{columnPlace, columnPlace-below, columnMarking, setSize}
+use Rattle.pairs.specs.Scratch.{queueStart}
+use Rattle.pairs.specs.ColumnOrder.{columnMarking, setSize}
 use Rattle.closed_set.specs.ClosedSet.{Closed, Pattern}
 use Rattle.columns.specs.Kept.{nonzero, pattern}
 use Rattle.columns.specs.Factor.{Factor}
 use Rattle.entries.specs.Entries.{columnCount, position, entryStarts, entryRows, entryStarts-length, entryRows-length}
 use Rattle.entries.specs.Position.{Positioned, entryRows-at, position-below, columnCount-cong, position-cong}
-use Rattle.layout.specs.Layout.{LayOut, LaidOut}
+use Rattle.layout.specs.Layout.{LayOut, LaidOut, marks-same}
 
 -- a factor, the starts and rows of the result, and the scratch with the marks of a set and its members' positions
 pub record RouteLists : Type 0 where
@@ -82,10 +81,7 @@ module _ {n : ℕ} {firsts₀ listed₀ scratch₀ firsts listed scratch : List 
     (M : LayOut n firsts₀ listed₀ scratch₀) (L : LaidOut n firsts₀ listed₀ scratch₀ firsts listed scratch count) where
   -- the set is as it was
   pub laid-same : (r c : ℕ) → c ≤ r → r < n → columnMarking n scratch r c ≡ columnMarking n scratch₀ r c
-  laid-same r c h l =
-      let p = columnPlace n r c in
-      bit-same scratch scratch₀ p
-      (L .marks (p / 32) (queueStart-mark n p (columnPlace-below n r c h l)))
+  laid-same = marks-same n scratch scratch₀ (L .marks)
 
   module _ {starts rows : List ℕ} (values : List Float) (F : Factor n starts rows (length values))
       (P : Pattern n (pattern starts rows (nonzero values))) (K : Closed n (pattern starts rows (nonzero values)) (columnMarking n scratch₀))

@@ -6,7 +6,10 @@ pub mod Stored
 pub mod Diagonal
 pub mod Pattern
 pub mod Form
+pub mod WholeFactor
+pub mod UnitDiagonals
 pub mod Numbers
 pub mod Operator
 pub mod Examples
+pub mod WholeExamples
 pub mod OperatorPair

@@ -3,7 +3,8 @@
 use Prim.Native.Nat.{ℕ, suc, _≤_, _<_}
 use native.Mathlib.Omega.{arith}
 use native.Mathlib.Nat.{le-refl}
-use mathlib.Core.Path.{_≡_}
+use mathlib.Core.Path.{_≡_, refl, sym, _∙_}
+use mathlib.Core.Bool.{Bool}
 use mathlib.Core.List.{List, [], _∷_, map}
 use lib.ListN.{length, getD, length-map}
 use lib.Ieee.{Float}
@@ -29,23 +30,29 @@ ascend-places f n a (p ∷ l) inside rises = (
       (λ i k h m. rises (suc i) (suc k) (omega arith) (omega arith)),
 )
 
--- the descendants of a column
-module _ {n : ℕ} {starts rows : List ℕ} (values : List Float) (F : Factor n starts rows (length values)) (j : ℕ) (h : j < n) where
-  abbrev rowsOf : List ℕ
-  rowsOf = pattern starts rows (nonzero values) j
+-- the descendants of a column as entries of any kind, each with its row
+module _ {W : Type 0} (f : ℕ → Entry W) {n : ℕ} {starts rows : List ℕ} {values : ℕ} (nz : ℕ → Bool) (F : Factor n starts rows values)
+    (rowed : (p : ℕ) → f p .row ≡ row rows p) (j : ℕ) (h : j < n) where
+  abbrev places : List ℕ
+  places = descPlaces starts rows nz j
 
-  pub descendant-row : (i : ℕ) → i < length (descPlaces starts rows (nonzero values) j) → getD rowsOf i 0 ≡ row rows (getD (descPlaces starts rows (nonzero values) j) i 0)
-  descendant-row i l = pattern-at (nonzero values) (F .starts-rise) j h i (rw length-map l)
+  pub place-row : (i : ℕ) → i < length places → getD (pattern starts rows nz j) i 0 ≡ f (getD places i 0) .row
+  place-row i l = pattern-at nz (F .starts-rise) j h i (rw length-map l) ∙ sym (rowed (getD places i 0))
 
   -- their rows ascend
-  pub desc-ascend : Ascend n (suc j) (desc starts rows values j)
-  desc-ascend =
-      ascend-places (entry rows values) n (suc j) (descPlaces starts rows (nonzero values) j)
+  pub places-ascend : Ascend n (suc j) (map f places)
+  places-ascend =
+      ascend-places f n (suc j) places
       (λ i l. (
-        omega (arith, descendant-row i l, pattern-above (nonzero values) (F .starts-rise) j h i (rw length-map l)),
-        omega (arith, descendant-row i l, pattern-inside (nonzero values) (F .starts-rise) (F .rows-ascend) j h i (rw length-map l)),
+        omega (arith, place-row i l, pattern-above nz (F .starts-rise) j h i (rw length-map l)),
+        omega (arith, place-row i l, pattern-inside nz (F .starts-rise) (F .rows-ascend) j h i (rw length-map l)),
       ))
-      (λ i k m l. omega (arith, descendant-row i (omega arith), descendant-row k l, pattern-rises (nonzero values) (F .starts-rise) (F .rows-ascend) j h i k m (rw length-map l)))
+      (λ i k m l. omega (arith, place-row i (omega arith), place-row k l, pattern-rises nz (F .starts-rise) (F .rows-ascend) j h i k m (rw length-map l)))
+
+-- of floats
+module _ {n : ℕ} {starts rows : List ℕ} (values : List Float) (F : Factor n starts rows (length values)) (j : ℕ) (h : j < n) where
+  pub desc-ascend : Ascend n (suc j) (desc starts rows values j)
+  desc-ascend = places-ascend (entry rows values) (nonzero values) F (λ p. refl) j h
 
   -- they are rows of the triangle below column j
   pub desc-rows : Rows n j (desc starts rows values j)

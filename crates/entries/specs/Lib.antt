@@ -2,3 +2,4 @@
 pub mod Entries
 pub mod Position
 pub mod Descendants
+pub mod WholeTable

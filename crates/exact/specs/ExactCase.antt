@@ -1,16 +1,18 @@
 -- The exact case: f64's recurrence gives the inverse's own entries over a closed set of pairs where every exact step stays within 2 ^ 53. Assumes nothing.
 -- A factor L is given by its diagonal and, for each column, the list of its entries below the diagonal with ascending rows; `factor` is its matrix.
-use mathlib.Core.Path.{_≡_, refl, sym, _∙_, ap, subst}
+use mathlib.Core.Path.{_≡_, refl, sym, _∙_, ap, ap₂, subst}
 use mathlib.Core.Logic.{_≢_}
 use mathlib.Core.List.{List, [], _∷_}
-use Prim.Native.Nat.{ℕ, suc, _^_, _≤_, _<_}
+use Prim.Native.Nat.{ℕ, suc, _^_, _≤_, _<_, max, min}
+use native.Mathlib.Omega.{arith}
 use native.Mathlib.Nat.{zero-lt-suc, le-refl}
+use native.Mathlib.Decide.{decLe}
 use lib.Dec.{lit≤}
 use lib.IntN.{ℤ, pos, negℤ, _+ℤ_, _-ℤ_, _*ℤ_}
 use lib.Ieee.{Float, binary64, low}
 use Rattle.integers.specs.Integer.{*ℤ-idl, *ℤ-idr, pos-nonzero}
 use Rattle.integers.specs.Matrix.{Matrix, identity}
-use Rattle.integers.specs.Inverse.{Inverse, WholeInverse, numerators, denominator, inverse-exists, unit-inverse-exists}
+use Rattle.integers.specs.Inverse.{Inverse, WholeInverse, numerators, denominator, inverse-exists, unit-inverse-exists, inverse-symmetric}
 use Rattle.takahashi.specs.Entries.{Ascend, ascend-rows}
 use Rattle.takahashi.specs.Recurrence.{Entry, run, dot, at, Lower, RecurrenceClosed, table, Solves, table-solves, solves-part}
 use Rattle.exact.specs.Multiple.{Multiple, Whole, Small, unit-nonzero}
@@ -105,6 +107,10 @@ module _ (n : ℕ) (desc : ℕ → List (Entry ℤ)) (ascend : (j : ℕ) → j <
   nonzero : (j : ℕ) → j < n → ones j ≢ pos 0
   nonzero j jn = pos-nonzero 1 (zero-lt-suc 0)
 
+  -- the table solves the recurrence on every pair
+  pub unit-solves : Solves integers unit-off unit-on ones desc (Lower n) (unit-table n desc)
+  unit-solves = table-solves integers unit-off unit-on n ones desc (λ j jn. ascend-rows n j (suc j) (desc j) (le-refl (suc j)) (ascend j jn))
+
   pub unit-recurs : (In : ℕ → ℕ → Type 0) → RecurrenceClosed n desc In → Recurs (pos 1) ones desc In (unit-table n desc)
   unit-recurs In closed = record {
     below-is = λ i j p ji. *ℤ-idr (z i j) ∙ solves .below-is i j p ji;
@@ -115,9 +121,7 @@ module _ (n : ℕ) (desc : ℕ → List (Entry ℤ)) (ascend : (j : ℕ) → j <
       z = unit-table n desc
 
       solves : Solves integers unit-off unit-on ones desc In z
-      solves =
-          solves-part integers unit-off unit-on ones desc In (Lower n) z (closed .inside)
-          (table-solves integers unit-off unit-on n ones desc (λ j jn. ascend-rows n j (suc j) (desc j) (le-refl (suc j)) (ascend j jn)))
+      solves = solves-part integers unit-off unit-on ones desc In (Lower n) z (closed .inside) unit-solves
 
   -- L * Lᵀ has an inverse in whole numbers
   pub unit-has-inverse : (X : Matrix) × WholeInverse n (factor ones desc) X
@@ -126,18 +130,47 @@ module _ (n : ℕ) (desc : ℕ → List (Entry ℤ)) (ascend : (j : ℕ) → j <
     unit-inverse-exists n (factor ones desc) (factor-triangular n ones desc ascend nonzero) (λ j jn. factor-diagonal n ones desc j),
   )
 
+  module _ (X : Matrix) (is : WholeInverse n (factor ones desc) X) where
+    inverse : Inverse n (pos 1) (factor ones desc) X 1
+    inverse = whole-inverse n (factor ones desc) X is
+
+    -- the exact recurrence's entries over a closed set are the inverse's, whatever their size
+    pub unit-inverse : (In : ℕ → ℕ → Type 0) → RecurrenceClosed n desc In → (i j : ℕ) → In i j → unit-table n desc i j ≡ X i j
+    unit-inverse In closed i j p =
+        sym (*ℤ-idr (unit-table n desc i j))
+        ∙ recurs-inverse n (pos 1) (pos-nonzero 1 (zero-lt-suc 0)) ones desc nonzero ascend X 1 inverse In closed (unit-table n desc) (unit-recurs In closed) i j p
+        ∙ *ℤ-idl (X i j)
+
+    -- the inverse is symmetric
+    pub unit-symmetric : (i j : ℕ) → i < n → j < n → X i j ≡ X j i
+    unit-symmetric =
+        inverse-symmetric n (pos 1) (pos-nonzero 1 (zero-lt-suc 0)) (factor ones desc) (factor-triangular n ones desc ascend nonzero) X 1 inverse
+
+    -- so its indices may be put in order
+    pub unit-ordered : (row col : ℕ) → max row col < n → X (max row col) (min row col) ≡ X row col
+    unit-ordered row col h = elim (decLe col row) [
+      | yes l ↦
+          let a : max row col ≡ row = omega arith in
+          let b : min row col ≡ col = omega arith in
+          ap₂ X a b
+      | no l ↦
+          let a : max row col ≡ col = omega arith in
+          let b : min row col ≡ row = omega arith in
+          ap₂ X a b ∙ unit-symmetric col row (omega arith) (omega arith)
+    ]
+
   -- where the exact recurrence stays within 2 ^ 53 over the set, f64's entries are the inverse's, and so are the exact recurrence's
   pub exact-case : (In : ℕ → ℕ → Type 0) → RecurrenceClosed n desc In → WithinBound n desc In
       → (X : Matrix) → WholeInverse n (factor ones desc) X
       → (fdiag : ℕ → Float) (fdesc : ℕ → List (Entry Float)) → ((j : ℕ) → j < n → Whole (fdiag j) (pos 1)) → ((j : ℕ) → j < n → Alike 0 (fdesc j) (desc j))
       → (Z : ℕ → ℕ → Float) → Solves floats float-off float-on fdiag fdesc In Z
       → (i j : ℕ) → In i j → Whole (Z i j) (X i j) × (unit-table n desc i j ≡ X i j)
-  exact-case In closed within X is fdiag fdesc diagonal alike Z solves i j p = (subst (Whole (Z i j)) same (both .0), same)
+  exact-case In closed within X is fdiag fdesc diagonal alike Z solves i j p = (subst (Whole (Z i j)) same near, same)
     where
-      both : Whole (Z i j) (unit-table n desc i j) × (unit-table n desc i j *ℤ pos 1 ≡ pos 1 *ℤ X i j)
-      both =
+      near : Whole (Z i j) (unit-table n desc i j)
+      near =
           dyadic 0 n ones desc nonzero ascend (lit≤ tt) In closed (unit-table n desc) (unit-recurs In closed) (unit-bounded n desc In within)
-          fdiag fdesc diagonal alike Z solves X 1 (whole-inverse n (factor ones desc) X is) i j p
+          fdiag fdesc diagonal alike Z solves X 1 (whole-inverse n (factor ones desc) X is) i j p .0
 
       same : unit-table n desc i j ≡ X i j
-      same = sym (*ℤ-idr (unit-table n desc i j)) ∙ both .1 ∙ *ℤ-idl (X i j)
+      same = unit-inverse X is In closed i j p

@@ -18,14 +18,14 @@ use Rattle.takahashi.specs.Recurrence.{Entry, Rows, dot, at, Lower, RecurrenceC
 use Rattle.exact.specs.Multiple.{Multiple, Whole, Small, one-float}
 use Rattle.exact.specs.Exact.{integers, floats, float-off, float-on, Alike, Recurs, Products, RunningSums, Kept, Bounded}
 use Rattle.exact.specs.Factor.{factor}
-use Rattle.exact.specs.ExactCase.{ones, unit-table, WithinBound, dyadic, exact-case}
+use Rattle.exact.specs.ExactCase.{ones, unit-table, WithinBound, dyadic, exact-case, unit-ordered}
 
 -- a list of one entry
 abbrev one : {W : Type 0} → ℕ → W → List (Entry W)
 one k l = record { row = k; value = l } ∷ []
 
 -- a list of two entries
-abbrev two : {W : Type 0} → ℕ → W → ℕ → W → List (Entry W)
+abbrev pub two : {W : Type 0} → ℕ → W → ℕ → W → List (Entry W)
 two k l k' l' = record { row = k; value = l } ∷ record { row = k'; value = l' } ∷ []
 
 -- the entries of a table of two columns: by column, then by row
@@ -104,7 +104,7 @@ pairs₂ G a b c (suc zero) (suc (suc j)) p = absurd (omega arith)
 pairs₂ G a b c (suc (suc i)) j p = absurd (omega arith)
 
 -- ---- `exact-case` at F2, over all its pairs
-F2-closed : RecurrenceClosed 2 F2-entries (Lower 2)
+pub F2-closed : RecurrenceClosed 2 F2-entries (Lower 2)
 F2-closed = lower-closed 2 F2-entries (columns₂ (λ j. Rows 2 j (F2-entries j)) (lit< tt, lit< tt, tt) tt)
 
 pub F2-within : WithinBound 2 F2-entries (Lower 2)
@@ -259,3 +259,7 @@ corner-case fdiag diagonal =
 -- the inverse's entry at (0, 0), which is not computed, is 1 / 9
 corner-outside : numerators 2 (pos 1) (factor corner-diag nothing) 0 0 *ℤ pos 9 ≡ pos (denominator 2 (factor corner-diag nothing))
 corner-outside = refl
+
+-- the inverse of F2 at (0, 1) is its entry at (1, 0)
+F2-ordered : (X : Matrix) → WholeInverse 2 (factor ones F2-entries) X → X 1 0 ≡ X 0 1
+F2-ordered X is = unit-ordered 2 F2-entries (columns₂ (λ j. Ascend 2 (suc j) (F2-entries j)) (lit≤ tt, lit< tt, tt) tt) X is 0 1 (lit< tt)

@@ -7,7 +7,7 @@ use native.Mathlib.Nat.{zero-lt-suc}
 use lib.Dec.{lit≤}
 use lib.IntN.{ℤ, pos, negℤ, _-ℤ_, _*ℤ_}
 use lib.Ieee.{Float, binary64, sub, div, neg}
-use Rattle.integers.specs.Integer.{*ℤ-idl, *ℤ-idr, pos-nonzero}
+use Rattle.integers.specs.Integer.{*ℤ-idr, pos-nonzero}
 use Rattle.integers.specs.Matrix.{Matrix}
 use Rattle.integers.specs.Inverse.{WholeInverse}
 use Rattle.takahashi.specs.Entries.{Entry, Ascend}
@@ -15,8 +15,7 @@ use Rattle.takahashi.specs.Recurrence.{dot, at, RecurrenceClosed, Solves}
 use Rattle.exact.specs.Multiple.{Whole, Small, one-float, multiple-neg, multiple-sub, multiple-div}
 use Rattle.exact.specs.Exact.{integers, floats, Alike, Recurs, Bounded, bounded-sums, Represents, last-steps-exact}
 use Rattle.exact.specs.Factor.{factor}
-use Rattle.exact.specs.ExactCase.{ones, unit-table, WithinBound, unit-recurs, unit-bounded, whole-inverse}
-use Rattle.exact.specs.SelectedInverse.{recurs-inverse}
+use Rattle.exact.specs.ExactCase.{ones, unit-table, WithinBound, unit-recurs, unit-bounded, unit-inverse}
 
 -- f64's last step below the diagonal: -S
 abbrev pub pivot-off : Float → Float → Float
@@ -65,8 +64,4 @@ module _ (n : ℕ) (desc : ℕ → List (Entry ℤ)) (ascend : (j : ℕ) → j <
           sym (*ℤ-idr (z j j)) ∙ rec .diagonal-is j p ∙ ap (λ (x : ℤ). pos 1 -ℤ x) (*ℤ-idr (dot integers (λ k. z k j) (desc j)))
 
       same : z i j ≡ X i j
-      same =
-          sym (*ℤ-idr (z i j))
-          ∙ recurs-inverse n (pos 1) (pos-nonzero 1 (zero-lt-suc 0)) ones desc (λ j jn. pos-nonzero 1 (zero-lt-suc 0)) ascend X 1
-          (whole-inverse n (factor ones desc) X is) In closed z rec i j p
-          ∙ *ℤ-idl (X i j)
+      same = unit-inverse n desc ascend X is In closed i j p

@@ -9,9 +9,10 @@ use mathlib.Core.List.{List, [], _∷_, map}
 use lib.IntN.{ℤ}
 use lib.ListN.{length, getD, length-map}
 use lib.Ieee.{Float}
-use Rattle.columns.specs.Kept.{nonzero, entry, descPlaces, desc, pattern}
+use Rattle.columns.specs.Columns.{row}
+use Rattle.columns.specs.Kept.{descPlaces, pattern}
 use Rattle.columns.specs.Factor.{Factor}
-use Rattle.entries.specs.Descendants.{descendant-row}
+use Rattle.entries.specs.Descendants.{place-row}
 use Rattle.closed_set.specs.ClosedSet.{Needed, dependency, needed-range, Pattern, Ranged, descends, descends-at}
 use Rattle.takahashi.specs.Entries.{Entry, Each, Ascend, each-map, ascend-rows}
 use Rattle.takahashi.specs.Recurrence.{RecurrenceClosed}
@@ -36,14 +37,15 @@ pub alike-each : (s : ℕ) (Q : ℕ → Type 0) (ps : List (Entry Float)) (qs : 
 alike-each s Q [] [] e h = tt
 alike-each s Q (p ∷ ps) (q ∷ qs) e h = (subst Q (e .0) (h .0), alike-each s Q ps qs (e .2) (h .1))
 
--- ---- the descendants of a column
-module _ {n : ℕ} {starts rows : List ℕ} (values : List Float) (F : Factor n starts rows (length values)) (j : ℕ) (h : j < n) where
-  pub desc-descends : Each (λ k. descends (pattern starts rows (nonzero values)) j k ≡ true) (desc starts rows values j)
-  desc-descends =
-      each-places (entry rows values) (λ k. descends (pattern starts rows (nonzero values)) j k ≡ true) (descPlaces starts rows (nonzero values) j)
+-- ---- the descendants of a column as entries of any kind, each with its row, are the pattern's
+module _ {W : Type 0} (f : ℕ → Entry W) {n : ℕ} {starts rows : List ℕ} {values : ℕ} (nz : ℕ → Bool) (F : Factor n starts rows values)
+    (rowed : (p : ℕ) → f p .row ≡ row rows p) (j : ℕ) (h : j < n) where
+  pub places-descend : Each (λ k. descends (pattern starts rows nz) j k ≡ true) (map f (descPlaces starts rows nz j))
+  places-descend =
+      each-places f (λ k. descends (pattern starts rows nz) j k ≡ true) (descPlaces starts rows nz j)
       (λ i l.
-      subst (λ (k : ℕ). descends (pattern starts rows (nonzero values)) j k ≡ true) (descendant-row values F j h i l)
-      (descends-at (pattern starts rows (nonzero values)) j i (rw length-map l)))
+      subst (λ (k : ℕ). descends (pattern starts rows nz) j k ≡ true) (place-row f nz F rowed j h i l)
+      (descends-at (pattern starts rows nz) j i (rw length-map l)))
 
 -- ---- the closed set is closed for the recurrence over entries of the same rows
 module _ (n : ℕ) (pat : ℕ → List ℕ) (req : ℕ → ℕ → Bool) (P : Pattern n pat) (R : Ranged n req) {W : Type 0} (es : ℕ → List (Entry W))

@@ -1,34 +1,30 @@
 -- The exact case, from a call's inputs to what a lookup returns.
 -- Assumes nothing.
 use Prim.Native.Nat.{ℕ, suc, _≤_, _<_, max, min}
-use native.Mathlib.Omega.{arith}
-use native.Mathlib.Nat.{zero-lt-suc}
-use native.Mathlib.Decide.{decLe}
-use mathlib.Core.Path.{_≡_, ap₂, subst, _∙_}
+use mathlib.Core.Path.{_≡_, subst, refl}
 use mathlib.Core.Logic.{_↔_}
 use mathlib.Core.List.{List}
 use lib.IntN.{ℤ, pos}
 use lib.Ieee.{Float}
 use Rattle.refusal.specs.Steps.{Step, refused, answered, Passed}
-use Rattle.columns.specs.Kept.{desc}
+use Rattle.columns.specs.Kept.{nonzero, entry, desc}
 use Rattle.columns.specs.Form.{Form, cholesky, pivoted, divisor}
 use Rattle.closed_set.specs.ClosedSet.{needed-range}
-use Rattle.integers.specs.Integer.{pos-nonzero}
 use Rattle.integers.specs.Matrix.{Matrix}
-use Rattle.integers.specs.Inverse.{WholeInverse, inverse-symmetric}
+use Rattle.integers.specs.Inverse.{WholeInverse}
 use Rattle.takahashi.specs.Entries.{Entry, Ascend}
 use Rattle.takahashi.specs.Recurrence.{at, RecurrenceClosed, Solves}
 use Rattle.exact.specs.Multiple.{Whole}
 use Rattle.exact.specs.Exact.{floats, Alike}
-use Rattle.exact.specs.Factor.{factor, factor-triangular}
-use Rattle.exact.specs.ExactCase.{ones, WithinBound, unit-has-inverse, exact-case, whole-inverse}
+use Rattle.exact.specs.Factor.{factor}
+use Rattle.exact.specs.ExactCase.{ones, WithinBound, unit-has-inverse, unit-symmetric, unit-ordered, exact-case}
 use Rattle.exact.specs.PivotCase.{pivot-case}
 use Rattle.entries.specs.Entries.{belowStep, diagonalStep}
 use Rattle.diagnostics.specs.declared.SelectedInverseStatus.the-variants.{Complete}
 use Rattle.selection.specs.Selection.{Selection, selectedPattern, fillingOf, Lent, roomOf, Accepted, selectedSize, selectedAnswer, selectedTable, ResultLists}
 use Rattle.selection.specs.Call.{Call, selectionOf, selectedSteps, accepted}
 use Rattle.entries.specs.Descendants.{desc-ascend}
-use Rattle.exact_entries.specs.Columns.{desc-descends, alike-ascend, alike-each, needed-closed}
+use Rattle.exact_entries.specs.Columns.{places-descend, alike-ascend, alike-each, needed-closed}
 use Rattle.exact_entries.specs.Recurrence.{Selected, found, selected-pattern, table-recurs, reads-recurrence}
 
 module _ (x : Selection) where
@@ -69,7 +65,7 @@ module _ (x : Selection) (lent : Lent) (A : Accepted x (roomOf lent)) (whole : �
   closed : RecurrenceClosed (x .factor .n) whole (Selected x)
   closed =
       needed-closed (x .factor .n) pat (x .requests) (selected-pattern x lent A) (A .requests) whole ascend
-      (λ j jn. alike-each 0 _ (desc (x .factor .starts) (x .factor .rows) (x .factor .values) j) (whole j) (E .entries j jn) (desc-descends (x .factor .values) (A .factor) j jn))
+      (λ j jn. alike-each 0 _ (desc (x .factor .starts) (x .factor .rows) (x .factor .values) j) (whole j) (E .entries j jn) (places-descend (entry (x .factor .rows) (x .factor .values)) (nonzero (x .factor .values)) (A .factor) (λ p. refl) j jn))
 
   -- L * Lᵀ has an inverse in whole numbers
   pub exact-inverse : (X : Matrix) × WholeInverse (x .factor .n) (factor ones whole) X
@@ -84,27 +80,12 @@ module _ (x : Selection) (lent : Lent) (A : Accepted x (roomOf lent)) (whole : �
 
     -- X is symmetric
     pub exact-symmetric : (i j : ℕ) → i < x .factor .n → j < x .factor .n → X i j ≡ X j i
-    exact-symmetric =
-        inverse-symmetric (x .factor .n) (pos 1) (pos-nonzero 1 (zero-lt-suc 0)) (factor ones whole)
-        (factor-triangular (x .factor .n) ones whole ascend (λ j jn. pos-nonzero 1 (zero-lt-suc 0))) X 1
-        (whole-inverse (x .factor .n) (factor ones whole) X is)
-
-    exchanged : (row col : ℕ) → max row col < x .factor .n → X (max row col) (min row col) ≡ X row col
-    exchanged row col h = elim (decLe col row) [
-      | yes l ↦
-          let a : max row col ≡ row = omega arith in
-          let b : min row col ≡ col = omega arith in
-          ap₂ X a b
-      | no l ↦
-          let a : max row col ≡ col = omega arith in
-          let b : min row col ≡ row = omega arith in
-          ap₂ X a b ∙ exact-symmetric col row (omega arith) (omega arith)
-    ]
+    exact-symmetric = unit-symmetric (x .factor .n) whole ascend X is
 
     -- read at either order of the indices
     pub exact-either : (row col : ℕ) → Selected x (max row col) (min row col) → Whole (at (selectedTable x) row col) (X row col)
     exact-either row col p =
-        subst (Whole (at (selectedTable x) row col)) (exchanged row col (needed-range pat (x .requests) (x .factor .n) (selected-pattern x lent A) (A .requests) p .1))
+        subst (Whole (at (selectedTable x) row col)) (unit-ordered (x .factor .n) whole ascend X is row col (needed-range pat (x .requests) (x .factor .n) (selected-pattern x lent A) (A .requests) p .1))
         (exact-at (max row col) (min row col) p)
 
     -- the exact case of every call that fills result lists: X, any inverse of L * Lᵀ, is what reads back

@@ -5,29 +5,44 @@ use Prim.Native.Nat.{ℕ, _+_, _-_, _≤_, _<_, max, min}
 use native.Mathlib.Omega.{arith}
 use native.Mathlib.Nat.{le-refl}
 use native.Mathlib.Decide.{decLt}
-use mathlib.Core.Path.{_≡_, refl, sym, ap, subst, _∙_}
+use mathlib.Core.Path.{_≡_, refl, sym, ap, subst, _∙_, ap₂}
 use mathlib.Core.Bool.{Bool, true, false, cond, _&&_}
 use mathlib.Core.List.{List}
 use lib.Dec.{ltb}
 use lib.ListN.{length, getD, take}
 use borrow.Author.Tests.{lt-ltb, le-ltb}
+use Rattle.lists.specs.Test.{not-so}
 use Rattle.lists.specs.Overwrite.{overwrite, overwrite-length, overwrite-at}
 use Rattle.lists.specs.Tabulate.{tabulate-at}
 use Rattle.refusal.specs.Steps.{Step, Reply, refused, answered, Passed}
 use Rattle.pairs.specs.ColumnOrder.{setSize}
 use Rattle.columns.specs.Columns.{start, row}
+use Rattle.closed_set.specs.ClosedSet.{Needed, member, Pattern, Ranged, needed-range, needed-member, member-needed}
 use Rattle.takahashi.specs.Recurrence.{at}
 use Rattle.result.specs.Lookup.{dimension, lookupOf, WellFormed}
 use Rattle.result.specs.Laws.{lookup-ordered, lookup-at, lookup-absent, lookup-outside}
 use Rattle.result.specs.Counted.{lookupLooks, diagonal-looks}
 use Rattle.entries.specs.Entries.{columnCount, position, entryStarts, entryRows, entryValues, entryStarts-length, entryRows-length, entryValues-length}
-use Rattle.entries.specs.Position.{columnCount-mono, position-first, position-in, position-rises, position-found, entryRows-at, entryValues-at}
+use Rattle.entries.specs.Position.{columnCount-mono, position-in, position-rises, position-found, entryRows-at, entryValues-at, position-first}
 use Rattle.selection.specs.Selection.{LentOf, Filling, ListsAfter, passed-starts, complete-rows, complete-values}
 use Rattle.selection.specs.SamePositions.{front-starts}
 
 -- (row, col), exchanged if row < col, is a pair of the set
 abbrev pub covered : ℕ → (ℕ → ℕ → Bool) → ℕ → ℕ → Bool
 covered n S row col = ltb (max row col) n && S (max row col) (min row col)
+
+-- a pair of a closed set is covered, and no other
+module _ (n : ℕ) (pat : ℕ → List ℕ) (req : ℕ → ℕ → Bool) (P : Pattern n pat) (R : Ranged n req) (row col : ℕ) where
+  pub needed-covered : Needed pat req (max row col) (min row col) → covered n (member n pat req) row col ≡ true
+  needed-covered p = ap₂ _&&_ (lt-ltb _ _ (needed-range pat req n P R p .1)) (needed-member n pat req P R p)
+
+  pub other-covered : (Needed pat req (max row col) (min row col) → ⊥) → covered n (member n pat req) row col ≡ false
+  other-covered none = elim (decLt (max row col) n) [
+    | yes l ↦
+        ap₂ _&&_ (lt-ltb _ _ l)
+        (not-so (member n pat req (max row col) (min row col)) (λ e. none (member-needed n pat req P R (max row col) (min row col) (omega arith) l .0 e)))
+    | no l ↦ ap (λ (b : Bool). b && member n pat req (max row col) (min row col)) (le-ltb (max row col) n (omega arith))
+  ]
 
 -- the table's entry at a pair of the set; 8 at every other pair
 abbrev pub readBack : {A : Type 0} → ℕ → (ℕ → ℕ → Bool) → (ℕ → ℕ → A) → ℕ → ℕ → Reply A

@@ -2,22 +2,20 @@
 -- Assumes nothing.
 use Prim.Native.Nat.{ℕ, _+_, _≤_, max, min}
 use native.Mathlib.Omega.{arith}
-use native.Mathlib.Decide.{decLt}
-use mathlib.Core.Path.{_≡_, ap, ap₂, _∙_}
-use mathlib.Core.Bool.{Bool, true, false, cond, _&&_}
+use mathlib.Core.Path.{_≡_, ap, _∙_}
+use mathlib.Core.Bool.{Bool, cond}
 use mathlib.Core.Logic.{_↔_}
 use mathlib.Core.List.{List}
-use lib.ListN.{length, take}
+use lib.ListN.{take, length}
 use lib.Ieee.{Float, nan}
-use borrow.Author.Tests.{lt-ltb, le-ltb, le-leb}
-use Rattle.lists.specs.Test.{not-so}
+use borrow.Author.Tests.{le-leb}
 use Rattle.refusal.specs.Steps.{Step, Reply, refused, answered, Passed}
 use Rattle.pairs.specs.Pair.{pairTotal}
 use Rattle.columns.specs.Columns.{factorLists}
 use Rattle.columns.specs.Kept.{nonzero, desc}
 use Rattle.columns.specs.Form.{divisor}
 use Rattle.columns.specs.Numbers.{Numbers, numbers}
-use Rattle.closed_set.specs.ClosedSet.{Needed, needed-range, member-needed, needed-member, Pattern}
+use Rattle.closed_set.specs.ClosedSet.{Needed, needed-range, Pattern, needed-member}
 use Rattle.closed_set.specs.Size.{closureSize-most}
 use Rattle.takahashi.specs.Recurrence.{at, Lower, Solves, solves-part}
 use Rattle.exact.specs.Exact.{floats}
@@ -27,7 +25,7 @@ use Rattle.entries.specs.Entries.{belowStep, diagonalStep}
 use Rattle.result.specs.Lookup.{lookup}
 use Rattle.result.specs.Counted.{lookupLooks}
 use Rattle.result.specs.Halving.{lookupWithin, within-lookup}
-use Rattle.exact_entries.specs.ReadBack.{readBack, covered, result-left, lookup-left, looks-left}
+use Rattle.exact_entries.specs.ReadBack.{readBack, result-left, lookup-left, looks-left, needed-covered, other-covered}
 use Rattle.selection.specs.Selection.{Selection, selection, Lent, Room, roomOf, Accepted, selectedSet, selectedSize, selectedAnswer, selectedTable, selectedPattern}
 use Rattle.selection.specs.Selection.{fillingOf, ResultLists}
 use Rattle.selection.specs.Status.{selected-complete}
@@ -71,21 +69,6 @@ module _ (x : Selection) (lent : Lent) (A : Accepted x (roomOf lent)) where
   pub selected-pattern : Pattern (x .factor .n) pat
   selected-pattern = factor-pattern (nonzero (x .factor .values)) (A .factor)
 
-  -- a pair of the set is covered, and no other
-  selected-covered : (row col : ℕ) → Selected x (max row col) (min row col) → covered (x .factor .n) (selectedSet x) row col ≡ true
-  selected-covered row col p =
-      ap₂ _&&_ (lt-ltb _ _ (needed-range pat (x .requests) (x .factor .n) selected-pattern (A .requests) p .1))
-      (needed-member (x .factor .n) pat (x .requests) selected-pattern (A .requests) p)
-
-  other-covered : (row col : ℕ) → (Selected x (max row col) (min row col) → ⊥) → covered (x .factor .n) (selectedSet x) row col ≡ false
-  other-covered row col none = elim (decLt (max row col) (x .factor .n)) [
-    | yes l ↦
-        ap₂ _&&_ (lt-ltb _ _ l)
-        (not-so (selectedSet x (max row col) (min row col))
-        (λ e. none (member-needed (x .factor .n) pat (x .requests) selected-pattern (A .requests) (max row col) (min row col) (omega arith) l .0 e)))
-    | no l ↦ ap (λ (b : Bool). b && selectedSet x (max row col) (min row col)) (le-ltb (max row col) (x .factor .n) (omega arith))
-  ]
-
   -- f64's table solves the recurrence over the set
   pub table-recurs : SolvesRecurrence x (selectedTable x)
   table-recurs =
@@ -125,8 +108,8 @@ module _ (x : Selection) (lent : Lent) (A : Accepted x (roomOf lent)) where
       complete = selected-complete x;
       members = λ e row col p.
           found-entries (selected-complete x .0 e) row col
-          ∙ ap (λ (b : Bool). cond b (answered (at (selectedTable x) row col)) (refused 8)) (selected-covered row col p);
+          ∙ ap (λ (b : Bool). cond b (answered (at (selectedTable x) row col)) (refused 8)) (needed-covered (x .factor .n) pat (x .requests) selected-pattern (A .requests) row col p);
       others = λ e row col none.
           found-entries (selected-complete x .0 e) row col
-          ∙ ap (λ (b : Bool). cond b (answered (at (selectedTable x) row col)) (refused 8)) (other-covered row col none);
+          ∙ ap (λ (b : Bool). cond b (answered (at (selectedTable x) row col)) (refused 8)) (other-covered (x .factor .n) pat (x .requests) selected-pattern (A .requests) row col none);
     }

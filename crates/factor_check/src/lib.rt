@@ -1,7 +1,8 @@
-// A factor in compressed columns: refusals 1, 2, 3 and 18.
+// A factor in compressed columns: refusals 1, 2, 3 and 18, and the sizes of its whole numbers.
 pub mod bounds;
 pub mod finite;
 pub mod rows;
+pub mod sizes;
 pub mod starts;
 
 ghost use mathlib.Core.Path.{_≡_};

@@ -2,26 +2,12 @@
 // alone serves both.
 ghost use mathlib.Core.Path.{_≡_};
 ghost use Prim.Native.Nat.{_<_};
-ghost use lib.ListN.{length, getD};
-ghost use lib.IntN.{pos};
+ghost use lib.ListN.{length};
 ghost use Rattle.columns.specs.Kept.{keptBelow};
-ghost use Rattle.kept_entries.specs.KeptBy.{notZero, Within, keptAt};
+ghost use Rattle.kept_entries.specs.KeptBy.{Within, keptAt};
+use whole_steps::is_nonzero;
+use whole_steps::whole_at;
 use words::at;
-
-// The whole number at p.
-fn whole_at(wholes: &[i64], p: usize) -> i64
-    requires { ⌜ p < length (now wholes) ⌝ }
-    ensures { λ z. ⌜ z ≡ getD (now (wholes .entry)) p (pos 0) ⌝ }
-{
-    wholes[p]
-}
-
-// Whether z is not 0.
-fn is_nonzero(z: i64) -> bool
-    ensures { λ b. ⌜ b ≡ notZero z ⌝ }
-{
-    z != 0
-}
 
 // Whether the value at p is not 0. The first test is the same for every p, so that it can leave a loop.
 pub fn is_kept(floats: &[f64], wholes: &[i64], p: usize) -> bool

@@ -1,4 +1,6 @@
 // The result's layout from the marks of a set of pairs: the starts, the rows, and each member's position in them.
+pub mod firsts;
+
 ghost use Prim.Native.Nat.{_≤_, _<_};
 ghost use lib.ListN.{length};
 ghost use Rattle.marked_pairs.specs.MarkedPairs.{ColumnsReached};
@@ -8,15 +10,23 @@ use set_bits::count::count_bits;
 use set_bits::list_bits;
 use words::at;
 
-// Writes the position of each row listed from `first` to below `end`, `base` words past the row.
-fn lay_positions(base: usize, first: usize, end: usize, rows: &[u32], scratch: &mut [u32])
-    requires { ⌜ PositionsRoom base first end (now rows) (now scratch) ⌝ }
-    ensures { λ _. ⌜ PositionsLaid base first end (now (rows .entry)) (now (scratch .entry)) (now (scratch .exit)) ⌝ }
+// Writes the position of each row listed from `first` to below `end`, its place in the list and `shift`, `base` words past the row.
+fn lay_positions(
+    base: usize,
+    shift: usize,
+    first: usize,
+    end: usize,
+    rows: &[u32],
+    scratch: &mut [u32],
+)
+    requires { ⌜ PositionsRoom base shift first end (now rows) (now scratch) ⌝ }
+    ensures { λ _. ⌜ PositionsLaid base shift first end (now (rows .entry)) (now (scratch .entry)) (now (scratch .exit)) ⌝ }
 {
     let mut q = first;
     while q < end {
         let r = at(rows, q);
-        scratch[base + r] = q as u32;
+        let position = shift + q;
+        scratch[base + r] = position as u32;
         q += 1;
     }
 }
@@ -35,7 +45,7 @@ fn lay_column(
 {
     let next = first + count_bits(scratch, place, place + (n - c));
     list_bits(n, place, c, first, rows, scratch);
-    lay_positions(queue_start(n) + (place - c), first, next, rows, scratch);
+    lay_positions(queue_start(n) + (place - c), 0, first, next, rows, scratch);
     next
 }
 

@@ -11,6 +11,12 @@ use Rattle.lists.specs.Tabulate.{tabulate, tabulate-none, tabulate-next,
 use lib.Seq.{drop-cons, drop-length, append-snoc, drop-drop, take-append-seam, drop-append-seam, set-append-seam, length-take-le, getD-append-add, getD-drop, ext-getD}
 
 module _ {A : Type 0} where
+  -- lists of one length that agree from the place t on
+  pub drop-same : (none : A) (t : ℕ) (l l′ : List A) → length l ≡ length l′ → ((i : ℕ) → t ≤ i → getD l i none ≡ getD l′ i none) → drop t l ≡ drop t l′
+  drop-same none t l l′ long same =
+      ext-getD none (drop t l) (drop t l′) (length-drop t l ∙ ap (λ (x : ℕ). x - t) long ∙ sym (length-drop t l′))
+      (λ i _. getD-drop t l i none ∙ same (t + i) (omega arith) ∙ sym (getD-drop t l′ i none))
+
   -- new, and behind it what old has there
   unfoldable pub overwrite : List A → List A → List A
   overwrite new old = new ++ drop (length new) old
@@ -141,10 +147,7 @@ module _ {A : Type 0} (a : ℕ) (new old : List A) (room : a + length new ≤ le
       ∙ overwrite-past new (drop a old) (i - a) none (omega arith) ∙ getD-drop a old (i - a) none ∙ ap (λ (k : ℕ). getD old k none) q
 
   pub splice-later : (t : ℕ) → a + length new ≤ t → drop t (splice a new old) ≡ drop t old
-  splice-later t h =
-      ext-getD none (drop t (splice a new old)) (drop t old)
-      (length-drop t (splice a new old) ∙ ap (λ (x : ℕ). x - t) (splice-length a new old room) ∙ sym (length-drop t old))
-      (λ i _. getD-drop t (splice a new old) i none ∙ splice-past (t + i) (omega arith) ∙ sym (getD-drop t old i none))
+  splice-later t h = drop-same none t (splice a new old) old (splice-length a new old room) (λ i l. splice-past i (omega arith))
 
 -- f 0, f 1, .., m of them, written over the front of a list
 unfoldable pub filled : {A : Type 0} → (ℕ → A) → ℕ → List A → List A

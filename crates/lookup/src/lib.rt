@@ -2,6 +2,7 @@
 pub mod diagonal_list;
 pub mod ordered;
 pub mod well_formed;
+pub mod whole;
 
 ghost use mathlib.Core.Path.{_≡_};
 ghost use lib.ListN.{length};

@@ -28,7 +28,7 @@ use words::order::smaller;
 const LIMIT_FACTOR: usize = 10;
 
 // 7: result lists or scratch too short.
-fn check_room(
+pub fn check_room(
     n: usize,
     limit: usize,
     result_starts: usize,

@@ -1,39 +1,39 @@
-use mathlib.Core.Path.{sym, _∙_}
+use denote.Ref.{now}
+use native.Mathlib.Omega.{arith}
+use mathlib.Core.Path.{refl, _∙_}
+use mathlib.Core.List.{[]}
 use borrow.Author.Needs.{needs}
 use Rattle.columns.specs.Kept.{nonzero}
-use Rattle.kept_entries.specs.Above.{factorPairs-all}
+use Rattle.kept_entries.specs.KeptBy.{keptAt, kept-floats, factor-rows, factorPairs-same}
 use Rattle.kept_entries.proofs.factor_pairs.Statement.{statement}
 use Rattle.kept_entries.proofs.factor_pairs.Tie as tie
 
-has-above-requires : tie.Need-has-above-requires
-has-above-requires c κs = search needs
+sub-factor-pairs-by : tie.Need-sub-factor-pairs-by
+sub-factor-pairs-by c = search needs
 
-kept-columns-requires : tie.Need-kept-columns-requires
-kept-columns-requires c κs = search needs
+part-factor-pairs-by-start : tie.Need-part-factor-pairs-by-start
+part-factor-pairs-by-start c = search needs
+
+part-factor-pairs-by-end : tie.Need-part-factor-pairs-by-end
+part-factor-pairs-by-end c = search needs
+
+factor-pairs-by-requires : tie.Need-factor-pairs-by-requires
+factor-pairs-by-requires c κs =
+    let F = c .before .before .before .before .before .pre in
+    (factor-rows F, record { by-floats = λ e. omega (arith, F .valued); by-wholes = λ h. absurd (omega arith) })
 
 returns : tie.Need-returns
-returns c = search needs
-
-at-requires : tie.Need-at-requires
-at-requires c κs = search needs
-
-nonzero-between-requires : tie.Need-nonzero-between-requires
-nonzero-between-requires c κs = search needs
-
-returns-2 : tie.Need-returns-2
-returns-2 c =
-    let a = c .before .before .before in
-    let s = a .before .before .before .before in
-    let none = sym (a .has-above .ensures) ∙ c .before .before .if1 .left in
-    c .nonzero-between .ensures ∙ rw (c .before .at .ensures) (sym (factorPairs-all (s .pre .starts-rise) none (nonzero (s .args .values .now))))
+returns c =
+    let s = c .before .before .before .before .before .before in
+    let values = now (s .args .values) in
+    c .factor-pairs-by .ensures ∙ factorPairs-same (s .pre) (keptAt values []) (nonzero values) (λ p l. kept-floats values [] p refl)
 
 pub factor-pairs-spec : {M : Type 1} → statement M
 factor-pairs-spec =
     tie.close
     (tie.spec
-    has-above-requires
-    kept-columns-requires
-    returns
-    at-requires
-    nonzero-between-requires
-    returns-2)
+    sub-factor-pairs-by
+    part-factor-pairs-by-start
+    part-factor-pairs-by-end
+    factor-pairs-by-requires
+    returns)

@@ -1,3 +1,4 @@
+use denote.Ref.{now}
 use borrow.Author.Tests.{le-leb}
 use mathlib.Core.Bool.{Bool}
 use mathlib.Core.List.{List, []}
@@ -6,9 +7,10 @@ use native.Mathlib.Omega.{arith}
 use Prim.Native.Nat.{ℕ}
 use borrow.Author.Needs.{needs}
 use Rattle.lists.specs.Select.{select, select-none, select-join, select-gap, select-cong, tally}
-use Rattle.columns.specs.Kept.{kept, nonzero}
+use Rattle.columns.specs.Kept.{kept}
 use Rattle.columns.specs.Factor.{Column, FirstFrom}
 use Rattle.columns.specs.Diagonal.{firstFrom-from, firstFrom-dropped}
+use Rattle.kept_entries.specs.KeptBy.{keptAt}
 use Rattle.kept_entries.proofs.kept_between.Statement.{statement}
 use Rattle.kept_entries.proofs.kept_between.Tie as tie
 
@@ -25,12 +27,17 @@ first-from-requires : tie.Need-first-from-requires
 first-from-requires c κs = search needs
 
 nonzero-between-requires : tie.Need-nonzero-between-requires
-nonzero-between-requires c κs = search needs
+nonzero-between-requires c κs =
+    let s = c .before .before .before in
+    let given = s .pre .1 in
+    let C = s .pre .0 in
+    let F = c .first-from .ensures in
+    (F .upto, record { by-floats = λ e. omega (arith, C .stored, given .by-floats e); by-wholes = λ h. omega (arith, C .stored, given .by-wholes h) })
 
 returns : tie.Need-returns
 returns c =
     let s = c .before .before .before .before in
-    c .nonzero-between .ensures ∙ sym (kept-from (s .pre) (c .before .first-from .ensures) (nonzero (s .args .values .now)))
+    c .nonzero-between .ensures ∙ sym (kept-from (s .pre .0) (c .before .first-from .ensures) (keptAt (now (s .args .floats)) (now (s .args .wholes))))
 
 pub kept-between-spec : {M : Type 1} → statement M
 kept-between-spec = tie.close (tie.spec first-from-requires nonzero-between-requires returns)

@@ -1,4 +1,5 @@
-use Rattle.columns.specs.Kept.{nonzero, keptCount, factorPairs, factorPairs-none, factorPairs-next}
+use denote.Ref.{now}
+use Rattle.columns.specs.Kept.{keptCount, factorPairs, factorPairs-none, factorPairs-next}
 use Rattle.columns.specs.Factor.{factor-column, starts-end}
 use Rattle.lists.specs.Select.{tally-most}
 use borrow.Author.Needs.{needs}
@@ -6,14 +7,15 @@ use native.Mathlib.Omega.{arith}
 use Prim.Native.Nat.{_≤_, _-_, _+_}
 use mathlib.Core.Path.{_≡_, ap, ap₂, sym, _∙_}
 use lib.ListN.{length, getD}
+use Rattle.kept_entries.specs.KeptBy.{keptAt}
 use Rattle.kept_entries.proofs.kept_columns.Statement.{statement}
 use Rattle.kept_entries.proofs.kept_columns.Tie as tie
 
 abbrev Inv-loop : tie.InvT-loop
-Inv-loop n starts rows values count₀ c₀ count c = (c ≤ n) × (count ≤ getD starts c 0) × (count ≡ factorPairs starts rows (nonzero values) c)
+Inv-loop n starts rows floats wholes count₀ c₀ count c = (c ≤ n) × (count ≤ getD starts c 0) × (count ≡ factorPairs starts rows (keptAt floats wholes) c)
 
 abbrev μ-loop : tie.MeasureT-loop
-μ-loop n starts rows values count₀ c₀ count c = n - c
+μ-loop n starts rows floats wholes count₀ c₀ count c = n - c
 
 -- the count stays below the next start
 bound : (c : tie.After-kept-between Inv-loop μ-loop) →
@@ -23,7 +25,7 @@ bound c =
     let a = c .before .before .before .before in
     let s = a .before .before .before .before in
     let m : c .kept-between .result ≤ c .before .at2 .result - c .before .before .at .result = rw (c .kept-between .ensures) (tally-most _ _ _) in
-    omega (arith, s .pre .starts-rise .rising (a .loop .c) (omega arith))
+    omega (arith, s .pre .0 .starts-rise .rising (a .loop .c) (omega arith))
 
 -- which is within the rows
 end : (c : tie.After-kept-between Inv-loop μ-loop) →
@@ -32,13 +34,13 @@ end : (c : tie.After-kept-between Inv-loop μ-loop) →
     getD (s .args .starts .now) (a .loop .c + 1) 0 ≤ length (s .args .rows .now)
 end c =
     let a = c .before .before .before .before in
-    starts-end (a .before .before .before .before .pre .starts-rise) (a .loop .c + 1) (omega arith)
+    starts-end (a .before .before .before .before .pre .0 .starts-rise) (a .loop .c + 1) (omega arith)
 
 -- what is added counts column c
 counted : (c : tie.After-kept-between Inv-loop μ-loop) →
     let a = c .before .before .before .before in
     let s = a .before .before .before .before in
-    c .kept-between .result ≡ keptCount (s .args .starts .now) (s .args .rows .now) (nonzero (s .args .values .now)) (a .loop .c)
+    c .kept-between .result ≡ keptCount (s .args .starts .now) (s .args .rows .now) (keptAt (now (s .args .floats)) (now (s .args .wholes))) (a .loop .c)
 counted c = rw (c .before .before .at .ensures, c .before .at2 .ensures) at (c .kept-between .ensures)
 
 loop-holds : tie.Need-loop-holds Inv-loop μ-loop
@@ -56,7 +58,8 @@ at-requires-2 c κs = search needs
 kept-between-requires : tie.Need-kept-between-requires Inv-loop μ-loop
 kept-between-requires c κs =
     let i = c .before .before .before in
-    rw (c .before .at .ensures, c .at2 .ensures) (factor-column (i .before .before .before .before .pre) (i .loop .c) (omega arith))
+    let s = i .before .before .before .before in
+    (rw (c .before .at .ensures, c .at2 .ensures) (factor-column (s .pre .0) (i .loop .c) (omega arith)), s .pre .1)
 
 add-count : tie.Need-add-count Inv-loop μ-loop
 add-count c = omega (arith, bound c, end c)
@@ -77,7 +80,7 @@ returns c =
     let i = c .before .loop in
     let s = c .before .before .before .before .before in
     let q : i .c ≡ s .args .n = omega arith in
-    i .inv .2 ∙ ap (factorPairs (s .args .starts .now) (s .args .rows .now) (nonzero (s .args .values .now))) q
+    i .inv .2 ∙ ap (factorPairs (s .args .starts .now) (s .args .rows .now) (keptAt (now (s .args .floats)) (now (s .args .wholes)))) q
 
 pub kept-columns-spec : {M : Type 1} → statement M
 kept-columns-spec =

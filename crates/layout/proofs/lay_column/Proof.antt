@@ -2,7 +2,7 @@ use native.Mathlib.Omega.{arith}
 use borrow.Author.Needs.{needs}
 use Rattle.pairs.specs.Pair.{pairTotal-small}
 use Rattle.pairs.specs.ColumnOrder.{colStart-least, colStart-mono, colStart-total}
-use Rattle.layout.proofs.LayoutLaws.{column-bits, column-next, column-input, column-listed, column-positions, column-laid}
+use Rattle.layout.proofs.LayoutLaws.{column-bits, column-next, column-input, column-listed, column-positions, column-placed}
 use Rattle.layout.proofs.lay_column.Statement.{statement}
 use Rattle.layout.proofs.lay_column.Tie as tie
 
@@ -63,7 +63,7 @@ lay-positions-requires c κs =
     let v = counted l in
     let s = start v in
     rw (q .queue-start .ensures .0)
-    (column-positions (s .pre) (column-listed (s .pre .room) (l .list-bits .ensures) (column-next (s .pre .room) (v .count-bits .ensures))))
+    (column-positions 0 (s .pre .room) (omega (arith, s .pre .few)) (column-listed (s .pre .room) (l .list-bits .ensures) (column-next (s .pre .room) (v .count-bits .ensures))))
 
 same-length : tie.Need-same-length
 same-length c = search needs
@@ -78,8 +78,8 @@ returns c =
     let l = listed q in
     let v = counted l in
     let s = start v in
-    column-laid (s .pre) (column-listed (s .pre .room) (l .list-bits .ensures) (column-next (s .pre .room) (v .count-bits .ensures)))
-    (rw (q .queue-start .ensures .0) at (u .lay-positions .ensures))
+    let L = column-listed (s .pre .room) (l .list-bits .ensures) (column-next (s .pre .room) (v .count-bits .ensures)) in
+    record { listed = L; placed = column-placed 0 (s .pre .room) (omega (arith, s .pre .few)) L (omega arith) (rw (q .queue-start .ensures .0) at (u .lay-positions .ensures)) }
 
 pub lay-column-spec : {M : Type 1} → statement M
 lay-column-spec =

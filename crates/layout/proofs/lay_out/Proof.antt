@@ -6,7 +6,7 @@ use denote.Ref.{now}
 use borrow.Author.Needs.{needs}
 use Rattle.pairs.specs.Pair.{maxPairs, pairTotal-small}
 use Rattle.pairs.specs.ColumnOrder.{colStart, colStart-none, colStart-next, colStart-mono, colStart-total}
-use Rattle.layout.proofs.LayoutLaws.{ColumnsLaid, columns-none, columns-few, columns-room, columns-reached, columns-more, columns-end}
+use Rattle.layout.proofs.LayoutLaws.{ColumnsLaid, columns-none, placed-few, columns-room, columns-reached, columns-more, columns-end}
 use Rattle.layout.proofs.lay_out.Statement.{statement}
 use Rattle.layout.proofs.lay_out.Tie as tie
 
@@ -23,7 +23,7 @@ start q = q .before .before .before .before .before
 
 -- the count is a word
 few : (q : tie.At-loop Inv-loop μ-loop) → q .loop .count ≤ maxPairs
-few q = columns-few (start q .pre .0) (q .loop .inv .5) (q .loop .inv .3)
+few q = placed-few (start q .pre .0 .small) (q .loop .inv .5 .placed) (q .loop .inv .3)
 
 -- the next column's place
 next : (t : tie.In-loop Inv-loop μ-loop) →
@@ -54,7 +54,7 @@ lay-reached-column-requires c κs =
     let l = q .loop in (
       columns-room (s .pre .0) (l .inv .5) _ (l .inv .4) (t .loop-test .taken) (l .inv .1),
       omega (arith, s .pre .1, t .loop-test .taken),
-      columns-reached (s .pre .0) (l .inv .5) (now (s .args .reached)) (s .pre .2),
+      columns-reached (s .pre .0 .small) (l .inv .5 .placed) (now (s .args .reached)) (s .pre .2),
     )
 
 sub-place : tie.Need-sub-place Inv-loop μ-loop

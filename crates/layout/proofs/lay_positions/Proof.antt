@@ -10,11 +10,11 @@ use Rattle.layout.proofs.lay_positions.Statement.{statement}
 use Rattle.layout.proofs.lay_positions.Tie as tie
 
 abbrev Inv-loop : tie.InvT-loop
-Inv-loop base first end rows scratch₀ q₀ scratch q =
-    (first ≤ q) × (q ≤ end) × PositionsLaid base first q rows scratch₀ scratch
+Inv-loop base shift first end rows scratch₀ q₀ scratch q =
+    (first ≤ q) × (q ≤ end) × PositionsLaid base shift first q rows scratch₀ scratch
 
 abbrev μ-loop : tie.MeasureT-loop
-μ-loop base first end rows scratch₀ q₀ scratch q = end - q
+μ-loop base shift first end rows scratch₀ q₀ scratch q = end - q
 
 abbrev start : tie.After-at Inv-loop μ-loop → tie.Start Inv-loop μ-loop
 start c = c .before .before .before .before .before
@@ -26,10 +26,13 @@ inside c =
     omega (arith, start c .pre .inside (l .q) (l .inv .0) (c .before .loop-test .taken), c .at .ensures, l .inv .2 .long)
 
 loop-holds : tie.Need-loop-holds Inv-loop μ-loop
-loop-holds c = (omega arith, c .before .before .pre .order, positions-none _ _ _ _)
+loop-holds c = (omega arith, c .before .before .pre .order, positions-none _ _ _ _ _)
 
 at-requires : tie.Need-at-requires Inv-loop μ-loop
 at-requires c κs = search needs
+
+add-position : tie.Need-add-position Inv-loop μ-loop
+add-position c = search needs
 
 cast-scratch : tie.Need-cast-scratch Inv-loop μ-loop
 cast-scratch c = search needs
@@ -63,7 +66,7 @@ returns c =
     let l = c .before .loop in
     let a = c .before .before .before .before .args in
     let e : l .q ≡ a .end = omega (arith, c .loop-test .left, l .inv .1) in
-    subst (λ (k : ℕ). PositionsLaid (a .base) (a .first) k (now (a .rows)) (now (a .scratch)) (l .scratch)) e (l .inv .2)
+    subst (λ (k : ℕ). PositionsLaid (a .base) (a .shift) (a .first) k (now (a .rows)) (now (a .scratch)) (l .scratch)) e (l .inv .2)
 
 pub lay-positions-spec : {M : Type 1} → statement M
 lay-positions-spec =
@@ -73,6 +76,7 @@ lay-positions-spec =
     μ-loop
     loop-holds
     at-requires
+    add-position
     cast-scratch
     add-scratch
     mul-scratch

@@ -11,7 +11,7 @@ at-requires c κs = search needs
 returns : tie.Need-returns
 returns c =
     let s = c .before .before .before .before .before in
-    column-unreached (now (s .args .reached)) (s .pre .0 .room .inside) (s .pre .2) (omega (arith, c .before .at .ensures, c .if1 .taken))
+    column-unreached (now (s .args .reached)) (now (s .args .scratch)) (s .pre .0 .room .inside) (s .pre .2) (omega (arith, c .before .at .ensures, c .if1 .taken))
 
 lay-column-requires : tie.Need-lay-column-requires
 lay-column-requires c κs = c .before .before .before .before .before .before .before .pre .0

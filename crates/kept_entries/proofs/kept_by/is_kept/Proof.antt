@@ -4,7 +4,8 @@ use mir.ValLaws.{toZ-ofZ}
 use borrow.Author.Needs.{needs}
 use native.Mathlib.Omega.{arith}
 use mathlib.Core.Path.{sym, ap, _∙_}
-use Rattle.kept_entries.specs.KeptBy.{notZero, kept-floats, kept-wholes}
+use Rattle.columns.specs.WholeFactor.{notZero}
+use Rattle.kept_entries.specs.KeptBy.{kept-floats, kept-wholes}
 use Rattle.kept_entries.proofs.kept_by.is_kept.Statement.{statement}
 use Rattle.kept_entries.proofs.kept_by.is_kept.Tie as tie
 

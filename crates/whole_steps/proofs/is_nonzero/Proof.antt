@@ -1,8 +1,8 @@
 use mathlib.Core.Path.{ap}
 use mathlib.Core.Bool.{not}
-use Rattle.kept_entries.specs.KeptBy.{bits-zero}
-use Rattle.kept_entries.proofs.kept_by.is_nonzero.Statement.{statement}
-use Rattle.kept_entries.proofs.kept_by.is_nonzero.Tie as tie
+use Rattle.whole_steps.specs.Machine.{bits-zero}
+use Rattle.whole_steps.proofs.is_nonzero.Statement.{statement}
+use Rattle.whole_steps.proofs.is_nonzero.Tie as tie
 
 returns : tie.Need-returns
 returns c = ap not (bits-zero (c .args .z) (c .fits .z))

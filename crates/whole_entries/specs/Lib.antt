@@ -1,0 +1,2 @@
+-- Filling result lists in whole numbers: what it asks and leaves.
+pub mod Filling

@@ -1,0 +1,4 @@
+pub mod SumLaws
+pub mod EntryLaws
+pub mod RowsLaws
+pub mod ColumnLaws

@@ -1,0 +1,2 @@
+-- Signed 64-bit numbers as whole numbers.
+pub mod Machine
