@@ -7,7 +7,7 @@ use super::put_value;
 use super::put_value_line;
 use super::put_values;
 use super::put_words;
-use dependency_chain::Chain;
+use dependency_chain::ChainPairs;
 use diagnostics::Selected;
 use diagnostics::SelectedInverseDiagnostics;
 use diagnostics::SelectedInverseStatus;
@@ -87,10 +87,10 @@ fn put_chain_length(count: usize) {
 }
 
 // The reply of a call for a chain.
-pub fn put_chain(answer: Chain) {
+pub fn put_chain(answer: ChainPairs) {
     match answer {
-        Chain::Pairs(count) => put_chain_length(count),
-        Chain::Refused(why) => put_refused(why),
+        ChainPairs::Pairs(count) => put_chain_length(count),
+        ChainPairs::Refused(why) => put_refused(why),
     }
 }
 

@@ -7,7 +7,7 @@ ghost use Rattle.dependency_chain.specs.Reply.{chainReply};
 ghost use Rattle.floor.specs.Floor.{stabilizedReply};
 ghost use Rattle.requests_reader.specs.Reader.{readReply};
 ghost use Rattle.c_replies.specs.Numbers.{statusNumber, selectedNumbers, entryNumbers, countedNumbers, pairNumbers, requestsNumbers, floorNumbers, leastNumbers};
-use dependency_chain::Chain;
+use dependency_chain::ChainPairs;
 use diagnostics::Selected;
 use diagnostics::SelectedInverseStatus;
 use floor::Stabilized;
@@ -156,15 +156,15 @@ pub fn pair_numbers(answer: PatternPairs) -> PairNumbers
 }
 
 // The number of pairs of a chain, 0 where the pair is not in the set.
-pub fn chain_numbers(answer: Chain) -> PairNumbers
+pub fn chain_numbers(answer: ChainPairs) -> PairNumbers
     ensures { λ r. ⌜ r ≡ pairNumbers (chainReply answer) ⌝ }
 {
     match answer {
-        Chain::Pairs(length) => PairNumbers {
+        ChainPairs::Pairs(length) => PairNumbers {
             refusal: 0,
             pairs: length,
         },
-        Chain::Refused(why) => PairNumbers {
+        ChainPairs::Refused(why) => PairNumbers {
             refusal: refusal_number(why),
             pairs: 0,
         },

@@ -32,8 +32,8 @@ wordAt text p k = min (itemAt 10 text p k) 4294967295
 abbrev pub byteAt : Bool → List ℕ → ℕ → ℕ → ℕ
 byteAt hex text p k = min (itemAt (cond hex 16 10) text p k) 255
 
-abbrev pub valueAt : List ℕ → ℕ → ℕ → Float
-valueAt text p k = ofBits binary64 (itemAt 16 text p k)
+abbrev pub floatAt : List ℕ → ℕ → ℕ → Float
+floatAt text p k = ofBits binary64 (itemAt 16 text p k)
 
 -- what reading a list at p gives: the items that the list has room for are put to its front
 pub record Listing {A : Type 0} (item : List ℕ → ℕ → ℕ → A) (text : List ℕ) (p : ℕ) (old : List A) (count : ℕ) (new : List A) : Type 0 where

@@ -1,6 +1,6 @@
 // The fields of a case, each found by its label, which starts with the line end before it. A field that the case lacks is read as 0, or as an empty list.
 ghost use mathlib.Core.Path.{_≡_};
-ghost use Rattle.case_text.specs.Items.{wordAt, byteAt, valueAt, Listing};
+ghost use Rattle.case_text.specs.Items.{wordAt, byteAt, floatAt, Listing};
 ghost use Rattle.case_text.specs.Fields.{fieldAt, numberField};
 use super::decimal;
 use super::items::read_bytes;
@@ -32,7 +32,7 @@ pub fn byte_field(text: &[u8], label: &[u8], hex: bool, list: &mut [u8]) -> usiz
 
 // The same with values.
 pub fn value_field(text: &[u8], label: &[u8], list: &mut [f64]) -> usize
-    ensures { λ r. ⌜ Listing valueAt (now (text .entry)) (fieldAt (now (text .entry)) (now (label .entry))) (now (list .entry)) r (now (list .exit)) ⌝ }
+    ensures { λ r. ⌜ Listing floatAt (now (text .entry)) (fieldAt (now (text .entry)) (now (label .entry))) (now (list .entry)) r (now (list .exit)) ⌝ }
 {
     read_values(text, skip_to(text, 0, label), list)
 }

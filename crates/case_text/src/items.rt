@@ -3,7 +3,7 @@ ghost use mathlib.Core.Path.{_≡_};
 ghost use Prim.Native.Nat.{_≤_, min};
 ghost use lib.ListN.{length};
 ghost use Rattle.lists.specs.Overwrite.{filled};
-ghost use Rattle.case_text.specs.Items.{wordAt, byteAt, valueAt, Listing};
+ghost use Rattle.case_text.specs.Items.{wordAt, byteAt, floatAt, Listing};
 use super::decimal;
 use super::float_value;
 use super::number_of;
@@ -62,7 +62,7 @@ fn put_bytes(text: &[u8], p: usize, count: usize, hex: bool, list: &mut [u8])
 // The same with values.
 fn put_values(text: &[u8], p: usize, count: usize, list: &mut [f64])
     requires { ⌜ count ≤ length (now list) ⌝ }
-    ensures { λ _. ⌜ now (list .exit) ≡ filled (valueAt (now (text .entry)) p) count (now (list .entry)) ⌝ }
+    ensures { λ _. ⌜ now (list .exit) ≡ filled (floatAt (now (text .entry)) p) count (now (list .entry)) ⌝ }
 {
     let mut q = p;
     let mut i = 0;
@@ -98,7 +98,7 @@ pub fn read_bytes(text: &[u8], p: usize, hex: bool, list: &mut [u8]) -> usize
 
 // Reads a counted list of values.
 pub fn read_values(text: &[u8], p: usize, list: &mut [f64]) -> usize
-    ensures { λ r. ⌜ Listing valueAt (now (text .entry)) p (now (list .entry)) r (now (list .exit)) ⌝ }
+    ensures { λ r. ⌜ Listing floatAt (now (text .entry)) p (now (list .entry)) r (now (list .exit)) ⌝ }
 {
     let at = skip_blanks(text, p);
     let items = decimal(text, at) as usize;

@@ -23,8 +23,8 @@ use Rattle.columns.specs.Kept.{keptBelow, pattern}
 use Rattle.columns.specs.Factor.{Factor, starts-end}
 use Rattle.closed_set.specs.ClosedSet.{Closed, Pattern, descends}
 use Rattle.closure.specs.Nested.{Nested, Stop, StopFound}
-use Rattle.marked_pairs.specs.MarkedPairs.{queueWord, Queued, Marked, Insert, Inserted, count-most}
-use Rattle.closure.specs.Queue.{MarkedWithin, Grown, QueueInput, EndRoom, EndOf, afterSpan, EndColumnInput, ColumnEnded, QueueClosed}
+use Rattle.marked_pairs.specs.MarkedPairs.{queueWord, Queued, Marked, InsertInput, Inserted, count-most}
+use Rattle.closure.specs.Queue.{MarkedWithin, Grown, QueueInput, ColumnEndInput, EndOf, afterSpan, EndColumnInput, ColumnEnded, QueueClosed}
 use Rattle.closed_set.specs.FactorPattern.{factor-pattern, entry-descends, descends-entry}
 
 -- ---- words that grow
@@ -337,7 +337,7 @@ module _ {n : ℕ} {starts rows : List ℕ} {values limit : ℕ} (nz : ℕ → B
     word-inside l e = let Q = word-queued l e in omega (arith, Q .ordered, Q .inside)
 
     -- its stop is stored
-    pub word-end : {w stop : ℕ} → head < count → w ≡ queueWord n s head → Stop starts rows nz (columnOf w) stop → EndRoom (columnOf w) stop starts rows
+    pub word-end : {w stop : ℕ} → head < count → w ≡ queueWord n s head → Stop starts rows nz (columnOf w) stop → ColumnEndInput (columnOf w) stop starts rows
     word-end l e T =
         record { next = word-starts l e; stored = starts-end (I .factor .starts-rise) _ (omega (arith, word-inside l e)); after = T .after }
 
@@ -637,7 +637,7 @@ module _ {n : ℕ} {starts rows : List ℕ} {values limit : ℕ} (nz : ℕ → B
 
     module _ {k : ℕ} (e : k ≡ row rows p) where
       -- the dependency by it can be inserted
-      pub entry-insert : Insert n (rowOf w) k s count
+      pub entry-insert : InsertInput n (rowOf w) k s count
       entry-insert =
           let Q = entry-word in
           record {

@@ -42,7 +42,7 @@ pub record QueueInput (n : ℕ) (starts rows : List ℕ) (values : ℕ) (nz : �
   pub low : count ≤ limit
 
 -- column c, and its stop, with the entries up to its end stored among the rows
-pub record EndRoom (c stop : ℕ) (starts rows : List ℕ) : Type 0 where
+pub record ColumnEndInput (c stop : ℕ) (starts rows : List ℕ) : Type 0 where
   pub next : c + 1 < length starts
   pub stored : start starts (c + 1) ≤ length rows
   pub after : stop < start starts (c + 1) → 0 < stop

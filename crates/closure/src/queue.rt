@@ -4,7 +4,7 @@ ghost use mathlib.Core.Path.{_≡_};
 ghost use Prim.Native.Nat.{_<_};
 ghost use lib.ListN.{length};
 ghost use Rattle.kept_entries.specs.KeptBy.{ValuesLent, keptAt};
-ghost use Rattle.closure.specs.Queue.{QueueInput, EndRoom, EndOf, afterSpan, EndColumnInput, ColumnEnded, QueueClosed};
+ghost use Rattle.closure.specs.Queue.{QueueInput, ColumnEndInput, EndOf, afterSpan, EndColumnInput, ColumnEnded, QueueClosed};
 use super::stops::find_stop;
 use kept_entries::kept_by::is_kept;
 use marked_pairs::insert_closure_pair;
@@ -14,7 +14,7 @@ use words::at;
 
 // Where closing (r, c) ends among the entries of column c: at its stop, if the row there is at most r, else with the column.
 fn column_end(r: usize, c: usize, stop: usize, starts: &[u32], rows: &[u32]) -> usize
-    requires { ⌜ EndRoom c stop (now starts) (now rows) ⌝ }
+    requires { ⌜ ColumnEndInput c stop (now starts) (now rows) ⌝ }
     ensures { λ e. ⌜ EndOf (now (starts .entry)) (now (rows .entry)) stop r c e ⌝ }
 {
     let end = at(starts, c + 1);

@@ -38,11 +38,11 @@ routeTerms g j = sumTerms (g .n) j (start (g .starts) j) (start (g .starts) (j +
 
 abbrev pub routeColumn : RouteLists → ℕ → SumColumn
 routeColumn g j =
-    sumColumn (g .n) j (firstOf g j) (firstOf g (j + 1)) (start (g .starts) j) (start (g .starts) (j + 1)) (g .rows) (g .values) (g .entryRows) (g .scratch)
+    sumColumn (g .n) j (firstOf g j) (firstOf g (j + 1)) (start (g .starts) j) (start (g .starts) (j + 1)) (g .rows) (g .values) (g .resultRows) (g .scratch)
 
 -- q is the place of the entry (r, j) of the set
 abbrev EntryAt : RouteLists → ℕ → ℕ → Type 0
-EntryAt g j q = (r : ℕ) × (j ≤ r) × (r < g .n) × (routeSet g r j ≡ true) × (placeIn g r j ≡ q) × (row (g .entryRows) q ≡ r)
+EntryAt g j q = (r : ℕ) × (j ≤ r) × (r < g .n) × (routeSet g r j ≡ true) × (placeIn g r j ≡ q) × (row (g .resultRows) q ≡ r)
 
 module _ {g : RouteLists} {size : ℕ} (G : ClosureRouteInput g size) where
   pub column : (j : ℕ) → j < g .n → Column (g .rows) (length (g .values)) (start (g .starts) j) (start (g .starts) (j + 1))
@@ -103,7 +103,7 @@ module _ {g : RouteLists} {size : ℕ} (G : ClosureRouteInput g size) where
   entry-at : (j q : ℕ) → j < g .n → firstOf g j ≤ q → q < firstOf g (j + 1) → EntryAt g j q
   entry-at j q jn lo hi =
       let w = position-found (g .n) (routeSet g) j q jn lo hi in
-      (w .0, w .1, w .2, w .3, w .4, ap (row (g .entryRows)) (sym (w .4)) ∙ G .rows-are (w .0) j (w .1) (w .2) (w .3))
+      (w .0, w .1, w .2, w .3, w .4, ap (row (g .resultRows)) (sym (w .4)) ∙ G .rows-are (w .0) j (w .1) (w .2) (w .3))
 
   -- what the column's sums ask
   pub column-input : (j : ℕ) → j < g .n → StoreSumsInput (routeColumn g j) size
@@ -188,11 +188,11 @@ module _ {g : RouteLists} {size : ℕ} (G : ClosureRouteInput g size) where
           )
 
   -- a column that has entries has its diagonal's exactly if its first row is the column
-  pub diagonal-row : (j : ℕ) → j < g .n → firstOf g j < firstOf g (j + 1) → eqb (row (g .entryRows) (firstOf g j)) j ≡ routeSet g j j
+  pub diagonal-row : (j : ℕ) → j < g .n → firstOf g j < firstOf g (j + 1) → eqb (row (g .resultRows) (firstOf g j)) j ≡ routeSet g j j
   diagonal-row j jn some =
-      same-truth (eqb (row (g .entryRows) (firstOf g j)) j) (routeSet g j j)
-      (λ t. subst (λ (r : ℕ). routeSet g r j ≡ true) (sym (w .5) ∙ eqb-true (row (g .entryRows) (firstOf g j)) j t) (w .3))
-      (λ t. eq-eqb (row (g .entryRows) (firstOf g j)) j (w .5 ∙ least t))
+      same-truth (eqb (row (g .resultRows) (firstOf g j)) j) (routeSet g j j)
+      (λ t. subst (λ (r : ℕ). routeSet g r j ≡ true) (sym (w .5) ∙ eqb-true (row (g .resultRows) (firstOf g j)) j t) (w .3))
+      (λ t. eq-eqb (row (g .resultRows) (firstOf g j)) j (w .5 ∙ least t))
     where
       w : EntryAt g j (firstOf g j)
       w = entry-at j (firstOf g j) jn (omega arith) some
@@ -204,11 +204,11 @@ module _ {g : RouteLists} {size : ℕ} (G : ClosureRouteInput g size) where
       ]
 
   -- what the diagonal's entry asks
-  pub diagonal-input : (j : ℕ) → j < g .n → firstOf g j < firstOf g (j + 1) → StoreDiagonalInput (routeTerms g j) (firstOf g j) (g .entryRows) size
+  pub diagonal-input : (j : ℕ) → j < g .n → firstOf g j < firstOf g (j + 1) → StoreDiagonalInput (routeTerms g j) (firstOf g j) (g .resultRows) size
   diagonal-input j jn some =
       let most = column-most j jn in
       record {
         listed = omega (arith, G .rows-fit);
         fits = omega (arith, G .values-fit);
-        sum = λ e. column-sum j j (omega arith) jn (sym (diagonal-row j jn some) ∙ eq-eqb (row (g .entryRows) (firstOf g j)) j e);
+        sum = λ e. column-sum j j (omega arith) jn (sym (diagonal-row j jn some) ∙ eq-eqb (row (g .resultRows) (firstOf g j)) j e);
       }

@@ -37,7 +37,7 @@ sumOver g j r = sumBetween (g .rows) (g .values) j r (start (g .starts) j) (star
 module _ {g : RouteLists} {size : ℕ} (G : ClosureRouteInput g size) (off on : Float → Float → Float) (diag : ℕ → Float) {Z : ℕ → ℕ → Float}
     (solves : Solves floats off on diag (desc (g .starts) (g .rows) (g .values)) (Lower (g .n)) Z) {j : ℕ} {z₀ z₁ z₂ z₃ : List Float} (jn : j < g .n)
     (size-is : length z₀ ≡ size) (D : SolvedFrom (g .n) (routeSet g) Z (j + 1) z₀) (A : SumsStored (routeColumn g j) z₀ z₁)
-    (B : SumsFinished j (off (diag j)) (g .entryRows) (firstOf g j) (firstOf g (j + 1)) z₁ z₂)
+    (B : SumsFinished j (off (diag j)) (g .resultRows) (firstOf g j) (firstOf g (j + 1)) z₁ z₂)
     (C : z₃ ≡ putIf (routeSet g j j) z₂ (firstOf g j) (on (diag j) (entrySum (routeTerms g j) z₂ j))) where
   -- below the diagonal
   sum-below : (r : ℕ) → j < r → r < g .n → routeSet g r j ≡ true → entrySum (routeTerms g j) z₀ r ≡ sumOver g j (at Z r)
@@ -55,8 +55,8 @@ module _ {g : RouteLists} {size : ℕ} (G : ClosureRouteInput g size) (off on : 
   unfolding sumBetween
   under r h l t =
       let q = placeIn g r j in
-      let e : row (g .entryRows) (placeIn g r j) ≡ r = G .rows-are r j (omega arith) l t in
-      let b : j < row (g .entryRows) (placeIn g r j) = omega arith in
+      let e : row (g .resultRows) (placeIn g r j) ≡ r = G .rows-are r j (omega arith) l t in
+      let b : j < row (g .resultRows) (placeIn g r j) = omega arith in
       let hi = position-in (g .n) (routeSet g) r j (omega arith) l t in
       B .below q (omega arith) hi b
       ∙ ap (off (diag j)) (A .sums q (omega arith, hi, b) ∙ ap (entrySum (routeTerms g j) z₀) e ∙ sum-below r h l t)
@@ -139,7 +139,7 @@ pub record Ends (g : RouteLists) (j first last s e : ℕ) : Type 0 where
 
 module _ {g : RouteLists} {size : ℕ} (G : ClosureRouteInput g size) {j : ℕ} (jn : j < g .n) where
   -- as they are read from the starts
-  pub ends-read : {first last s e : ℕ} → first ≡ getD (g .entryStarts) j 0 → last ≡ getD (g .entryStarts) (j + 1) 0 → s ≡ start (g .starts) j
+  pub ends-read : {first last s e : ℕ} → first ≡ getD (g .resultStarts) j 0 → last ≡ getD (g .resultStarts) (j + 1) 0 → s ≡ start (g .starts) j
       → e ≡ start (g .starts) (j + 1) → Ends g j first last s e
   ends-read a b c d = record {
     first-is = a ∙ G .starts-are j (omega arith);
@@ -149,11 +149,11 @@ module _ {g : RouteLists} {size : ℕ} (G : ClosureRouteInput g size) {j : ℕ} 
   }
 
   module _ {first last s e : ℕ} (E : Ends g j first last s e) where
-    pub sums-at : StoreSumsInput (sumColumn (g .n) j first last s e (g .rows) (g .values) (g .entryRows) (g .scratch)) size
+    pub sums-at : StoreSumsInput (sumColumn (g .n) j first last s e (g .rows) (g .values) (g .resultRows) (g .scratch)) size
     sums-at = rw (E .first-is, E .last-is, E .start-is, E .end-is) (column-input G j jn)
 
     -- the column's part is within the lists
-    pub part-at : (k : ℕ) → k ≡ size → (first ≤ last) × (last ≤ k) × (last ≤ length (g .entryRows)) × (j < maxDimension)
+    pub part-at : (k : ℕ) → k ≡ size → (first ≤ last) × (last ≤ k) × (last ≤ length (g .resultRows)) × (j < maxDimension)
     part-at k q =
         let most = column-most G j jn in
         let up = columnCount-mono (g .n) (routeSet g) j (j + 1) (omega arith) in
@@ -166,7 +166,7 @@ module _ {g : RouteLists} {size : ℕ} (G : ClosureRouteInput g size) {j : ℕ} 
         elim (decLe (firstOf g (j + 1)) (firstOf g j)) [ yes h ↦ absurd (d (omega (arith, E .first-is, E .last-is))) | no h ↦ omega arith ]
 
     pub diagonal-at : (first ≡ last → ⊥) → (k : ℕ) → k ≡ size
-        → StoreDiagonalInput (sumTerms (g .n) j s e (g .rows) (g .values) (g .scratch)) first (g .entryRows) k
+        → StoreDiagonalInput (sumTerms (g .n) j s e (g .rows) (g .values) (g .scratch)) first (g .resultRows) k
     diagonal-at d k q = rw (q, E .first-is, E .start-is, E .end-is) (diagonal-input G j jn (some-at d))
 
     -- a column without entries
@@ -188,9 +188,9 @@ module _ {g : RouteLists} {size : ℕ} (G : ClosureRouteInput g size) {j : ℕ} 
     pub solved-at : (off on : Float → Float → Float) (diag : ℕ → Float) {Z : ℕ → ℕ → Float}
         → Solves floats off on diag (desc (g .starts) (g .rows) (g .values)) (Lower (g .n)) Z
         → {d : Float} {z₀ z₁ z₂ z₃ : List Float} → (first ≡ last → ⊥) → d ≡ diag j → length z₀ ≡ size → SolvedFrom (g .n) (routeSet g) Z (j + 1) z₀
-        → SumsStored (sumColumn (g .n) j first last s e (g .rows) (g .values) (g .entryRows) (g .scratch)) z₀ z₁
-        → SumsFinished j (off d) (g .entryRows) first last z₁ z₂
-        → z₃ ≡ putIf (eqb (row (g .entryRows) first) j) z₂ first (on d (entrySum (sumTerms (g .n) j s e (g .rows) (g .values) (g .scratch)) z₂ j))
+        → SumsStored (sumColumn (g .n) j first last s e (g .rows) (g .values) (g .resultRows) (g .scratch)) z₀ z₁
+        → SumsFinished j (off d) (g .resultRows) first last z₁ z₂
+        → z₃ ≡ putIf (eqb (row (g .resultRows) first) j) z₂ first (on d (entrySum (sumTerms (g .n) j s e (g .rows) (g .values) (g .scratch)) z₂ j))
         → ColumnsSolved (g .n) (routeSet g) Z j z₀ z₃
     solved-at off on diag solves {d} {z₀} {z₁} {z₂} {z₃} some q k D A B C =
         column-solved G off on diag solves jn k D

@@ -49,10 +49,10 @@ module _ {x : SumColumn} {size : ℕ} (R : AddStoredInput x size) where
     after = λ i h. refl;
   }
 
-  module _ {m : ℕ} (F : FirstFrom k (x .entryRows) (x .first) (x .last) m) where
+  module _ {m : ℕ} (F : FirstFrom k (x .resultRows) (x .first) (x .last) m) where
     reached : (i : ℕ) → m ≤ i → i < x .last → k ≤ sumRow x i
     reached i lo hi =
-        omega (arith, F .stops (omega arith), later-row (x .entryRows) (x .first) (x .last) (R .ascends) m i (F .from) lo hi)
+        omega (arith, F .stops (omega arith), later-row (x .resultRows) (x .first) (x .last) (R .ascends) m i (F .from) lo hi)
 
     -- it adds nothing
     none-added : (z : List Float)
@@ -80,7 +80,7 @@ module _ {x : SumColumn} {size : ℕ} (R : AddStoredInput x size) where
 
     -- its product is added
     pub product-added : {z z′ : List Float} → keptTerm (termsOf x) (x .s) ≡ true
-        → PartSet m (x .last) (columnTerms (x .n) k (value (x .values) (x .s)) (x .entryRows) (x .scratch) z) z z′ → ProductAdded x m z z′
+        → PartSet m (x .last) (columnTerms (x .n) k (value (x .values) (x .s)) (x .resultRows) (x .scratch) z) z z′ → ProductAdded x m z z′
     product-added {z} h A = record {
       from = F .from;
       upto = F .upto;
@@ -92,14 +92,14 @@ module _ {x : SumColumn} {size : ℕ} (R : AddStoredInput x size) where
       after = A .after;
     }
 
-    pub product-input : m < x .last → keptTerm (termsOf x) (x .s) ≡ true → AddColumnInput (x .n) k m (x .last) (x .entryRows) (x .scratch) size
+    pub product-input : m < x .last → keptTerm (termsOf x) (x .s) ≡ true → AddColumnInput (x .n) k m (x .last) (x .resultRows) (x .scratch) size
     product-input h c = R .column m (F .from) h (F .stops h) c
 
 -- ---- all stored entries
 
 -- the stored entry at p, and the sums from q on
 abbrev pub columnAtEntry : SumColumn → ℕ → ℕ → SumColumn
-columnAtEntry x p q = sumColumn (x .n) (x .j) q (x .last) p (p + 1) (x .rows) (x .values) (x .entryRows) (x .scratch)
+columnAtEntry x p q = sumColumn (x .n) (x .j) q (x .last) p (p + 1) (x .rows) (x .values) (x .resultRows) (x .scratch)
 
 module _ {x : SumColumn} {size : ℕ} (R : SumsInput x size) where
   pub stored-input : (p q : ℕ) → x .s ≤ p → p < x .e → x .first ≤ q → q ≤ x .last → AddStoredInput (columnAtEntry x p q) size
@@ -129,7 +129,7 @@ module _ {x : SumColumn} {size : ℕ} (R : SumsInput x size) where
 
       up : (m : ℕ) → x .first ≤ m → row (x .rows) p ≤ sumRow x m → (i : ℕ) → m ≤ i → i < x .last → row (x .rows) p ≤ sumRow x i
       up m a h i c d =
-          omega (arith, h, later-row (x .entryRows) (x .first) (x .last) (R .storing .ascends) m i a c d)
+          omega (arith, h, later-row (x .resultRows) (x .first) (x .last) (R .storing .ascends) m i a c d)
 
   -- before the first
   pub products-none : (z : List Float) → ((q : ℕ) → x .first ≤ q → q < x .last → getD z q nan ≡ f0) → ProductsAdded x (x .s) z z

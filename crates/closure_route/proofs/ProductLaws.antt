@@ -26,16 +26,16 @@ product-more {from} {q} position l {z₀} {z} {r} D lo fits e behind =
     (D .after r behind ∙ ap (λ (x : ℕ). getD z₀ x nan) e))
 
 -- the words of the rows, from the base of column k
-module _ {n k from last : ℕ} {entryRows scratch : List ℕ} {size : ℕ} (R : AddColumnInput n k from last entryRows scratch size)
+module _ {n k from last : ℕ} {resultRows scratch : List ℕ} {size : ℕ} (R : AddColumnInput n k from last resultRows scratch size)
     (base : ℕ) (based : base + k ≡ queueStart n + colStart n k) where
   module _ (q : ℕ) (lo : from ≤ q) (hi : q < last) where
-    word-is : base + row entryRows q ≡ positionWord n (row entryRows q) k
-    word-is = word-right n base (row entryRows q) k based (R .below q lo hi)
+    word-is : base + row resultRows q ≡ positionWord n (row resultRows q) k
+    word-is = word-right n base (row resultRows q) k based (R .below q lo hi)
 
-    word-holds : rowPositions base entryRows scratch q ≡ positionAt n scratch (row entryRows q) k
+    word-holds : rowPositions base resultRows scratch q ≡ positionAt n scratch (row resultRows q) k
     word-holds = ap (λ (x : ℕ). getD scratch x 0) word-is
 
-    word-room : AddAtInput q (base + row entryRows q) scratch size
+    word-room : AddAtInput q (base + row resultRows q) scratch size
     word-room = record {
       fits = omega (arith, R .fits);
       inside = omega (arith, word-is, word-inside (R .reads q lo hi .pair));
@@ -43,7 +43,7 @@ module _ {n k from last : ℕ} {entryRows scratch : List ℕ} {size : ℕ} (R : 
     }
 
   -- the products by words
-  pub column-rows : AddRowsInput base from last entryRows scratch size
+  pub column-rows : AddRowsInput base from last resultRows scratch size
   column-rows = record {
     ordered = omega (arith, R .some);
     listed = R .listed;
@@ -51,12 +51,12 @@ module _ {n k from last : ℕ} {entryRows scratch : List ℕ} {size : ℕ} (R : 
     behind = λ q lo hi. omega (arith, word-holds q lo hi, R .behind q lo hi);
   }
 
-  pub rows-column : (l : Float) {z₀ z : List Float} → PartSet from last (rowTerms base l entryRows scratch z₀) z₀ z
-      → PartSet from last (columnTerms n k l entryRows scratch z₀) z₀ z
+  pub rows-column : (l : Float) {z₀ z : List Float} → PartSet from last (rowTerms base l resultRows scratch z₀) z₀ z
+      → PartSet from last (columnTerms n k l resultRows scratch z₀) z₀ z
   rows-column l {z₀} D = part-same D (λ p lo hi. ap (withTerm z₀ p l) (word-holds p lo hi))
 
   -- the positions rise
-  pub column-rises : IsRunInput base from last entryRows scratch
+  pub column-rises : IsRunInput base from last resultRows scratch
   column-rises = record {
     some = R .some;
     listed = R .listed;
@@ -65,7 +65,7 @@ module _ {n k from last : ℕ} {entryRows scratch : List ℕ} {size : ℕ} (R : 
   }
 
   -- the products of a run, whose first position is a
-  module _ (F : Follows (rowPositions base entryRows scratch) from last) (a : ℕ) (first : a ≡ rowPositions base entryRows scratch from) where
+  module _ (F : Follows (rowPositions base resultRows scratch) from last) (a : ℕ) (first : a ≡ rowPositions base resultRows scratch from) where
     pub column-run : AddRunInput from last a size
     column-run =
         let s = R .some in
@@ -76,5 +76,5 @@ module _ {n k from last : ℕ} {entryRows scratch : List ℕ} {size : ℕ} (R : 
         }
 
     pub run-column : (l : Float) {z₀ z : List Float} → PartSet from last (runTerms from a l z₀) z₀ z
-        → PartSet from last (columnTerms n k l entryRows scratch z₀) z₀ z
+        → PartSet from last (columnTerms n k l resultRows scratch z₀) z₀ z
     run-column l {z₀} D = rows-column l (part-same D (λ p lo hi. ap (withTerm z₀ p l) (omega (arith, F p lo hi))))

@@ -75,9 +75,9 @@ unread {x} R z₀ z p q lo hi a b after =
 
 -- the sums from a place on
 abbrev pub columnFrom : SumColumn → ℕ → SumColumn
-columnFrom x from = sumColumn (x .n) (x .j) from (x .last) (x .s) (x .e) (x .rows) (x .values) (x .entryRows) (x .scratch)
+columnFrom x from = sumColumn (x .n) (x .j) from (x .last) (x .s) (x .e) (x .rows) (x .values) (x .resultRows) (x .scratch)
 
-module _ (x : SumColumn) {from : ℕ} (F : FirstFrom (x .j + 1) (x .entryRows) (x .first) (x .last) from) where
+module _ (x : SumColumn) {from : ℕ} (F : FirstFrom (x .j + 1) (x .resultRows) (x .first) (x .last) from) where
   within : (q : ℕ) → SumAt (columnFrom x from) q → SumAt x q
   within q a = (omega (arith, F .from, a .0), a .1, a .2)
 
@@ -96,7 +96,7 @@ module _ (x : SumColumn) {from : ℕ} (F : FirstFrom (x .j + 1) (x .entryRows) (
       rises = λ q q′ p a. R .rises q q′ p (within q a);
       follows = λ q p p′ a. R .follows q p p′ (within q a);
     };
-    below = λ q lo hi. omega (arith, F .stops h, later-row (x .entryRows) (x .first) (x .last) (R .ascends) from q (F .from) lo hi);
+    below = λ q lo hi. omega (arith, F .stops h, later-row (x .resultRows) (x .first) (x .last) (R .ascends) from q (F .from) lo hi);
   }
 
   pub from-stored : {z₀ z : List Float} → SumsStored (columnFrom x from) z₀ z → SumsStored x z₀ z

@@ -52,7 +52,7 @@ module _ (x : SumColumn) {m : ℕ} (F : FirstFrom (sumRow x (x .first) + 1) (x .
 
 -- the sum at q, and the stored entries from p on
 abbrev pub columnAtSum : SumColumn → ℕ → ℕ → SumColumn
-columnAtSum x p q = sumColumn (x .n) (x .j) q (q + 1) p (x .e) (x .rows) (x .values) (x .entryRows) (x .scratch)
+columnAtSum x p q = sumColumn (x .n) (x .j) q (q + 1) p (x .e) (x .rows) (x .values) (x .resultRows) (x .scratch)
 
 module _ {x : SumColumn} {zeros : Bool} {size : ℕ} (R : AddRestsInput x zeros size) where
   pub rest-input : (p q : ℕ) → x .s ≤ p → p ≤ x .e → x .first ≤ q → q < x .last → AddRestInput (columnAtSum x p q) zeros size
@@ -150,7 +150,7 @@ module _ {x : SumColumn} {size : ℕ} (R : SumsInput x size) where
             | no l ↦
                 (let k = sumRow x (x .first) in
                 let least = leb-false (k + 1) (row (x .rows) f) (anyIn-below (outsideAt (k + 1) (x .rows)) (x .s) (x .e) f h (F .from) (omega arith)) in
-                let up = later-row (x .entryRows) (x .first) (x .last) (R .storing .ascends) (x .first) i (omega arith) lo hi in
+                let up = later-row (x .resultRows) (x .first) (x .last) (R .storing .ascends) (x .first) i (omega arith) lo hi in
                 absurd (omega (arith, F .stops (omega arith))))
           ]
 

@@ -29,7 +29,7 @@ pub record SumColumn : Type 0 where
   pub e : ℕ
   pub rows : List ℕ
   pub values : List Float
-  pub entryRows : List ℕ
+  pub resultRows : List ℕ
   pub scratch : List ℕ
 
 -- each from a function's parameters in their order
@@ -37,7 +37,7 @@ abbrev pub sumTerms : ℕ → ℕ → ℕ → ℕ → List ℕ → List Float �
 sumTerms n j s e rows values scratch = record { n = n; j = j; s = s; e = e; rows = rows; values = values; scratch = scratch }
 
 abbrev pub sumColumn : ℕ → ℕ → ℕ → ℕ → ℕ → ℕ → List ℕ → List Float → List ℕ → List ℕ → SumColumn
-sumColumn n j first last s e rows values entryRows scratch = record {
+sumColumn n j first last s e rows values resultRows scratch = record {
   n = n;
   j = j;
   first = first;
@@ -46,7 +46,7 @@ sumColumn n j first last s e rows values entryRows scratch = record {
   e = e;
   rows = rows;
   values = values;
-  entryRows = entryRows;
+  resultRows = resultRows;
   scratch = scratch;
 }
 
@@ -72,7 +72,7 @@ termPosition t i p = positionAt (t .n) (t .scratch) i (row (t .rows) p)
 
 -- the row of the sum at q
 abbrev pub sumRow : SumColumn → ℕ → ℕ
-sumRow x q = row (x .entryRows) q
+sumRow x q = row (x .resultRows) q
 
 -- q is the place of a sum whose row is below j
 abbrev pub SumAt : SumColumn → ℕ → Type 0

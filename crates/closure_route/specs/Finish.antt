@@ -22,7 +22,7 @@ putIf true z q x = set z q x
 putIf false z q x = z
 
 -- the diagonal's entry can be made at q, where q's row is j
-pub record StoreDiagonalInput (t : SumTerms) (q : ℕ) (entryRows : List ℕ) (size : ℕ) : Type 0 where
-  pub listed : q < length entryRows
+pub record StoreDiagonalInput (t : SumTerms) (q : ℕ) (resultRows : List ℕ) (size : ℕ) : Type 0 where
+  pub listed : q < length resultRows
   pub fits : q < size
-  pub sum : row entryRows q ≡ t .j → SumInput t (t .j) size
+  pub sum : row resultRows q ≡ t .j → SumInput t (t .j) size

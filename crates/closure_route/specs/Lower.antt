@@ -19,11 +19,11 @@ pub record AddStoredInput (x : SumColumn) (size : ℕ) : Type 0 where
   pub stored : x .s < length (x .rows)
   pub weighed : x .s < length (x .values)
   pub ordered : x .first ≤ x .last
-  pub listed : x .last ≤ length (x .entryRows)
+  pub listed : x .last ≤ length (x .resultRows)
   pub below : (i : ℕ) → x .first ≤ i → i < x .last → x .j < sumRow x i
-  pub ascends : Ascends (x .entryRows) (x .first) (x .last)
+  pub ascends : Ascends (x .resultRows) (x .first) (x .last)
   pub column : (from : ℕ) → x .first ≤ from → from < x .last → row (x .rows) (x .s) ≤ sumRow x from → keptTerm (termsOf x) (x .s) ≡ true
-      → AddColumnInput (x .n) (row (x .rows) (x .s)) from (x .last) (x .entryRows) (x .scratch) size
+      → AddColumnInput (x .n) (row (x .rows) (x .s)) from (x .last) (x .resultRows) (x .scratch) size
 
 -- the sums from m on, whose rows are not less than that of the stored entry at s, have its product; all others are as they were
 pub record ProductAdded (x : SumColumn) (m : ℕ) (z z′ : List Float) : Type 0 where

@@ -18,7 +18,7 @@ use Rattle.columns.specs.Kept.{nonzero, pattern}
 use Rattle.columns.specs.Factor.{Factor}
 use Rattle.entries.specs.Entries.{columnCount, position, entryStarts, entryRows, entryStarts-length, entryRows-length}
 use Rattle.entries.specs.Position.{Positioned, entryRows-at, position-below, columnCount-cong, position-cong}
-use Rattle.layout.specs.Layout.{LayOut, LaidOut, marks-same}
+use Rattle.layout.specs.Layout.{LayOutInput, LaidOut, marks-same}
 
 -- a factor, the starts and rows of the result, and the scratch with the marks of a set and its members' positions
 pub record RouteLists : Type 0 where
@@ -26,19 +26,19 @@ pub record RouteLists : Type 0 where
   pub starts : List ℕ
   pub rows : List ℕ
   pub values : List Float
-  pub entryStarts : List ℕ
-  pub entryRows : List ℕ
+  pub resultStarts : List ℕ
+  pub resultRows : List ℕ
   pub scratch : List ℕ
 
 -- from a function's parameters in their order
 abbrev pub routeLists : ℕ → List ℕ → List ℕ → List Float → List ℕ → List ℕ → List ℕ → RouteLists
-routeLists n starts rows values entryStarts entryRows scratch = record {
+routeLists n starts rows values resultStarts resultRows scratch = record {
   n = n;
   starts = starts;
   rows = rows;
   values = values;
-  entryStarts = entryStarts;
-  entryRows = entryRows;
+  resultStarts = resultStarts;
+  resultRows = resultRows;
   scratch = scratch;
 }
 
@@ -53,10 +53,10 @@ pub record ClosureRouteInput (g : RouteLists) (size : ℕ) : Type 0 where
   pub closed : Closed (g .n) (pattern (g .starts) (g .rows) (nonzero (g .values))) (routeSet g)
   pub room : queueStart (g .n) + pairTotal (g .n) ≤ length (g .scratch)
   pub positions : Positioned (g .n) (routeSet g) (g .scratch)
-  pub starts-fit : g .n + 1 ≤ length (g .entryStarts)
-  pub starts-are : (c : ℕ) → c ≤ g .n → getD (g .entryStarts) c 0 ≡ columnCount (g .n) (routeSet g) c
-  pub rows-fit : setSize (g .n) (routeSet g) ≤ length (g .entryRows)
-  pub rows-are : (r c : ℕ) → c ≤ r → r < g .n → routeSet g r c ≡ true → getD (g .entryRows) (position (g .n) (routeSet g) r c) 0 ≡ r
+  pub starts-fit : g .n + 1 ≤ length (g .resultStarts)
+  pub starts-are : (c : ℕ) → c ≤ g .n → getD (g .resultStarts) c 0 ≡ columnCount (g .n) (routeSet g) c
+  pub rows-fit : setSize (g .n) (routeSet g) ≤ length (g .resultRows)
+  pub rows-are : (r c : ℕ) → c ≤ r → r < g .n → routeSet g r c ≡ true → getD (g .resultRows) (position (g .n) (routeSet g) r c) 0 ≡ r
   pub values-fit : setSize (g .n) (routeSet g) ≤ size
 
 -- the entries of the columns from m on are those of the table
@@ -78,7 +78,7 @@ pub record ColumnInput (g : RouteLists) (j : ℕ) (Z : ℕ → ℕ → Float) (z
 -- ---- what the layout leaves is what the route asks
 
 module _ {n : ℕ} {firsts₀ listed₀ scratch₀ firsts listed scratch : List ℕ} {count : ℕ}
-    (M : LayOut n firsts₀ listed₀ scratch₀) (L : LaidOut n firsts₀ listed₀ scratch₀ firsts listed scratch count) where
+    (M : LayOutInput n firsts₀ listed₀ scratch₀) (L : LaidOut n firsts₀ listed₀ scratch₀ firsts listed scratch count) where
   -- the set is as it was
   pub laid-same : (r c : ℕ) → c ≤ r → r < n → columnMarking n scratch r c ≡ columnMarking n scratch₀ r c
   laid-same = marks-same n scratch scratch₀ (L .marks)

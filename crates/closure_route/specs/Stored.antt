@@ -17,9 +17,9 @@ pub record StoreSumsInput (x : SumColumn) (size : ℕ) : Type 0 where
   pub inside : x .j < x .n
   pub ordered : x .first ≤ x .last
   pub fits : x .last ≤ size
-  pub listed : x .last ≤ length (x .entryRows)
+  pub listed : x .last ≤ length (x .resultRows)
   pub column : Column (x .rows) (length (x .values)) (x .s) (x .e)
-  pub ascends : Ascends (x .entryRows) (x .first) (x .last)
+  pub ascends : Ascends (x .resultRows) (x .first) (x .last)
   pub sums : (q : ℕ) → SumAt x q → SumInput (termsOf x) (sumRow x q) size
   pub behind : (q p : ℕ) → SumAt x q → TermAt (termsOf x) p → x .last ≤ termPosition (termsOf x) (sumRow x q) p
   pub rises : (q q′ p : ℕ) → SumAt x q → q < q′ → q′ < x .last → TermAt (termsOf x) p → row (x .rows) p ≤ sumRow x q

@@ -34,15 +34,15 @@ sumBetween rows values j r s e = dot floats r (entriesAt rows values (select (ke
 
 -- the sum for row i, from s to below e
 abbrev pub rowSum : SumTerms → List Float → ℕ → ℕ → ℕ → Float
-rowSum t inverse i s e = sumBetween (t .rows) (t .values) (t .j) (inverseAt nan (t .n) (t .scratch) inverse i) s e
+rowSum t resultValues i s e = sumBetween (t .rows) (t .values) (t .j) (inverseAt nan (t .n) (t .scratch) resultValues i) s e
 
 -- over all the terms
 abbrev pub entrySum : SumTerms → List Float → ℕ → Float
-entrySum t inverse i = rowSum t inverse i (t .s) (t .e)
+entrySum t resultValues i = rowSum t resultValues i (t .s) (t .e)
 
 -- x is the sum for row i up to the last term, where `sum` is that up to the first
 abbrev pub SumContinued : SumTerms → List Float → ℕ → Float → Float → Type 0
-SumContinued t inverse i sum x = (s : ℕ) → s ≤ t .s → sum ≡ rowSum t inverse i s (t .s) → x ≡ rowSum t inverse i s (t .e)
+SumContinued t resultValues i sum x = (s : ℕ) → s ≤ t .s → sum ≡ rowSum t resultValues i s (t .s) → x ≡ rowSum t resultValues i s (t .e)
 
 -- a stored entry whose product can be taken
 pub record AddProductInput (n i j p : ℕ) (rows : List ℕ) (values : List Float) (scratch : List ℕ) (size : ℕ) : Type 0 where

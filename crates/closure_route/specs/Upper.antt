@@ -19,7 +19,7 @@ use Rattle.closure_route.specs.Stored.{SumsInput}
 pub record AddRestInput (x : SumColumn) (zeros : Bool) (size : ℕ) : Type 0 where
   pub small : x .n ≤ maxDimension
   pub inside : sumRow x (x .first) < x .n
-  pub listed : x .first < length (x .entryRows)
+  pub listed : x .first < length (x .resultRows)
   pub fits : x .first < size
   pub ordered : x .s ≤ x .e
   pub stored : x .e ≤ length (x .rows)

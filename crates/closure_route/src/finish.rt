@@ -28,12 +28,19 @@ fn divide_column(part: &mut [f64], rows: &[u32], j: usize, d: f64)
     }
 }
 
-// Lends column j's own part of the inverse, from first to last, to the division.
-pub fn divide_part(inverse: &mut [f64], rows: &[u32], first: usize, last: usize, j: usize, d: f64)
-    requires { ⌜ (first ≤ last) × (last ≤ length (now inverse)) × (last ≤ length (now rows)) × (j < maxDimension) ⌝ }
-    ensures { λ _. ⌜ SumsFinished j (float-off d) (now (rows .entry)) first last (now (inverse .entry)) (now (inverse .exit)) ⌝ }
+// Lends column j's own part of the values, from first to last, to the division.
+pub fn divide_part(
+    result_values: &mut [f64],
+    rows: &[u32],
+    first: usize,
+    last: usize,
+    j: usize,
+    d: f64,
+)
+    requires { ⌜ (first ≤ last) × (last ≤ length (now «result_values»)) × (last ≤ length (now rows)) × (j < maxDimension) ⌝ }
+    ensures { λ _. ⌜ SumsFinished j (float-off d) (now (rows .entry)) first last (now («result_values» .entry)) (now («result_values» .exit)) ⌝ }
 {
-    divide_column(&mut inverse[first..last], &rows[first..last], j, d);
+    divide_column(&mut result_values[first..last], &rows[first..last], j, d);
 }
 
 // Stores the diagonal's entry of column j at q, where q's row is j.
@@ -46,17 +53,17 @@ pub fn store_diagonal(
     d: f64,
     rows: &[u32],
     values: &[f64],
-    entry_rows: &[u32],
+    result_rows: &[u32],
     scratch: &[u32],
-    inverse: &mut [f64],
+    result_values: &mut [f64],
 )
-    requires { ⌜ StoreDiagonalInput (sumTerms n j s e (now rows) (now values) (now scratch)) q (now «entry_rows») (length (now inverse)) ⌝ }
-    ensures { λ _. ⌜ now (inverse .exit) ≡ putIf (eqb (row (now («entry_rows» .entry)) q) j) (now (inverse .entry)) q
-        (float-on d (entrySum (sumTerms n j s e (now (rows .entry)) (now (values .entry)) (now (scratch .entry))) (now (inverse .entry)) j)) ⌝ }
+    requires { ⌜ StoreDiagonalInput (sumTerms n j s e (now rows) (now values) (now scratch)) q (now «result_rows») (length (now «result_values»)) ⌝ }
+    ensures { λ _. ⌜ now («result_values» .exit) ≡ putIf (eqb (row (now («result_rows» .entry)) q) j) (now («result_values» .entry)) q
+        (float-on d (entrySum (sumTerms n j s e (now (rows .entry)) (now (values .entry)) (now (scratch .entry))) (now («result_values» .entry)) j)) ⌝ }
 {
-    if at(entry_rows, q) != j {
+    if at(result_rows, q) != j {
         return;
     }
-    let sum = entry_sum(n, j, j, s, e, rows, values, scratch, inverse);
-    inverse[q] = entry_on_diagonal(d, sum);
+    let sum = entry_sum(n, j, j, s, e, rows, values, scratch, result_values);
+    result_values[q] = entry_on_diagonal(d, sum);
 }

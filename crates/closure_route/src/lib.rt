@@ -28,19 +28,19 @@ fn takahashi_column(
     starts: &[u32],
     rows: &[u32],
     values: &[f64],
-    entry_starts: &[u32],
-    entry_rows: &[u32],
-    entry_values: &mut [f64],
+    result_starts: &[u32],
+    result_rows: &[u32],
+    result_values: &mut [f64],
     scratch: &[u32],
 )
-    requires { ⌜ ColumnInput (routeLists n (now starts) (now rows) (now values) (now «entry_starts») (now «entry_rows») (now scratch)) j
-        (floatTable n (now starts) (now rows) (now values)) (now «entry_values») ⌝ }
+    requires { ⌜ ColumnInput (routeLists n (now starts) (now rows) (now values) (now «result_starts») (now «result_rows») (now scratch)) j
+        (floatTable n (now starts) (now rows) (now values)) (now «result_values») ⌝ }
     requires { ⌜ Diagonals n (now starts) (now rows) (now values) ⌝ }
     ensures { λ _. ⌜ ColumnsSolved n (columnMarking n (now (scratch .entry))) (floatTable n (now (starts .entry)) (now (rows .entry)) (now (values .entry))) j
-        (now («entry_values» .entry)) (now («entry_values» .exit)) ⌝ }
+        (now («result_values» .entry)) (now («result_values» .exit)) ⌝ }
 {
-    let first = at(entry_starts, j);
-    let last = at(entry_starts, j + 1);
+    let first = at(result_starts, j);
+    let last = at(result_starts, j + 1);
     if first == last {
         return;
     }
@@ -56,11 +56,11 @@ fn takahashi_column(
         e,
         rows,
         values,
-        entry_rows,
+        result_rows,
         scratch,
-        entry_values,
+        result_values,
     );
-    divide_part(entry_values, entry_rows, first, last, j, d);
+    divide_part(result_values, result_rows, first, last, j, d);
     store_diagonal(
         n,
         j,
@@ -70,9 +70,9 @@ fn takahashi_column(
         d,
         rows,
         values,
-        entry_rows,
+        result_rows,
         scratch,
-        entry_values,
+        result_values,
     );
 }
 
@@ -82,16 +82,16 @@ pub fn takahashi_selected_inverse_on_closure(
     starts: &[u32],
     rows: &[u32],
     values: &[f64],
-    entry_starts: &[u32],
-    entry_rows: &[u32],
-    entry_values: &mut [f64],
+    result_starts: &[u32],
+    result_rows: &[u32],
+    result_values: &mut [f64],
     scratch: &[u32],
 )
-    requires { ⌜ ClosureRouteInput (routeLists n (now starts) (now rows) (now values) (now «entry_starts») (now «entry_rows») (now scratch))
-        (length (now «entry_values»)) ⌝ }
+    requires { ⌜ ClosureRouteInput (routeLists n (now starts) (now rows) (now values) (now «result_starts») (now «result_rows») (now scratch))
+        (length (now «result_values»)) ⌝ }
     requires { ⌜ Diagonals n (now starts) (now rows) (now values) ⌝ }
-    ensures { λ _. ⌜ now («entry_values» .exit) ≡ overwrite (entryValues n (columnMarking n (now (scratch .entry)))
-        (floatTable n (now (starts .entry)) (now (rows .entry)) (now (values .entry)))) (now («entry_values» .entry)) ⌝ }
+    ensures { λ _. ⌜ now («result_values» .exit) ≡ overwrite (entryValues n (columnMarking n (now (scratch .entry)))
+        (floatTable n (now (starts .entry)) (now (rows .entry)) (now (values .entry)))) (now («result_values» .entry)) ⌝ }
 {
     let mut j = n;
     while 0 < j {
@@ -102,9 +102,9 @@ pub fn takahashi_selected_inverse_on_closure(
             starts,
             rows,
             values,
-            entry_starts,
-            entry_rows,
-            entry_values,
+            result_starts,
+            result_rows,
+            result_values,
             scratch,
         );
     }

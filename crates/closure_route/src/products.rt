@@ -8,27 +8,27 @@ use pair_places::positions::column_base;
 use words::at;
 
 // Adds to each entry from `from` to last the product of l and an entry, the first at the position, each next one place further.
-fn add_run(from: usize, last: usize, position: usize, l: f64, inverse: &mut [f64])
-    requires { ⌜ AddRunInput from last position (length (now inverse)) ⌝ }
-    ensures { λ _. ⌜ PartSet from last (runTerms from position l (now (inverse .entry))) (now (inverse .entry)) (now (inverse .exit)) ⌝ }
+fn add_run(from: usize, last: usize, position: usize, l: f64, result_values: &mut [f64])
+    requires { ⌜ AddRunInput from last position (length (now «result_values»)) ⌝ }
+    ensures { λ _. ⌜ PartSet from last (runTerms from position l (now («result_values» .entry))) (now («result_values» .entry)) (now («result_values» .exit)) ⌝ }
 {
     let mut q = from;
     let mut r = position;
     while q < last {
-        inverse[q] = inverse[q] + l * inverse[r];
+        result_values[q] = result_values[q] + l * result_values[r];
         q += 1;
         r += 1;
     }
 }
 
 // Adds to the entry at q the product of l and the entry whose position is the word.
-fn add_at(q: usize, word: usize, l: f64, scratch: &[u32], inverse: &mut [f64])
-    requires { ⌜ AddAtInput q word (now scratch) (length (now inverse)) ⌝ }
-    ensures { λ _. ⌜ now (inverse .exit) ≡ set (now (inverse .entry)) q (withTerm (now (inverse .entry)) q l (getD (now (scratch .entry)) word 0)) ⌝ }
+fn add_at(q: usize, word: usize, l: f64, scratch: &[u32], result_values: &mut [f64])
+    requires { ⌜ AddAtInput q word (now scratch) (length (now «result_values»)) ⌝ }
+    ensures { λ _. ⌜ now («result_values» .exit) ≡ set (now («result_values» .entry)) q (withTerm (now («result_values» .entry)) q l (getD (now (scratch .entry)) word 0)) ⌝ }
 {
     let position = at(scratch, word);
-    let z = inverse[position];
-    inverse[q] = inverse[q] + l * z;
+    let z = result_values[position];
+    result_values[q] = result_values[q] + l * z;
 }
 
 // Adds to each entry from `from` to last the product of l and the entry whose position is in the word `base` past its row.
@@ -37,17 +37,17 @@ fn add_rows(
     from: usize,
     last: usize,
     l: f64,
-    entry_rows: &[u32],
+    result_rows: &[u32],
     scratch: &[u32],
-    inverse: &mut [f64],
+    result_values: &mut [f64],
 )
-    requires { ⌜ AddRowsInput base from last (now «entry_rows») (now scratch) (length (now inverse)) ⌝ }
-    ensures { λ _. ⌜ PartSet from last (rowTerms base l (now («entry_rows» .entry)) (now (scratch .entry)) (now (inverse .entry)))
-        (now (inverse .entry)) (now (inverse .exit)) ⌝ }
+    requires { ⌜ AddRowsInput base from last (now «result_rows») (now scratch) (length (now «result_values»)) ⌝ }
+    ensures { λ _. ⌜ PartSet from last (rowTerms base l (now («result_rows» .entry)) (now (scratch .entry)) (now («result_values» .entry)))
+        (now («result_values» .entry)) (now («result_values» .exit)) ⌝ }
 {
     let mut q = from;
     while q < last {
-        add_at(q, base + at(entry_rows, q), l, scratch, inverse);
+        add_at(q, base + at(result_rows, q), l, scratch, result_values);
         q += 1;
     }
 }
@@ -63,23 +63,23 @@ pub fn add_column(
     l: f64,
     from: usize,
     last: usize,
-    entry_rows: &[u32],
+    result_rows: &[u32],
     scratch: &[u32],
-    inverse: &mut [f64],
+    result_values: &mut [f64],
 )
-    requires { ⌜ AddColumnInput n k from last (now «entry_rows») (now scratch) (length (now inverse)) ⌝ }
-    ensures { λ _. ⌜ PartSet from last (columnTerms n k l (now («entry_rows» .entry)) (now (scratch .entry)) (now (inverse .entry)))
-        (now (inverse .entry)) (now (inverse .exit)) ⌝ }
+    requires { ⌜ AddColumnInput n k from last (now «result_rows») (now scratch) (length (now «result_values»)) ⌝ }
+    ensures { λ _. ⌜ PartSet from last (columnTerms n k l (now («result_rows» .entry)) (now (scratch .entry)) (now («result_values» .entry)))
+        (now («result_values» .entry)) (now («result_values» .exit)) ⌝ }
 {
     let base = column_base(n, k);
     if last - from < SHORT {
-        add_rows(base, from, last, l, entry_rows, scratch, inverse);
+        add_rows(base, from, last, l, result_rows, scratch, result_values);
         return;
     }
-    if is_run(base, from, last, entry_rows, scratch) {
-        let position = at(scratch, base + at(entry_rows, from));
-        add_run(from, last, position, l, inverse);
+    if is_run(base, from, last, result_rows, scratch) {
+        let position = at(scratch, base + at(result_rows, from));
+        add_run(from, last, position, l, result_values);
     } else {
-        add_rows(base, from, last, l, entry_rows, scratch, inverse);
+        add_rows(base, from, last, l, result_rows, scratch, result_values);
     }
 }

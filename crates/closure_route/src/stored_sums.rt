@@ -18,13 +18,13 @@ use kept_entries::diagonal::first_from;
 use words::at;
 
 // Sets the entries from first to last to 0.0.
-fn clear_part(first: usize, last: usize, inverse: &mut [f64])
-    requires { ⌜ (first ≤ last) × (last ≤ length (now inverse)) ⌝ }
-    ensures { λ _. ⌜ PartSet first last zeros (now (inverse .entry)) (now (inverse .exit)) ⌝ }
+fn clear_part(first: usize, last: usize, result_values: &mut [f64])
+    requires { ⌜ (first ≤ last) × (last ≤ length (now «result_values»)) ⌝ }
+    ensures { λ _. ⌜ PartSet first last zeros (now («result_values» .entry)) (now («result_values» .exit)) ⌝ }
 {
     let mut q = first;
     while q < last {
-        inverse[q] = 0.0;
+        result_values[q] = 0.0;
         q += 1;
     }
 }
@@ -39,25 +39,25 @@ fn add_stored(
     last: usize,
     rows: &[u32],
     values: &[f64],
-    entry_rows: &[u32],
+    result_rows: &[u32],
     scratch: &[u32],
-    inverse: &mut [f64],
+    result_values: &mut [f64],
 ) -> usize
-    requires { ⌜ AddStoredInput (sumColumn n j q last p (p + 1) (now rows) (now values) (now «entry_rows») (now scratch)) (length (now inverse)) ⌝ }
-    ensures { λ m. ⌜ ProductAdded (sumColumn n j q last p (p + 1) (now (rows .entry)) (now (values .entry)) (now («entry_rows» .entry)) (now (scratch .entry)))
-        m (now (inverse .entry)) (now (inverse .exit)) ⌝ }
+    requires { ⌜ AddStoredInput (sumColumn n j q last p (p + 1) (now rows) (now values) (now «result_rows») (now scratch)) (length (now «result_values»)) ⌝ }
+    ensures { λ m. ⌜ ProductAdded (sumColumn n j q last p (p + 1) (now (rows .entry)) (now (values .entry)) (now («result_rows» .entry)) (now (scratch .entry)))
+        m (now («result_values» .entry)) (now («result_values» .exit)) ⌝ }
 {
     let k = at(rows, p);
     if k <= j {
         return q;
     }
-    let from = first_from(k, entry_rows, q, last);
+    let from = first_from(k, result_rows, q, last);
     let l = values[p];
     if l == 0.0 {
         return from;
     }
     if from < last {
-        add_column(n, k, l, from, last, entry_rows, scratch, inverse);
+        add_column(n, k, l, from, last, result_rows, scratch, result_values);
     }
     from
 }
@@ -72,18 +72,29 @@ fn add_products(
     e: usize,
     rows: &[u32],
     values: &[f64],
-    entry_rows: &[u32],
+    result_rows: &[u32],
     scratch: &[u32],
-    inverse: &mut [f64],
+    result_values: &mut [f64],
 )
-    requires { ⌜ AddProductsInput (sumColumn n j first last s e (now rows) (now values) (now «entry_rows») (now scratch)) (now inverse) ⌝ }
-    ensures { λ _. ⌜ ProductsAdded (sumColumn n j first last s e (now (rows .entry)) (now (values .entry)) (now («entry_rows» .entry)) (now (scratch .entry)))
-        e (now (inverse .entry)) (now (inverse .exit)) ⌝ }
+    requires { ⌜ AddProductsInput (sumColumn n j first last s e (now rows) (now values) (now «result_rows») (now scratch)) (now «result_values») ⌝ }
+    ensures { λ _. ⌜ ProductsAdded (sumColumn n j first last s e (now (rows .entry)) (now (values .entry)) (now («result_rows» .entry)) (now (scratch .entry)))
+        e (now («result_values» .entry)) (now («result_values» .exit)) ⌝ }
 {
     let mut q = first;
     let mut p = s;
     while p < e {
-        q = add_stored(n, j, p, q, last, rows, values, entry_rows, scratch, inverse);
+        q = add_stored(
+            n,
+            j,
+            p,
+            q,
+            last,
+            rows,
+            values,
+            result_rows,
+            scratch,
+            result_values,
+        );
         p += 1;
     }
 }
@@ -98,18 +109,18 @@ fn add_rest(
     zeros: bool,
     rows: &[u32],
     values: &[f64],
-    entry_rows: &[u32],
+    result_rows: &[u32],
     scratch: &[u32],
-    inverse: &mut [f64],
+    result_values: &mut [f64],
 ) -> usize
-    requires { ⌜ AddRestInput (sumColumn n j q (q + 1) p e (now rows) (now values) (now «entry_rows») (now scratch)) zeros (length (now inverse)) ⌝ }
-    ensures { λ m. ⌜ RestAdded (sumColumn n j q (q + 1) p e (now (rows .entry)) (now (values .entry)) (now («entry_rows» .entry)) (now (scratch .entry)))
-        m (now (inverse .entry)) (now (inverse .exit)) ⌝ }
+    requires { ⌜ AddRestInput (sumColumn n j q (q + 1) p e (now rows) (now values) (now «result_rows») (now scratch)) zeros (length (now «result_values»)) ⌝ }
+    ensures { λ m. ⌜ RestAdded (sumColumn n j q (q + 1) p e (now (rows .entry)) (now (values .entry)) (now («result_rows» .entry)) (now (scratch .entry)))
+        m (now («result_values» .entry)) (now («result_values» .exit)) ⌝ }
 {
-    let i = at(entry_rows, q);
+    let i = at(result_rows, q);
     let from = first_from(i + 1, rows, p, e);
     if from < e {
-        let start = inverse[q];
+        let start = result_values[q];
         let sum = sum_rest(
             n,
             i,
@@ -121,9 +132,9 @@ fn add_rest(
             rows,
             values,
             scratch,
-            inverse,
+            result_values,
         );
-        inverse[q] = sum;
+        result_values[q] = sum;
     }
     from
 }
@@ -139,13 +150,13 @@ fn add_rests(
     zeros: bool,
     rows: &[u32],
     values: &[f64],
-    entry_rows: &[u32],
+    result_rows: &[u32],
     scratch: &[u32],
-    inverse: &mut [f64],
+    result_values: &mut [f64],
 )
-    requires { ⌜ AddRestsInput (sumColumn n j first last s e (now rows) (now values) (now «entry_rows») (now scratch)) zeros (length (now inverse)) ⌝ }
-    ensures { λ _. ⌜ RestsAdded (sumColumn n j first last s e (now (rows .entry)) (now (values .entry)) (now («entry_rows» .entry)) (now (scratch .entry)))
-        last (now (inverse .entry)) (now (inverse .exit)) ⌝ }
+    requires { ⌜ AddRestsInput (sumColumn n j first last s e (now rows) (now values) (now «result_rows») (now scratch)) zeros (length (now «result_values»)) ⌝ }
+    ensures { λ _. ⌜ RestsAdded (sumColumn n j first last s e (now (rows .entry)) (now (values .entry)) (now («result_rows» .entry)) (now (scratch .entry)))
+        last (now («result_values» .entry)) (now («result_values» .exit)) ⌝ }
 {
     let mut p = s;
     let mut q = first;
@@ -159,9 +170,9 @@ fn add_rests(
             zeros,
             rows,
             values,
-            entry_rows,
+            result_rows,
             scratch,
-            inverse,
+            result_values,
         );
         q += 1;
     }
@@ -188,17 +199,17 @@ pub fn store_sums(
     e: usize,
     rows: &[u32],
     values: &[f64],
-    entry_rows: &[u32],
+    result_rows: &[u32],
     scratch: &[u32],
-    inverse: &mut [f64],
+    result_values: &mut [f64],
 )
-    requires { ⌜ StoreSumsInput (sumColumn n j first last s e (now rows) (now values) (now «entry_rows») (now scratch)) (length (now inverse)) ⌝ }
-    ensures { λ _. ⌜ SumsStored (sumColumn n j first last s e (now (rows .entry)) (now (values .entry)) (now («entry_rows» .entry)) (now (scratch .entry)))
-        (now (inverse .entry)) (now (inverse .exit)) ⌝ }
+    requires { ⌜ StoreSumsInput (sumColumn n j first last s e (now rows) (now values) (now «result_rows») (now scratch)) (length (now «result_values»)) ⌝ }
+    ensures { λ _. ⌜ SumsStored (sumColumn n j first last s e (now (rows .entry)) (now (values .entry)) (now («result_rows» .entry)) (now (scratch .entry)))
+        (now («result_values» .entry)) (now («result_values» .exit)) ⌝ }
 {
-    let from = first_from(j + 1, entry_rows, first, last);
+    let from = first_from(j + 1, result_rows, first, last);
     if from < last {
-        clear_part(from, last, inverse);
+        clear_part(from, last, result_values);
         add_products(
             n,
             j,
@@ -208,11 +219,11 @@ pub fn store_sums(
             e,
             rows,
             values,
-            entry_rows,
+            result_rows,
             scratch,
-            inverse,
+            result_values,
         );
-        if has_greater(at(entry_rows, from), s, e, rows) {
+        if has_greater(at(result_rows, from), s, e, rows) {
             let zeros = has_zero(s, e, values);
             add_rests(
                 n,
@@ -224,9 +235,9 @@ pub fn store_sums(
                 zeros,
                 rows,
                 values,
-                entry_rows,
+                result_rows,
                 scratch,
-                inverse,
+                result_values,
             );
         }
     }

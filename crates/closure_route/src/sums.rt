@@ -31,11 +31,11 @@ fn add_product(
     rows: &[u32],
     values: &[f64],
     scratch: &[u32],
-    inverse: &[f64],
+    result_values: &[f64],
 ) -> f64
     requires { ⌜ (positions ≡ queueStart n) × (base + i ≡ queueStart n + colStart n i) ⌝ }
-    requires { ⌜ AddProductInput n i j p (now rows) (now values) (now scratch) (length (now inverse)) ⌝ }
-    ensures { λ x. ⌜ x ≡ withProduct (now (rows .entry)) (now (values .entry)) j (inverseAt nan n (now (scratch .entry)) (now (inverse .entry)) i) p sum ⌝ }
+    requires { ⌜ AddProductInput n i j p (now rows) (now values) (now scratch) (length (now «result_values»)) ⌝ }
+    ensures { λ x. ⌜ x ≡ withProduct (now (rows .entry)) (now (values .entry)) j (inverseAt nan n (now (scratch .entry)) (now («result_values» .entry)) i) p sum ⌝ }
 {
     let k = at(rows, p);
     if k <= j {
@@ -44,7 +44,7 @@ fn add_product(
     let l = values[p];
     if l != 0.0 {
         let position = pair_position(n, positions, base, i, k, scratch);
-        return sum + l * inverse[position];
+        return sum + l * result_values[position];
     }
     sum
 }
@@ -60,10 +60,10 @@ fn sum_from(
     rows: &[u32],
     values: &[f64],
     scratch: &[u32],
-    inverse: &[f64],
+    result_values: &[f64],
 ) -> f64
-    requires { ⌜ SumInput (sumTerms n j first e (now rows) (now values) (now scratch)) i (length (now inverse)) ⌝ }
-    ensures { λ x. ⌜ SumContinued (sumTerms n j first e (now (rows .entry)) (now (values .entry)) (now (scratch .entry))) (now (inverse .entry)) i start x ⌝ }
+    requires { ⌜ SumInput (sumTerms n j first e (now rows) (now values) (now scratch)) i (length (now «result_values»)) ⌝ }
+    ensures { λ x. ⌜ SumContinued (sumTerms n j first e (now (rows .entry)) (now (values .entry)) (now (scratch .entry))) (now («result_values» .entry)) i start x ⌝ }
 {
     let positions = queue_start(n);
     let base = positions + column_shift(n, i);
@@ -81,7 +81,7 @@ fn sum_from(
             rows,
             values,
             scratch,
-            inverse,
+            result_values,
         );
         p += 1;
     }
@@ -98,12 +98,12 @@ pub fn entry_sum(
     rows: &[u32],
     values: &[f64],
     scratch: &[u32],
-    inverse: &[f64],
+    result_values: &[f64],
 ) -> f64
-    requires { ⌜ SumInput (sumTerms n j s e (now rows) (now values) (now scratch)) i (length (now inverse)) ⌝ }
-    ensures { λ x. ⌜ x ≡ entrySum (sumTerms n j s e (now (rows .entry)) (now (values .entry)) (now (scratch .entry))) (now (inverse .entry)) i ⌝ }
+    requires { ⌜ SumInput (sumTerms n j s e (now rows) (now values) (now scratch)) i (length (now «result_values»)) ⌝ }
+    ensures { λ x. ⌜ x ≡ entrySum (sumTerms n j s e (now (rows .entry)) (now (values .entry)) (now (scratch .entry))) (now («result_values» .entry)) i ⌝ }
 {
-    sum_from(n, i, j, s, e, 0.0, rows, values, scratch, inverse)
+    sum_from(n, i, j, s, e, 0.0, rows, values, scratch, result_values)
 }
 
 // Whether one of the values from s to e is 0.0. The loop has one exit, so that it is compiled to vector instructions.
@@ -129,16 +129,16 @@ fn sum_run(
     position: usize,
     start: f64,
     values: &[f64],
-    inverse: &[f64],
+    result_values: &[f64],
 ) -> f64
-    requires { ⌜ SumRunInput first e position (length (now values)) (length (now inverse)) ⌝ }
-    ensures { λ x. ⌜ ProductsSummed (now (values .entry)) (now (inverse .entry)) first e (runPositions first position) start x ⌝ }
+    requires { ⌜ SumRunInput first e position (length (now values)) (length (now «result_values»)) ⌝ }
+    ensures { λ x. ⌜ ProductsSummed (now (values .entry)) (now («result_values» .entry)) first e (runPositions first position) start x ⌝ }
 {
     let mut sum = start;
     let mut p = first;
     let mut r = position;
     while p < e {
-        sum = sum + values[p] * inverse[r];
+        sum = sum + values[p] * result_values[r];
         p += 1;
         r += 1;
     }
@@ -154,17 +154,17 @@ fn sum_rows(
     rows: &[u32],
     values: &[f64],
     scratch: &[u32],
-    inverse: &[f64],
+    result_values: &[f64],
 ) -> f64
-    requires { ⌜ SumRowsInput base first e (now rows) (length (now values)) (now scratch) (length (now inverse)) ⌝ }
-    ensures { λ x. ⌜ ProductsSummed (now (values .entry)) (now (inverse .entry)) first e
+    requires { ⌜ SumRowsInput base first e (now rows) (length (now values)) (now scratch) (length (now «result_values»)) ⌝ }
+    ensures { λ x. ⌜ ProductsSummed (now (values .entry)) (now («result_values» .entry)) first e
         (rowPositions base (now (rows .entry)) (now (scratch .entry))) start x ⌝ }
 {
     let mut sum = start;
     let mut p = first;
     while p < e {
         let position = at(scratch, base + at(rows, p));
-        sum = sum + values[p] * inverse[position];
+        sum = sum + values[p] * result_values[position];
         p += 1;
     }
     sum
@@ -183,18 +183,29 @@ pub fn sum_rest(
     rows: &[u32],
     values: &[f64],
     scratch: &[u32],
-    inverse: &[f64],
+    result_values: &[f64],
 ) -> f64
-    requires { ⌜ SumRestInput (sumTerms n j first e (now rows) (now values) (now scratch)) i zeros (length (now inverse)) ⌝ }
-    ensures { λ x. ⌜ SumContinued (sumTerms n j first e (now (rows .entry)) (now (values .entry)) (now (scratch .entry))) (now (inverse .entry)) i start x ⌝ }
+    requires { ⌜ SumRestInput (sumTerms n j first e (now rows) (now values) (now scratch)) i zeros (length (now «result_values»)) ⌝ }
+    ensures { λ x. ⌜ SumContinued (sumTerms n j first e (now (rows .entry)) (now (values .entry)) (now (scratch .entry))) (now («result_values» .entry)) i start x ⌝ }
 {
     if !zeros {
         let base = column_base(n, i);
         if is_run(base, first, e, rows, scratch) {
             let position = at(scratch, base + at(rows, first));
-            return sum_run(first, e, position, start, values, inverse);
+            return sum_run(first, e, position, start, values, result_values);
         }
-        return sum_rows(base, first, e, start, rows, values, scratch, inverse);
+        return sum_rows(base, first, e, start, rows, values, scratch, result_values);
     }
-    sum_from(n, i, j, first, e, start, rows, values, scratch, inverse)
+    sum_from(
+        n,
+        i,
+        j,
+        first,
+        e,
+        start,
+        rows,
+        values,
+        scratch,
+        result_values,
+    )
 }

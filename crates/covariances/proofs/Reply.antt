@@ -20,8 +20,8 @@ use Rattle.entries.specs.Entries.{entryValues}
 use Rattle.entries.specs.Position.{Positioned}
 use Rattle.selection.specs.Selection.{Selection, Lent, roomOf, scratchWords, selectedSet, selectedSize, selectedComplete, selectedTable, lists, fillingOf}
 use Rattle.selection.specs.Selection.{ResultLists, complete-values}
-use Rattle.quadratic_form.specs.RowValue.{operatorsValues}
-use Rattle.operator_values.specs.Reading.{OperatorsReading}
+use Rattle.quadratic_form.specs.RowValue.{rowPairValues}
+use Rattle.operator_values.specs.Reading.{RowPairValuesInput}
 use Rattle.operator_values.specs.Filled.{filled-pairs-reading, filled-pairs-values}
 use Rattle.covariances.specs.Covariances.{CovarianceCall, covarianceSelection, covarianceSteps, covarianceValues, AcceptedCovariances}
 
@@ -53,7 +53,7 @@ module _ (x : CovarianceCall) (lent : Lent) (output : List Float) where
     values-are = complete-values steps (fillingOf sel) lent passed L complete
 
     pub covariance-reading : length mid ≡ length (lent .scratch)
-        → OperatorsReading (x .factor .n) (x .a .rowStarts) (x .a .columns) (length (x .a .weights)) (x .b .rowStarts) (x .b .columns) (length (x .b .weights)) (x .aRows) (x .bRows)
+        → RowPairValuesInput (x .factor .n) (x .a .rowStarts) (x .a .columns) (length (x .a .weights)) (x .b .rowStarts) (x .b .columns) (length (x .b .weights)) (x .aRows) (x .bRows)
         mid (length rv) (length output)
     covariance-reading long =
         rw values-are
@@ -61,9 +61,9 @@ module _ (x : CovarianceCall) (lent : Lent) (output : List Float) where
         (x .a .rowStarts) (x .a .columns) (x .a .weights) (x .b .rowStarts) (x .b .columns) (x .b .weights) (x .aRows) (x .bRows)
         (A .operators) holds (length output) (A .accepted .small) (omega (arith, scratchWords-room (x .factor .n) (A .accepted .scratch-room))) (A .room))
 
-    pub covariance-written : operatorsValues (x .a .rowStarts) (x .a .columns) (x .a .weights) (x .b .rowStarts) (x .b .columns) (x .b .weights) (x .aRows) (x .bRows) (inverseAt nan (x .factor .n) mid rv) ≡ covarianceValues x
+    pub covariance-written : rowPairValues (x .a .rowStarts) (x .a .columns) (x .a .weights) (x .b .rowStarts) (x .b .columns) (x .b .weights) (x .aRows) (x .bRows) (inverseAt nan (x .factor .n) mid rv) ≡ covarianceValues x
     covariance-written =
-        ap (λ (v : List Float). operatorsValues (x .a .rowStarts) (x .a .columns) (x .a .weights) (x .b .rowStarts) (x .b .columns) (x .b .weights) (x .aRows) (x .bRows) (inverseAt nan (x .factor .n) mid v)) values-are
+        ap (λ (v : List Float). rowPairValues (x .a .rowStarts) (x .a .columns) (x .a .weights) (x .b .rowStarts) (x .b .columns) (x .b .weights) (x .aRows) (x .bRows) (inverseAt nan (x .factor .n) mid v)) values-are
         ∙ filled-pairs-values (x .factor .n) (selectedSet sel) (selectedTable sel) mid (lent .resultValues) values-fit P
         (x .a .rowStarts) (x .a .columns) (x .a .weights) (x .b .rowStarts) (x .b .columns) (x .b .weights) (x .aRows) (x .bRows)
         (A .operators) holds

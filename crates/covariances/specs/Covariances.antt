@@ -20,7 +20,7 @@ use Rattle.selection.specs.Selection.{Selection, selection, Lent, Room, roomOf,
 use Rattle.selection.specs.Call.{fill-accepted}
 use Rattle.diagnostics.specs.declared.Selected.{Selected}
 use Rattle.request_marks.specs.CrossRequests.{crossRequested, crossRequested-ranged, OperatorPairs}
-use Rattle.quadratic_form.specs.RowValue.{operatorsValues}
+use Rattle.quadratic_form.specs.RowValue.{rowPairValues}
 use Rattle.operator_values.specs.Output.{SelectedOutput}
 
 -- an operator of `ncols` columns
@@ -91,7 +91,7 @@ module _ (x : CovarianceCall) where
   -- the row pairs' values
   abbrev pub covarianceValues : List Float
   covarianceValues =
-      operatorsValues (x .a .rowStarts) (x .a .columns) (x .a .weights) (x .b .rowStarts) (x .b .columns) (x .b .weights) (x .aRows) (x .bRows) (selectedTable covarianceSelection)
+      rowPairValues (x .a .rowStarts) (x .a .columns) (x .a .weights) (x .b .rowStarts) (x .b .columns) (x .b .weights) (x .aRows) (x .bRows) (selectedTable covarianceSelection)
 
 -- the reply and the lists of a call; either status carries the diagnosis
 abbrev pub Covariances : CovarianceCall → Lent → List Float → Selected → Lent → List Float → Type 0

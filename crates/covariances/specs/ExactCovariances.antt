@@ -27,7 +27,7 @@ use Rattle.diagnostics.specs.Selected.{selectedReplyOf}
 use Rattle.selection.specs.Selection.{Selection, Lent, roomOf, selectedAnswer, selectedTable, ResultLists, fillingOf}
 use Rattle.exact_entries.specs.ExactEntries.{ExactCall, ReadsBack, exact-entries, exact-either, exact-symmetric}
 use Rattle.request_marks.specs.CrossRequests.{cross-requested}
-use Rattle.quadratic_form.specs.RowValue.{termColumn, operatorsValue, operatorsValues}
+use Rattle.quadratic_form.specs.RowValue.{termColumn, rowPairValue, rowPairValues}
 use Rattle.quadratic_form.specs.ExactCross.{bilinear, bilinear-exchanged, RowsWithin, crossValue-exact}
 use Rattle.operator_values.specs.Output.{outputAfter, after-complete}
 use Rattle.covariances.specs.Covariances.{Operator, CovarianceCall, covarianceSelection, covarianceSteps, covarianceValues, Covariances}
@@ -94,11 +94,11 @@ module _ (x : CovarianceCall) (lent : Lent) (output : List Float) (passed : Pass
 
   abbrev pairValue : ℕ → Float
   pairValue p =
-      operatorsValue (x .a .rowStarts) (x .a .columns) (x .a .weights) (x .b .rowStarts) (x .b .columns) (x .b .weights) (selectedTable sel) (aRow x p) (bRow x p)
+      rowPairValue (x .a .rowStarts) (x .a .columns) (x .a .weights) (x .b .rowStarts) (x .b .columns) (x .b .weights) (selectedTable sel) (aRow x p) (bRow x p)
 
   pair-is : selectedAnswer sel .status ≡ Complete → (p : ℕ) → p < length (x .aRows)
       → getD (outputAfter steps sel (covarianceValues x) output) p nan ≡ pairValue p
-  unfolding operatorsValues
+  unfolding rowPairValues
   pair-is e p l =
       ap (λ (o : List Float). getD o p nan) (after-complete steps sel (covarianceValues x) lent output passed e)
       ∙ overwrite-at (covarianceValues x) output p nan (omega (arith, tabulate-length pairValue (length (x .aRows))))

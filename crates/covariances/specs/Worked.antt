@@ -38,7 +38,7 @@ use Rattle.exact_entries.specs.ExactEntries.{ExactCall}
 use Rattle.exact_entries.specs.Worked.{F2-diagonals, F2-exact, F2-lent, F2-cleared}
 use Rattle.request_marks.specs.CrossRequests.{crossRequested}
 use Rattle.quadratic_form.specs.CrossValue.{addTerms, addPlaces}
-use Rattle.quadratic_form.specs.RowValue.{termColumn, operatorsValues}
+use Rattle.quadratic_form.specs.RowValue.{termColumn, rowPairValues}
 use Rattle.quadratic_form.specs.ExactCross.{RowsWithin}
 use Rattle.covariances.specs.Covariances.{operator, CovarianceCall, covarianceCall, covarianceSelection, covarianceSteps, Covariances, covariance-accepted}
 use Rattle.covariances.specs.ExactCovariances.{exchanged, exactCovariance, ExactPair, CovariancesExact, covariance-exchanged, covariance-exact-reply}
@@ -105,7 +105,7 @@ pair-lists = lists (0 ∷ 1 ∷ 2 ∷ []) (1 ∷ 1 ∷ 9 ∷ []) (neg (whole 2) 
 F2-pair-left : Covariances F2-pair F2-lent (whole 9 ∷ []) (Answered (diagnosis 1 2 3 30 Complete)) pair-lists (neg (whole 12) ∷ [])
 unfolding any anyIn sumTo picked select cells cellCount tabulate filled overwrite ofInt ofBits ne le add sub mul div neg first after pairTotal bitWords scratchWords
     boundSteps brokenSteps startsSteps rowsSteps columnSteps finiteSteps storedSteps operatorSteps diagonalSteps roomSteps covarianceSteps
-    reach member factorPairs diagnosisOf crossRequested operatorsValues addTerms addPlaces floatTable
+    reach member factorPairs diagnosisOf crossRequested rowPairValues addTerms addPlaces floatTable
 F2-pair-left = record {
   replies = refl;
   lists-are = lists-passed (covarianceSteps F2-pair (roomOf F2-lent) 1) (fillingOf (covarianceSelection F2-pair)) F2-lent F2-pair-passed refl refl refl refl;

@@ -7,7 +7,7 @@ use checks::check_covariances;
 use diagnostics::Selected;
 use diagnostics::SelectedInverseStatus;
 use fill::fill_lists;
-use operator_values::operators_values;
+use operator_values::row_pair_values;
 use pair_places::scratch::clear_scratch;
 use refusal::Checked;
 use request_marks::cross::mark_cross_pairs;
@@ -96,7 +96,7 @@ pub fn selected_inverse_transformed_covariances(
                     return Selected::Answered(diagnosis);
                 }
                 SelectedInverseStatus::Complete => {
-                    operators_values(
+                    row_pair_values(
                         n,
                         a_row_starts,
                         a_columns,

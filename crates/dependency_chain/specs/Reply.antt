@@ -3,10 +3,10 @@
 use Prim.Native.Nat.{ℕ}
 use Rattle.refusal.specs.Steps.{Reply, refused, answered}
 use Rattle.refusal.specs.Refusal.{refusalNumber}
-use Rattle.dependency_chain.specs.declared.Chain.{Chain}
-use Rattle.dependency_chain.specs.declared.Chain.the-variants.{Pairs, Refused}
+use Rattle.dependency_chain.specs.declared.ChainPairs.{ChainPairs}
+use Rattle.dependency_chain.specs.declared.ChainPairs.the-variants.{Pairs, Refused}
 
 -- how many pairs the chain has, 0 where the pair is not in the set; or the refusal's number
-abbrev pub chainReply : Chain → Reply ℕ
+abbrev pub chainReply : ChainPairs → Reply ℕ
 chainReply (Pairs count) = answered count
 chainReply (Refused why) = refused (refusalNumber why)

@@ -33,7 +33,7 @@ use words::order::larger;
 use words::order::smaller;
 
 // How many pairs the chain has, 0 where the pair is not in the set; `chainReply` of specs/Reply.antt gives a refusal's number.
-pub enum Chain {
+pub enum ChainPairs {
     Pairs(usize),
     Refused(Refusal),
 }
@@ -102,19 +102,19 @@ fn list_chain(
     scratch: &[u32],
     chain_rows: &mut [u32],
     chain_columns: &mut [u32],
-) -> Chain
+) -> ChainPairs
     requires { ⌜ ListInput n (now starts) (now rows) (length (now values)) r c level (now scratch) ⌝ }
     ensures { λ answer. ⌜ Listed (levelsChain (pattern (now (starts .entry)) (now (rows .entry)) (nonzero (now (values .entry)))) (levelWord n (now (scratch .entry))) r c)
         (now («chain_rows» .entry)) (now («chain_columns» .entry)) (chainReply answer) (now («chain_rows» .exit)) (now («chain_columns» .exit)) ⌝ }
 {
     if level == 0 {
-        return Chain::Pairs(0);
+        return ChainPairs::Pairs(0);
     }
     if chain_rows.len() < level {
-        return Chain::Refused(Refusal::TooShort);
+        return ChainPairs::Refused(Refusal::TooShort);
     }
     if chain_columns.len() < level {
-        return Chain::Refused(Refusal::TooShort);
+        return ChainPairs::Refused(Refusal::TooShort);
     }
     write_chain(
         n,
@@ -128,7 +128,7 @@ fn list_chain(
         chain_rows,
         chain_columns,
     );
-    Chain::Pairs(level)
+    ChainPairs::Pairs(level)
 }
 
 // Looks for the chain to (r, c), r at least c, and lists it; the scratch ends 0.
@@ -144,7 +144,7 @@ fn seek_chain(
     scratch: &mut [u32],
     chain_rows: &mut [u32],
     chain_columns: &mut [u32],
-) -> Chain
+) -> ChainPairs
     requires { ⌜ SeekInput n (now starts) (now rows) (length (now values)) (now «request_rows») (now «request_columns») r c (now scratch) ⌝ }
     ensures { λ answer. ⌜ Listed (chainOf n (pattern (now (starts .entry)) (now (rows .entry)) (nonzero (now (values .entry)))) (requested (now («request_rows» .entry)) (now («request_columns» .entry))) r c)
         (now («chain_rows» .entry)) (now («chain_columns» .entry)) (chainReply answer) (now («chain_rows» .exit)) (now («chain_columns» .exit)) ⌝ }
@@ -190,7 +190,7 @@ pub fn dependency_chain(
     scratch: &mut [u32],
     chain_rows: &mut [u32],
     chain_columns: &mut [u32],
-) -> Chain
+) -> ChainPairs
     ensures { λ answer. ⌜ ChainListed
         (chainCall n (now (starts .entry)) (now (rows .entry)) (now (values .entry)) dimension (now («request_rows» .entry)) (now («request_columns» .entry)) row column)
         (now (scratch .entry)) (now («chain_rows» .entry)) (now («chain_columns» .entry)) (chainReply answer)
@@ -209,7 +209,7 @@ pub fn dependency_chain(
         scratch.len(),
     );
     match asked {
-        Checked::Refused(why) => Chain::Refused(why),
+        Checked::Refused(why) => ChainPairs::Refused(why),
         Checked::Accepted => seek_chain(
             n,
             starts,

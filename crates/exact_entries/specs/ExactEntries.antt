@@ -25,7 +25,7 @@ use Rattle.selection.specs.Selection.{Selection, selectedPattern, fillingOf, Le
 use Rattle.selection.specs.Call.{Call, selectionOf, selectedSteps, accepted}
 use Rattle.entries.specs.Descendants.{desc-ascend}
 use Rattle.exact_entries.specs.Columns.{places-descend, alike-ascend, alike-each, needed-closed}
-use Rattle.exact_entries.specs.Recurrence.{Selected, found, selected-pattern, table-recurs, reads-recurrence}
+use Rattle.exact_entries.specs.Recurrence.{InClosedSet, found, selected-pattern, table-recurs, reads-recurrence}
 
 module _ (x : Selection) where
   -- every kept diagonal of L is 1, or, where pivots are given, every pivot is; the other kept entries are the whole numbers `whole`; and no product, sum or
@@ -33,14 +33,14 @@ module _ (x : Selection) where
   pub record ExactCall (whole : ℕ → List (Entry ℤ)) : Type 0 where
     pub diagonals : (j : ℕ) → j < x .factor .n → Whole (divisor (x .factor .n) (x .factor .starts) (x .factor .rows) (x .factor .values) (x .form) j) (pos 1)
     pub entries : (j : ℕ) → j < x .factor .n → Alike 0 (desc (x .factor .starts) (x .factor .rows) (x .factor .values) j) (whole j)
-    pub within : WithinBound (x .factor .n) whole (Selected x)
+    pub within : WithinBound (x .factor .n) whole (InClosedSet x)
 
   -- X is what reads back: Complete exactly when the set is within the limit; then each pair of the set as a number equal to X's, every other pair as absent
   pub record ReadsBack (left : Lent) (X : Matrix) : Type 0 where
     pub complete : (selectedAnswer x .status ≡ Complete) ↔ (selectedSize x ≤ x .limit)
-    pub members : selectedAnswer x .status ≡ Complete → (row col : ℕ) → Selected x (max row col) (min row col)
+    pub members : selectedAnswer x .status ≡ Complete → (row col : ℕ) → InClosedSet x (max row col) (min row col)
         → (v : Float) × (found x left row col ≡ answered v) × Whole v (X row col)
-    pub others : selectedAnswer x .status ≡ Complete → (row col : ℕ) → (Selected x (max row col) (min row col) → ⊥)
+    pub others : selectedAnswer x .status ≡ Complete → (row col : ℕ) → (InClosedSet x (max row col) (min row col) → ⊥)
         → found x left row col ≡ refused 8
 
 -- a table that solves the recurrence of either form has the inverse's entries
@@ -62,7 +62,7 @@ module _ (x : Selection) (lent : Lent) (A : Accepted x (roomOf lent)) (whole : �
   ascend : (j : ℕ) → j < x .factor .n → Ascend (x .factor .n) (suc j) (whole j)
   ascend j jn = alike-ascend 0 (x .factor .n) (suc j) (desc (x .factor .starts) (x .factor .rows) (x .factor .values) j) (whole j) (E .entries j jn) (desc-ascend (x .factor .values) (A .factor) j jn)
 
-  closed : RecurrenceClosed (x .factor .n) whole (Selected x)
+  closed : RecurrenceClosed (x .factor .n) whole (InClosedSet x)
   closed =
       needed-closed (x .factor .n) pat (x .requests) (selected-pattern x lent A) (A .requests) whole ascend
       (λ j jn. alike-each 0 _ (desc (x .factor .starts) (x .factor .rows) (x .factor .values) j) (whole j) (E .entries j jn) (places-descend (entry (x .factor .rows) (x .factor .values)) (nonzero (x .factor .values)) (A .factor) (λ p. refl) j jn))
@@ -73,9 +73,9 @@ module _ (x : Selection) (lent : Lent) (A : Accepted x (roomOf lent)) (whole : �
 
   module _ (X : Matrix) (is : WholeInverse (x .factor .n) (factor ones whole) X) where
     -- an entry of the set is X's
-    pub exact-at : (i j : ℕ) → Selected x i j → Whole (selectedTable x i j) (X i j)
+    pub exact-at : (i j : ℕ) → InClosedSet x i j → Whole (selectedTable x i j) (X i j)
     exact-at i j p =
-        exact-table (x .form) (x .factor .n) (x .factor .starts) (x .factor .rows) (x .factor .values) whole ascend (Selected x) closed (E .within) X is (E .diagonals) (E .entries)
+        exact-table (x .form) (x .factor .n) (x .factor .starts) (x .factor .rows) (x .factor .values) whole ascend (InClosedSet x) closed (E .within) X is (E .diagonals) (E .entries)
         (selectedTable x) (table-recurs x lent A) i j p
 
     -- X is symmetric
@@ -83,7 +83,7 @@ module _ (x : Selection) (lent : Lent) (A : Accepted x (roomOf lent)) (whole : �
     exact-symmetric = unit-symmetric (x .factor .n) whole ascend X is
 
     -- read at either order of the indices
-    pub exact-either : (row col : ℕ) → Selected x (max row col) (min row col) → Whole (at (selectedTable x) row col) (X row col)
+    pub exact-either : (row col : ℕ) → InClosedSet x (max row col) (min row col) → Whole (at (selectedTable x) row col) (X row col)
     exact-either row col p =
         subst (Whole (at (selectedTable x) row col)) (unit-ordered (x .factor .n) whole ascend X is row col (needed-range pat (x .requests) (x .factor .n) (selected-pattern x lent A) (A .requests) p .1))
         (exact-at (max row col) (min row col) p)

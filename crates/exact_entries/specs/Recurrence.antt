@@ -33,8 +33,8 @@ use Rattle.entries.specs.Descendants.{form-solves}
 
 module _ (x : Selection) where
   -- the closed set: the requested pairs and the dependencies of its pairs, and no other
-  abbrev pub Selected : ℕ → ℕ → Type 0
-  Selected = Needed (selectedPattern x) (x .requests)
+  abbrev pub InClosedSet : ℕ → ℕ → Type 0
+  InClosedSet = Needed (selectedPattern x) (x .requests)
 
   -- what a lookup finds in the filled starts, the rows and the values that are left
   abbrev pub found : Lent → ℕ → ℕ → Reply Float
@@ -44,16 +44,16 @@ module _ (x : Selection) where
   abbrev pub SolvesRecurrence : (ℕ → ℕ → Float) → Type 0
   SolvesRecurrence =
       Solves floats (belowStep (x .form)) (diagonalStep (x .form)) (divisor (x .factor .n) (x .factor .starts) (x .factor .rows) (x .factor .values) (x .form))
-      (desc (x .factor .starts) (x .factor .rows) (x .factor .values)) Selected
+      (desc (x .factor .starts) (x .factor .rows) (x .factor .values)) InClosedSet
 
   -- a table that solves the recurrence is what reads back: Complete exactly when the set is within the limit; then each pair of the set as its entry, every
   -- other pair as absent
   pub record ReadsRecurrence (left : Lent) (table : ℕ → ℕ → Float) : Type 0 where
     pub solves : SolvesRecurrence table
     pub complete : (selectedAnswer x .status ≡ Complete) ↔ (selectedSize x ≤ x .limit)
-    pub members : selectedAnswer x .status ≡ Complete → (row col : ℕ) → Selected (max row col) (min row col)
+    pub members : selectedAnswer x .status ≡ Complete → (row col : ℕ) → InClosedSet (max row col) (min row col)
         → found left row col ≡ answered (at table row col)
-    pub others : selectedAnswer x .status ≡ Complete → (row col : ℕ) → (Selected (max row col) (min row col) → ⊥)
+    pub others : selectedAnswer x .status ≡ Complete → (row col : ℕ) → (InClosedSet (max row col) (min row col) → ⊥)
         → found left row col ≡ refused 8
 
 -- of L with L * Lᵀ the recurrence's diagonals are finite and above 0.0, its other numbers finite
@@ -73,7 +73,7 @@ module _ (x : Selection) (lent : Lent) (A : Accepted x (roomOf lent)) where
   pub table-recurs : SolvesRecurrence x (selectedTable x)
   table-recurs =
       solves-part floats (belowStep (x .form)) (diagonalStep (x .form)) (divisor (x .factor .n) (x .factor .starts) (x .factor .rows) (x .factor .values) (x .form))
-      (desc (x .factor .starts) (x .factor .rows) (x .factor .values)) (Selected x) (Lower (x .factor .n)) (selectedTable x)
+      (desc (x .factor .starts) (x .factor .rows) (x .factor .values)) (InClosedSet x) (Lower (x .factor .n)) (selectedTable x)
       (λ i j p. needed-range pat (x .requests) (x .factor .n) selected-pattern (A .requests) p)
       (form-solves (x .form) (x .factor .values) (A .factor))
 
@@ -94,7 +94,7 @@ module _ (x : Selection) (lent : Lent) (A : Accepted x (roomOf lent)) where
         (result-left nan (fillingOf x) lent (omega (arith, most, A .rows-room)) (omega (arith, most, A .values-room)) steps passed L (le-leb _ _ h))
 
     -- and a diagonal of the set at the first place that it looks at
-    pub found-looks : selectedSize x ≤ x .limit → (c : ℕ) → Selected x c c
+    pub found-looks : selectedSize x ≤ x .limit → (c : ℕ) → InClosedSet x c c
         → lookupLooks (take (x .factor .n + 1) (left .resultStarts)) (left .resultRows) (length (left .resultValues)) c c ≡ 1
     found-looks h c p =
         looks-left nan (fillingOf x) lent (omega (arith, most, A .rows-room)) (omega (arith, most, A .values-room)) steps passed L (le-leb _ _ h) c

@@ -46,7 +46,7 @@ use Rattle.selection.specs.Diagnosis.{diagnosisOf}
 use Rattle.selection.specs.Selection.{Selection, selecting, selectedSet, selectedSize, selectedAnswer, selectedTable, Room, lists, Lent, roomOf, roomSteps, Accepted, ResultLists, lists-passed, fillingOf}
 use Rattle.selection.specs.Status.{selected-complete}
 use Rattle.selection.specs.Call.{Call, call, selectionOf, selectedSteps, accepted}
-use Rattle.exact_entries.specs.Recurrence.{Selected, found, selected-numbers, found-within, reads-recurrence}
+use Rattle.exact_entries.specs.Recurrence.{InClosedSet, found, selected-numbers, found-within, reads-recurrence}
 use Rattle.exact_entries.specs.ExactEntries.{ExactCall, ReadsBack, exact-inverse, exact-symmetric, exact-at, exact-call}
 use Rattle.exact_entries.specs.Count.{selected-counts}
 
@@ -62,10 +62,10 @@ F2-alike = columns₂ (λ j. Alike 0 (desc F2-starts F2-rows F2-values j) (F2-en
 -- F2 in either form, with any requests and limit
 module _ (form : Form) (req : ℕ → ℕ → Bool) (limit : ℕ) (lengths : Room) (A : Accepted (selecting form (factorLists 2 F2-starts F2-rows F2-values) req limit) lengths) where
   -- the closed set is in the lower triangle
-  F2-lower : (i j : ℕ) → Selected (selecting form (factorLists 2 F2-starts F2-rows F2-values) req limit) i j → Lower 2 i j
+  F2-lower : (i j : ℕ) → InClosedSet (selecting form (factorLists 2 F2-starts F2-rows F2-values) req limit) i j → Lower 2 i j
   F2-lower i j p = needed-range _ _ 2 (factor-pattern (nonzero F2-values) (A .factor)) (A .requests) p
 
-  F2-bound : WithinBound 2 F2-entries (Selected (selecting form (factorLists 2 F2-starts F2-rows F2-values) req limit))
+  F2-bound : WithinBound 2 F2-entries (InClosedSet (selecting form (factorLists 2 F2-starts F2-rows F2-values) req limit))
   F2-bound = record {
     entry = λ i j p. F2-within .entry i j (F2-lower i j p);
     product-below = λ i j p h. F2-within .product-below i j (F2-lower i j p) h;
@@ -128,11 +128,11 @@ pub F2-reads : F2ReadsBack (selectionOf F2-call)
 F2-reads = exact-call F2-call F2-lent F2-passed F2-entries F2-call-exact F2-matrix F2-inverse F2-left
 
 -- (0, 0) is requested, and (1, 0) is a dependency of it
-F2-first : Selected (selectionOf F2-call) 0 0
+F2-first : InClosedSet (selectionOf F2-call) 0 0
 unfolding any requested
 F2-first = request refl
 
-pub F2-below : Selected (selectionOf F2-call) 1 0
+pub F2-below : InClosedSet (selectionOf F2-call) 1 0
 unfolding any select picked ofBits ofInt ne
 F2-below = dependency 1 F2-first refl
 
@@ -196,7 +196,7 @@ F2-last-passed = refl
 F2-last-accepted : Accepted (selectionOf F2-last) (roomOf F2-lent)
 F2-last-accepted = accepted F2-last (roomOf F2-lent) F2-last-passed
 
-F2-last-lacks : Selected (selectionOf F2-last) 1 0 → ⊥
+F2-last-lacks : InClosedSet (selectionOf F2-last) 1 0 → ⊥
 unfolding any select picked ofInt ofBits ne reach member requested
 F2-last-lacks p =
     true≢false (sym (needed-member 2 _ (requested (1 ∷ []) (1 ∷ [])) (factor-pattern (nonzero F2-values) (F2-last-accepted .factor)) (F2-last-accepted .requests) p))

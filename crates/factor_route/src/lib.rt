@@ -27,31 +27,31 @@ fn pattern_column(
     starts: &[u32],
     rows: &[u32],
     values: &[f64],
-    entry_starts: &[u32],
-    entry_rows: &[u32],
-    entry_values: &mut [f64],
+    result_starts: &[u32],
+    result_rows: &[u32],
+    result_values: &mut [f64],
     j: usize,
     marker: &mut [usize; MAX_DIMENSION],
     weights: &mut [f64; MAX_DIMENSION],
     sums: &mut [f64; MAX_DIMENSION],
 )
-    requires { ⌜ RouteInput n (now starts) (now rows) (now values) (now «entry_starts») (now «entry_rows») (length (now «entry_values»)) × (j < n) ⌝ }
+    requires { ⌜ RouteInput n (now starts) (now rows) (now values) (now «result_starts») (now «result_rows») (length (now «result_values»)) × (j < n) ⌝ }
     requires { ⌜ WorkRows (now marker) (now weights) (now sums) ⌝ }
-    requires { ⌜ Known nan n (desc (now starts) (now rows) (now values)) (now «entry_starts») (now «entry_rows»)
-        (floatTable n (now starts) (now rows) (now values)) (j + 1) (now «entry_values») ⌝ }
-    ensures { λ _. ⌜ ColumnWritten n (now (starts .entry)) (now (rows .entry)) (now (values .entry)) (now («entry_starts» .entry)) j
-        (now («entry_values» .entry)) (now («entry_values» .exit)) (now (marker .exit)) (now (weights .exit)) (now (sums .exit)) ⌝ }
+    requires { ⌜ Known nan n (desc (now starts) (now rows) (now values)) (now «result_starts») (now «result_rows»)
+        (floatTable n (now starts) (now rows) (now values)) (j + 1) (now «result_values») ⌝ }
+    ensures { λ _. ⌜ ColumnWritten n (now (starts .entry)) (now (rows .entry)) (now (values .entry)) (now («result_starts» .entry)) j
+        (now («result_values» .entry)) (now («result_values» .exit)) (now (marker .exit)) (now (weights .exit)) (now (sums .exit)) ⌝ }
 {
-    let a = at(entry_starts, j);
-    let e = at(entry_starts, j + 1);
+    let a = at(result_starts, j);
+    let e = at(result_starts, j + 1);
     let s = at(starts, j);
     let t = at(starts, j + 1);
     let m = mark_column(j, rows, values, s, t, marker, weights, sums);
     let b = a + 1;
     scatter_columns(
-        entry_starts,
-        entry_rows,
-        entry_values,
+        result_starts,
+        result_rows,
+        result_values,
         b,
         m,
         marker,
@@ -59,8 +59,8 @@ fn pattern_column(
         sums,
     );
     let d = diagonal(n, starts, rows, values, j);
-    write_column(entry_values, a, e, weights, sums, d, m);
-    unmark_column(entry_rows, b, m, marker);
+    write_column(result_values, a, e, weights, sums, d, m);
+    unmark_column(result_rows, b, m, marker);
 }
 
 // The values of the selected inverse over the factor's kept pattern, columns from the last to the first.
@@ -69,15 +69,15 @@ pub fn takahashi_selected_inverse_on_factor_pattern(
     starts: &[u32],
     rows: &[u32],
     values: &[f64],
-    entry_starts: &[u32],
-    entry_rows: &[u32],
-    entry_values: &mut [f64],
+    result_starts: &[u32],
+    result_rows: &[u32],
+    result_values: &mut [f64],
 )
-    requires { ⌜ RouteInput n (now starts) (now rows) (now values) (now «entry_starts») (now «entry_rows») (length (now «entry_values»)) ⌝ }
-    ensures { λ _. ⌜ now («entry_values» .exit) ≡ overwrite
+    requires { ⌜ RouteInput n (now starts) (now rows) (now values) (now «result_starts») (now «result_rows») (length (now «result_values»)) ⌝ }
+    ensures { λ _. ⌜ now («result_values» .exit) ≡ overwrite
         (entryValues n (keptPair (now (starts .entry)) (now (rows .entry)) (nonzero (now (values .entry))))
         (floatTable n (now (starts .entry)) (now (rows .entry)) (now (values .entry))))
-        (now («entry_values» .entry)) ⌝ }
+        (now («result_values» .entry)) ⌝ }
 {
     let mut marker = [MAX_DIMENSION; MAX_DIMENSION];
     let mut weights = [0.0f64; MAX_DIMENSION];
@@ -90,9 +90,9 @@ pub fn takahashi_selected_inverse_on_factor_pattern(
             starts,
             rows,
             values,
-            entry_starts,
-            entry_rows,
-            entry_values,
+            result_starts,
+            result_rows,
+            result_values,
             j,
             &mut marker,
             &mut weights,

@@ -27,7 +27,7 @@ use Rattle.diagnostics.specs.declared.SelectedInverseStatus.the-variants.{Compl
 use Rattle.marked_pairs.specs.MarkedPairs.{ColumnsReached}
 use Rattle.closure.specs.Closure.{Closing}
 use Rattle.closed_set.specs.FactorPattern.{factor-pattern}
-use Rattle.layout.specs.Layout.{LayOut, LaidOut}
+use Rattle.layout.specs.Layout.{LayOutInput, LaidOut}
 use Rattle.closure_route.specs.Route.{routeLists, ClosureRouteInput, laid-same, laid-route}
 use Rattle.closure_route.specs.Members.{marked-size, marked-closed}
 use Rattle.fill.specs.Routes.{RoutesInput}
@@ -65,7 +65,7 @@ module _ (x : Selection) (lent : Lent) (A : Accepted x (roomOf lent)) where
       most = omega (arith, within, closureSize-most (x .factor .n) (pat x) (x .requests))
 
       -- what the layout asks
-      pub fill-layout : LayOut (x .factor .n) (lent .resultStarts) (lent .resultRows) s₁
+      pub fill-layout : LayOutInput (x .factor .n) (lent .resultStarts) (lent .resultRows) s₁
       fill-layout = record {
         small = A .small;
         room = omega (arith, K .long, scratchWords-room (x .factor .n) (A .scratch-room));

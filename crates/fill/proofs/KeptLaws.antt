@@ -17,7 +17,7 @@ use Rattle.columns.specs.Factor.{factor-column, starts-end}
 use Rattle.closed_set.specs.KeptSet.{factorPairs-size}
 use Rattle.fill.specs.Agree.{samePairs}
 use Rattle.fill.proofs.AgreeLaws.{samePairs-agree, samePairs-all, samePairs-missing, setSize-same}
-use Rattle.fill.specs.KeptPattern.{ChoiceInput, unmarkedEntry, unmarkedAt, ChoiceColumn}
+use Rattle.fill.specs.KeptPattern.{ChoiceInput, unmarkedEntry, unmarkedAt, ChoiceColumnInput}
 
 -- one of column c
 abbrev pub unmarkedColumn : ℕ → List ℕ → List ℕ → List ℕ → List Float → ℕ → Bool
@@ -56,7 +56,7 @@ module _ {n : ℕ} {starts rows : List ℕ} {values : List Float} {count closed 
   pub choice-starts : (c : ℕ) → c < n → c + 1 < length starts
   choice-starts c h = omega (arith, I .factor .starts-rise .columns)
 
-  pub choice-column : (c s e : ℕ) → c < n → s ≡ start starts c → e ≡ start starts (c + 1) → ChoiceColumn n rows (length values) s e (length scratch)
+  pub choice-column : (c s e : ℕ) → c < n → s ≡ start starts c → e ≡ start starts (c + 1) → ChoiceColumnInput n rows (length values) s e (length scratch)
   choice-column c s e h p q =
       let C = factor-column (I .factor) c h in
       rw (p, q) (record {

@@ -31,7 +31,7 @@ abbrev pub unmarkedAt : ℕ → List ℕ → List ℕ → List Float → ℕ →
 unmarkedAt n scratch rows values c p = unmarkedEntry n scratch c (row rows p) (value values p)
 
 -- a stored column, from s to below e, whose pairs have marks among `words`
-pub record ChoiceColumn (n : ℕ) (rows : List ℕ) (values s e words : ℕ) : Type 0 where
+pub record ChoiceColumnInput (n : ℕ) (rows : List ℕ) (values s e words : ℕ) : Type 0 where
   pub small : n ≤ maxDimension
   pub ordered : s ≤ e
   pub stored : e ≤ length rows

@@ -8,7 +8,7 @@ ghost use Rattle.pairs.specs.Scratch.{queueStart};
 ghost use Rattle.pairs.specs.ColumnOrder.{columnMarking};
 ghost use Rattle.columns.specs.Kept.{nonzero, keptPair};
 ghost use Rattle.fill.specs.Agree.{samePairs};
-ghost use Rattle.fill.specs.KeptPattern.{ChoiceInput, ChoiceColumn, unmarkedEntry, unmarkedAt};
+ghost use Rattle.fill.specs.KeptPattern.{ChoiceInput, ChoiceColumnInput, unmarkedEntry, unmarkedAt};
 use pair_places::column_place;
 use words::at;
 use words::bit_words::bit;
@@ -37,7 +37,7 @@ fn unmarked_column(
     e: usize,
     scratch: &[u32],
 ) -> bool
-    requires { ⌜ ChoiceColumn n (now rows) (length (now values)) s e (length (now scratch)) ⌝ }
+    requires { ⌜ ChoiceColumnInput n (now rows) (length (now values)) s e (length (now scratch)) ⌝ }
     ensures { λ b. ⌜ b ≡ anyIn (unmarkedAt n (now (scratch .entry)) (now (rows .entry)) (now (values .entry)) c) s e ⌝ }
 {
     let mut p = s;

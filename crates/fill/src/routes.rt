@@ -17,15 +17,15 @@ pub fn takahashi_selected_inverse(
     values: &[f64],
     factor_pairs: usize,
     closure_pairs: usize,
-    entry_starts: &[u32],
-    entry_rows: &[u32],
-    entry_values: &mut [f64],
+    result_starts: &[u32],
+    result_rows: &[u32],
+    result_values: &mut [f64],
     scratch: &[u32],
 )
-    requires { ⌜ RoutesInput n (now starts) (now rows) (now values) «factor_pairs» «closure_pairs» (now «entry_starts») (now «entry_rows») (now scratch)
-        (length (now «entry_values»)) ⌝ }
-    ensures { λ _. ⌜ now («entry_values» .exit) ≡ overwrite (entryValues n (columnMarking n (now (scratch .entry)))
-        (floatTable n (now (starts .entry)) (now (rows .entry)) (now (values .entry)))) (now («entry_values» .entry)) ⌝ }
+    requires { ⌜ RoutesInput n (now starts) (now rows) (now values) «factor_pairs» «closure_pairs» (now «result_starts») (now «result_rows») (now scratch)
+        (length (now «result_values»)) ⌝ }
+    ensures { λ _. ⌜ now («result_values» .exit) ≡ overwrite (entryValues n (columnMarking n (now (scratch .entry)))
+        (floatTable n (now (starts .entry)) (now (rows .entry)) (now (values .entry)))) (now («result_values» .entry)) ⌝ }
 {
     if closure_is_cholesky_factor_pattern(
         n,
@@ -41,9 +41,9 @@ pub fn takahashi_selected_inverse(
             starts,
             rows,
             values,
-            entry_starts,
-            entry_rows,
-            entry_values,
+            result_starts,
+            result_rows,
+            result_values,
         );
         return;
     }
@@ -52,9 +52,9 @@ pub fn takahashi_selected_inverse(
         starts,
         rows,
         values,
-        entry_starts,
-        entry_rows,
-        entry_values,
+        result_starts,
+        result_rows,
+        result_values,
         scratch,
     );
 }

@@ -26,16 +26,16 @@ use Rattle.marked_pairs.specs.MarkedPairs.{ColumnsReached}
 use Rattle.set_bits.specs.Listed.{NumbersListed}
 use Rattle.set_bits.specs.BitsListed.{bitsTest, ListBitsInput}
 use Rattle.set_bits.specs.Counted.{maxBits}
-use Rattle.layout.specs.ColumnRows.{columnTest, ColumnRoom, ColumnListed}
+use Rattle.layout.specs.ColumnRows.{columnTest, ListColumnInput, ColumnListed}
 use Rattle.entries.specs.Entries.{columnCount, position}
 use Rattle.entries.specs.Position.{columnCount-none, columnCount-next, columnCount-mono, tally-strict, select-tally}
-use Rattle.layout.specs.Layout.{PositionsRoom, PositionsLaid, LayColumn, ColumnPlaced, ColumnLaid, ReachedColumn, LayOut, LaidOut, LayFirsts, FirstsLaid, marks-same}
+use Rattle.layout.specs.Layout.{LayPositionsInput, PositionsLaid, LayColumnInput, ColumnPlaced, ColumnLaid, ReachedColumn, LayOutInput, LaidOut, LayFirstsInput, FirstsLaid, marks-same}
 
 pub positions-none : (base shift first : ℕ) (rows s : List ℕ) → PositionsLaid base shift first first rows s s
 positions-none base shift first rows s = record { long = refl; placed = λ q h l. absurd (omega arith); others = λ w d. refl }
 
 -- one position more
-pub positions-more : {base shift first e : ℕ} {rows s₀ : List ℕ} {q r : ℕ} {s : List ℕ} → PositionsRoom base shift first e rows s₀ → first ≤ q → q < e
+pub positions-more : {base shift first e : ℕ} {rows s₀ : List ℕ} {q r : ℕ} {s : List ℕ} → LayPositionsInput base shift first e rows s₀ → first ≤ q → q < e
     → r ≡ getD rows q 0 → PositionsLaid base shift first q rows s₀ s → PositionsLaid base shift first (q + 1) rows s₀ (set s (base + r) (shift + q))
 positions-more {base} {shift} {first} {e} {rows} {s₀} {q} {r} {s} O h l at P = record {
   long = length-set s (base + r) (shift + q) ∙ P .long;
@@ -54,7 +54,7 @@ positions-more {base} {shift} {first} {e} {rows} {s₀} {q} {r} {s} O h l at P =
 
 -- ---- the marks of a column, as bits from a place on
 
-module _ {n place c first : ℕ} {rows₀ s : List ℕ} (O : ColumnRoom n place c first rows₀ s) where
+module _ {n place c first : ℕ} {rows₀ s : List ℕ} (O : ListColumnInput n place c first rows₀ s) where
   -- the column's places are pairs'
   column-places : place + (n - c) ≤ pairTotal n
   column-places = omega (arith, O .start, colStart-next n c, colStart-mono n (c + 1) n (omega (arith, O .inside)), colStart-total n)
@@ -105,7 +105,7 @@ module _ {n place c first : ℕ} {rows₀ s : List ℕ} (O : ColumnRoom n place 
 
 -- ---- one column, whose rows are listed from `at` on; their positions are their places in the list and `shift`
 
-module _ (shift : ℕ) {n place c at : ℕ} {rows₀ s₀ : List ℕ} (O : ColumnRoom n place c at rows₀ s₀) (few : shift + (at + tally (columnTest n s₀ c) c n) ≤ maxPairs)
+module _ (shift : ℕ) {n place c at : ℕ} {rows₀ s₀ : List ℕ} (O : ListColumnInput n place c at rows₀ s₀) (few : shift + (at + tally (columnTest n s₀ c) c n) ≤ maxPairs)
     {rows : List ℕ} {next : ℕ} (L : ColumnListed n c n at rows₀ s₀ rows next) where
   abbrev test : ℕ → Bool
   test = columnTest n s₀ c
@@ -128,7 +128,7 @@ module _ (shift : ℕ) {n place c at : ℕ} {rows₀ s₀ : List ℕ} (O : Colum
   word-is r h = omega (arith, O .start, colStart-least n c (omega (arith, O .inside)))
 
   -- room for the positions
-  pub column-positions : PositionsRoom (queueStart n + (place - c)) shift at next rows s₀
+  pub column-positions : LayPositionsInput (queueStart n + (place - c)) shift at next rows s₀
   column-positions = record {
     order = omega (arith, L .count-is);
     listed = omega (arith, L .count-is, O .fits, ap length (L .rows-is) ∙ splice-length at listed rows₀ (O .fits));
@@ -265,14 +265,14 @@ columns-none n starts rows s = record {
       sym (ap (λ (l : List ℕ). overwrite l rows) (cells-none (byColumn (columnMarking n s)) columnFirst (columnEnd n) (λ c r. r)) ∙ overwrite-none rows);
 }
 
-module _ {n : ℕ} {starts₀ rows₀ s₀ : List ℕ} (M : LayOut n starts₀ rows₀ s₀)
+module _ {n : ℕ} {starts₀ rows₀ s₀ : List ℕ} (M : LayOutInput n starts₀ rows₀ s₀)
     {c : ℕ} {starts rows s : List ℕ} {count : ℕ} (K : ColumnsLaid n c starts₀ rows₀ s₀ starts rows s count) where
   abbrev T : ℕ → ℕ → Bool
   T = columnMarking n s₀
 
   -- room for a column
   pub columns-room : (place : ℕ) → place ≡ colStart n c → c < n → length rows ≡ length rows₀
-      → LayColumn n place c count rows s
+      → LayColumnInput n place c count rows s
   columns-room place start l long = record {
     room = record {
       small = M .small;
@@ -322,10 +322,10 @@ module _ {n : ℕ} {starts₀ rows₀ s₀ : List ℕ} (M : LayOut n starts₀ r
 
 -- ---- with where they start alone
 
-module _ {n : ℕ} {firsts₀ listed₀ s₀ : List ℕ} (M : LayFirsts n firsts₀ listed₀ s₀)
+module _ {n : ℕ} {firsts₀ listed₀ s₀ : List ℕ} (M : LayFirstsInput n firsts₀ listed₀ s₀)
     {c : ℕ} {s : List ℕ} {count : ℕ} (K : ColumnsPlaced n c s₀ s count) where
   -- room for a column's rows
-  pub firsts-room : (place : ℕ) → place ≡ colStart n c → c < n → {listed : List ℕ} → length listed ≡ length listed₀ → ColumnRoom n place c 0 listed s
+  pub firsts-room : (place : ℕ) → place ≡ colStart n c → c < n → {listed : List ℕ} → length listed ≡ length listed₀ → ListColumnInput n place c 0 listed s
   firsts-room place start l long = record {
     small = M .small;
     inside = l;

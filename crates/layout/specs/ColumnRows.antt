@@ -17,7 +17,7 @@ abbrev pub columnTest : ℕ → List ℕ → ℕ → ℕ → Bool
 columnTest n s c = byColumn (columnMarking n s) c
 
 -- the column's marks start at `place`, and there is room for its rows
-pub record ColumnRoom (n place c first : ℕ) (rows s : List ℕ) : Type 0 where
+pub record ListColumnInput (n place c first : ℕ) (rows s : List ℕ) : Type 0 where
   pub small : n ≤ maxDimension
   pub inside : c < n
   pub start : place ≡ colStart n c

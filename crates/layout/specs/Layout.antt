@@ -12,14 +12,14 @@ use Rattle.refusal.specs.Bounds.{maxDimension}
 use Rattle.pairs.specs.Pair.{pairTotal, maxPairs}
 use Rattle.pairs.specs.Scratch.{queueStart, queueStart-mark}
 use Rattle.pairs.specs.ColumnOrder.{colStart, columnPlace, columnPlace-below, columnMarking, setSize}
-use Rattle.layout.specs.ColumnRows.{columnTest, ColumnRoom, ColumnListed}
+use Rattle.layout.specs.ColumnRows.{columnTest, ListColumnInput, ColumnListed}
 use Rattle.entries.specs.Entries.{entryStarts, entryRows, columnCount, position}
 use Rattle.entries.specs.Position.{Positioned}
 
 -- ---- the positions of listed rows
 
 -- the rows listed from `first` to below e rise, and each has a word for its position, which is its place in the list and `shift`
-pub record PositionsRoom (base shift first e : ℕ) (rows s : List ℕ) : Type 0 where
+pub record LayPositionsInput (base shift first e : ℕ) (rows s : List ℕ) : Type 0 where
   pub order : first ≤ e
   pub listed : e ≤ length rows
   pub few : shift + e ≤ maxPairs
@@ -35,8 +35,8 @@ pub record PositionsLaid (base shift first e : ℕ) (rows s₀ s : List ℕ) : T
 -- ---- one column
 
 -- the column's marks start at `place`, and there is room for its rows and their positions
-pub record LayColumn (n place c first : ℕ) (rows s : List ℕ) : Type 0 where
-  pub room : ColumnRoom n place c first rows s
+pub record LayColumnInput (n place c first : ℕ) (rows s : List ℕ) : Type 0 where
+  pub room : ListColumnInput n place c first rows s
   pub few : first + tally (columnTest n s c) c n ≤ maxPairs
 
 -- the positions of column c's members, from `first` on; no other word is changed
@@ -59,7 +59,7 @@ ReachedColumn n c reached s = (r : ℕ) → c ≤ r → r < n → columnMarking 
 -- ---- all columns
 
 -- marks of n columns with a word for each position, and room for the result
-pub record LayOut (n : ℕ) (starts rows s : List ℕ) : Type 0 where
+pub record LayOutInput (n : ℕ) (starts rows s : List ℕ) : Type 0 where
   pub small : n ≤ maxDimension
   pub room : queueStart n + pairTotal n ≤ length s
   pub starts-fit : n + 1 ≤ length starts
@@ -78,7 +78,7 @@ pub record LaidOut (n : ℕ) (starts₀ rows₀ s₀ starts rows s : List ℕ) (
 -- ---- all columns, with no list of their rows
 
 -- a place for where each column starts, and for the rows of one column
-pub record LayFirsts (n : ℕ) (firsts listed s : List ℕ) : Type 0 where
+pub record LayFirstsInput (n : ℕ) (firsts listed s : List ℕ) : Type 0 where
   pub small : n ≤ maxDimension
   pub room : queueStart n + pairTotal n ≤ length s
   pub firsts-fit : n ≤ length firsts

@@ -6,8 +6,8 @@ ghost use lib.ListN.{length};
 ghost use Rattle.lists.specs.Select.{tally};
 ghost use Rattle.pairs.specs.Pair.{maxPairs};
 ghost use Rattle.marked_pairs.specs.MarkedPairs.{ColumnsReached};
-ghost use Rattle.layout.specs.ColumnRows.{columnTest, ColumnRoom, ColumnListed};
-ghost use Rattle.layout.specs.Layout.{ColumnPlaced, ReachedColumn, LayFirsts, FirstsLaid};
+ghost use Rattle.layout.specs.ColumnRows.{columnTest, ListColumnInput, ColumnListed};
+ghost use Rattle.layout.specs.Layout.{ColumnPlaced, ReachedColumn, LayFirstsInput, FirstsLaid};
 use super::lay_positions;
 use pair_places::scratch::queue_start;
 use set_bits::list_bits;
@@ -15,7 +15,7 @@ use words::at;
 
 // Lists the rows of column c's members, whose marks start at `place`, at the front of the list; returns how many they are.
 pub fn list_column(n: usize, place: usize, c: usize, listed: &mut [u32], scratch: &[u32]) -> usize
-    requires { ⌜ ColumnRoom n place c 0 (now listed) (now scratch) ⌝ }
+    requires { ⌜ ListColumnInput n place c 0 (now listed) (now scratch) ⌝ }
     ensures { λ m. ⌜ ColumnListed n c n 0 (now (listed .entry)) (now (scratch .entry)) (now (listed .exit)) m ⌝ }
 {
     list_bits(n, place, c, 0, listed, scratch)
@@ -30,7 +30,7 @@ fn place_column(
     listed: &mut [u32],
     scratch: &mut [u32],
 ) -> usize
-    requires { ⌜ ColumnRoom n place c 0 (now listed) (now scratch) × (first + tally (columnTest n (now scratch) c) c n ≤ maxPairs) ⌝ }
+    requires { ⌜ ListColumnInput n place c 0 (now listed) (now scratch) × (first + tally (columnTest n (now scratch) c) c n ≤ maxPairs) ⌝ }
     ensures { λ m. ⌜ (m ≡ first + tally (columnTest n (now (scratch .entry)) c) c n) × ColumnPlaced n c first (now (scratch .entry)) (now (scratch .exit)) ⌝ }
 {
     let count = list_column(n, place, c, listed, scratch);
@@ -55,7 +55,7 @@ fn place_reached_column(
     listed: &mut [u32],
     scratch: &mut [u32],
 ) -> usize
-    requires { ⌜ ColumnRoom n place c 0 (now listed) (now scratch) × (first + tally (columnTest n (now scratch) c) c n ≤ maxPairs) ⌝ }
+    requires { ⌜ ListColumnInput n place c 0 (now listed) (now scratch) × (first + tally (columnTest n (now scratch) c) c n ≤ maxPairs) ⌝ }
     requires { ⌜ (c < length (now reached)) × ReachedColumn n c (now reached) (now scratch) ⌝ }
     ensures { λ m. ⌜ (m ≡ first + tally (columnTest n (now (scratch .entry)) c) c n) × ColumnPlaced n c first (now (scratch .entry)) (now (scratch .exit)) ⌝ }
 {
@@ -73,7 +73,7 @@ pub fn lay_firsts(
     listed: &mut [u32],
     scratch: &mut [u32],
 ) -> usize
-    requires { ⌜ LayFirsts n (now firsts) (now listed) (now scratch) × (n ≤ length (now reached)) × ColumnsReached n (now scratch) (now reached) ⌝ }
+    requires { ⌜ LayFirstsInput n (now firsts) (now listed) (now scratch) × (n ≤ length (now reached)) × ColumnsReached n (now scratch) (now reached) ⌝ }
     ensures { λ m. ⌜ FirstsLaid n (now (scratch .entry)) (now (firsts .exit)) (now (scratch .exit)) m ⌝ }
 {
     let mut count = 0;

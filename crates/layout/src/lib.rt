@@ -4,7 +4,7 @@ pub mod firsts;
 ghost use Prim.Native.Nat.{_≤_, _<_};
 ghost use lib.ListN.{length};
 ghost use Rattle.marked_pairs.specs.MarkedPairs.{ColumnsReached};
-ghost use Rattle.layout.specs.Layout.{PositionsRoom, PositionsLaid, LayColumn, ColumnLaid, ReachedColumn, LayOut, LaidOut};
+ghost use Rattle.layout.specs.Layout.{LayPositionsInput, PositionsLaid, LayColumnInput, ColumnLaid, ReachedColumn, LayOutInput, LaidOut};
 use pair_places::scratch::queue_start;
 use set_bits::count::count_bits;
 use set_bits::list_bits;
@@ -19,7 +19,7 @@ fn lay_positions(
     rows: &[u32],
     scratch: &mut [u32],
 )
-    requires { ⌜ PositionsRoom base shift first end (now rows) (now scratch) ⌝ }
+    requires { ⌜ LayPositionsInput base shift first end (now rows) (now scratch) ⌝ }
     ensures { λ _. ⌜ PositionsLaid base shift first end (now (rows .entry)) (now (scratch .entry)) (now (scratch .exit)) ⌝ }
 {
     let mut q = first;
@@ -37,15 +37,22 @@ fn lay_column(
     place: usize,
     c: usize,
     first: usize,
-    rows: &mut [u32],
+    result_rows: &mut [u32],
     scratch: &mut [u32],
 ) -> usize
-    requires { ⌜ LayColumn n place c first (now rows) (now scratch) ⌝ }
-    ensures { λ m. ⌜ ColumnLaid n c first (now (rows .entry)) (now (scratch .entry)) (now (rows .exit)) (now (scratch .exit)) m ⌝ }
+    requires { ⌜ LayColumnInput n place c first (now «result_rows») (now scratch) ⌝ }
+    ensures { λ m. ⌜ ColumnLaid n c first (now («result_rows» .entry)) (now (scratch .entry)) (now («result_rows» .exit)) (now (scratch .exit)) m ⌝ }
 {
     let next = first + count_bits(scratch, place, place + (n - c));
-    list_bits(n, place, c, first, rows, scratch);
-    lay_positions(queue_start(n) + (place - c), 0, first, next, rows, scratch);
+    list_bits(n, place, c, first, result_rows, scratch);
+    lay_positions(
+        queue_start(n) + (place - c),
+        0,
+        first,
+        next,
+        result_rows,
+        scratch,
+    );
     next
 }
 
@@ -56,16 +63,16 @@ fn lay_reached_column(
     c: usize,
     first: usize,
     reached: &[u32],
-    rows: &mut [u32],
+    result_rows: &mut [u32],
     scratch: &mut [u32],
 ) -> usize
-    requires { ⌜ LayColumn n place c first (now rows) (now scratch) × (c < length (now reached)) × ReachedColumn n c (now reached) (now scratch) ⌝ }
-    ensures { λ m. ⌜ ColumnLaid n c first (now (rows .entry)) (now (scratch .entry)) (now (rows .exit)) (now (scratch .exit)) m ⌝ }
+    requires { ⌜ LayColumnInput n place c first (now «result_rows») (now scratch) × (c < length (now reached)) × ReachedColumn n c (now reached) (now scratch) ⌝ }
+    ensures { λ m. ⌜ ColumnLaid n c first (now («result_rows» .entry)) (now (scratch .entry)) (now («result_rows» .exit)) (now (scratch .exit)) m ⌝ }
 {
     if at(reached, c) == 0 {
         return first;
     }
-    lay_column(n, place, c, first, rows, scratch)
+    lay_column(n, place, c, first, result_rows, scratch)
 }
 
 // Writes the starts and rows of the set that the marks say, and each member's position, as many words past the queue's start as its place; returns how many members it has.
@@ -73,23 +80,23 @@ fn lay_reached_column(
 pub fn lay_out(
     n: usize,
     reached: &[u32],
-    starts: &mut [u32],
-    rows: &mut [u32],
+    result_starts: &mut [u32],
+    result_rows: &mut [u32],
     scratch: &mut [u32],
 ) -> usize
-    requires { ⌜ LayOut n (now starts) (now rows) (now scratch) × (n ≤ length (now reached)) × ColumnsReached n (now scratch) (now reached) ⌝ }
-    ensures { λ m. ⌜ LaidOut n (now (starts .entry)) (now (rows .entry)) (now (scratch .entry))
-        (now (starts .exit)) (now (rows .exit)) (now (scratch .exit)) m ⌝ }
+    requires { ⌜ LayOutInput n (now «result_starts») (now «result_rows») (now scratch) × (n ≤ length (now reached)) × ColumnsReached n (now scratch) (now reached) ⌝ }
+    ensures { λ m. ⌜ LaidOut n (now («result_starts» .entry)) (now («result_rows» .entry)) (now (scratch .entry))
+        (now («result_starts» .exit)) (now («result_rows» .exit)) (now (scratch .exit)) m ⌝ }
 {
     let mut count = 0;
     let mut place = 0;
     let mut c = 0;
     while c < n {
-        starts[c] = count as u32;
-        count = lay_reached_column(n, place, c, count, reached, rows, scratch);
+        result_starts[c] = count as u32;
+        count = lay_reached_column(n, place, c, count, reached, result_rows, scratch);
         place += n - c;
         c += 1;
     }
-    starts[n] = count as u32;
+    result_starts[n] = count as u32;
     count
 }

@@ -31,7 +31,7 @@ abbrev pub wordDepends : (ℕ → List ℕ) → ℕ → ℕ → ℕ → Bool
 wordDepends desc w x y = depends desc (rowOf w) (columnOf w) x y
 
 -- a factor, a pair of the closed set, the level of its dependencies, and the words that they are inserted into
-pub record ClosePair (n : ℕ) (starts rows : List ℕ) (values r c level : ℕ) (s : List ℕ) (count : ℕ) : Type 0 where
+pub record ClosePairInput (n : ℕ) (starts rows : List ℕ) (values r c level : ℕ) (s : List ℕ) (count : ℕ) : Type 0 where
   pub small : n ≤ maxDimension
   pub factor : Factor n starts rows values
   pub ordered : c ≤ r
@@ -40,7 +40,7 @@ pub record ClosePair (n : ℕ) (starts rows : List ℕ) (values r c level : ℕ)
   pub levels : Levelled n s count
 
 -- an entry of a factor's column c, a pair of that column, the level of its dependency, and the words that it is inserted into
-pub record CloseEntry (n : ℕ) (rows : List ℕ) (values r c p level : ℕ) (s : List ℕ) (count : ℕ) : Type 0 where
+pub record CloseEntryInput (n : ℕ) (rows : List ℕ) (values r c p level : ℕ) (s : List ℕ) (count : ℕ) : Type 0 where
   pub small : n ≤ maxDimension
   pub stored : p < length rows
   pub weighed : p < values
@@ -50,7 +50,7 @@ pub record CloseEntry (n : ℕ) (rows : List ℕ) (values r c p level : ℕ) (s 
   pub levels : Levelled n s count
 
 -- a factor, the next level, and the words whose queue it is taken from, up to hi
-pub record CloseLevel (n : ℕ) (starts rows : List ℕ) (values lo hi level : ℕ) (s : List ℕ) : Type 0 where
+pub record CloseLevelInput (n : ℕ) (starts rows : List ℕ) (values lo hi level : ℕ) (s : List ℕ) : Type 0 where
   pub small : n ≤ maxDimension
   pub factor : Factor n starts rows values
   pub rises : lo ≤ hi
@@ -73,15 +73,15 @@ pub record AtLevel (n : ℕ) (desc : ℕ → List ℕ) (req : ℕ → ℕ → Bo
   pub all : (r c : ℕ) → c ≤ r → r < n → levelWord n s r c ≡ suc k → (j : ℕ) × (lo ≤ j) × (j < hi) × (levelQueue n s j ≡ packed r c)
 
 -- requests, and words for the levels of their pairs
-pub record MarkLevels (n : ℕ) (rs cs s : List ℕ) : Type 0 where
+pub record MarkLevelsInput (n : ℕ) (rs cs s : List ℕ) : Type 0 where
   pub small : n ≤ maxDimension
   pub requests : Requests n rs cs
   pub room : pairTotal n + pairTotal n ≤ length s
 
 -- a factor and requests, and words for the levels of the pairs of their closed set
-pub record LevelPairs (n : ℕ) (starts rows : List ℕ) (values : ℕ) (rs cs s : List ℕ) : Type 0 where
+pub record LevelPairsInput (n : ℕ) (starts rows : List ℕ) (values : ℕ) (rs cs s : List ℕ) : Type 0 where
   pub factor : Factor n starts rows values
-  pub marks : MarkLevels n rs cs s
+  pub marks : MarkLevelsInput n rs cs s
 
 -- every pair of the closed set has a level, 1 more than its distance from the requested pairs, and no other pair has one
 pub record AllLevels (n : ℕ) (desc : ℕ → List ℕ) (req : ℕ → ℕ → Bool) (s₀ s : List ℕ) : Type 0 where

@@ -55,7 +55,7 @@ pub record Raised (n level : ℕ) (S : ℕ → ℕ → Bool) (s : List ℕ) (cou
   pub later : drop (pairTotal n + pairTotal n) s′ ≡ drop (pairTotal n + pairTotal n) s
 
 -- a pair, the level it is given, and the words that it is inserted into
-pub record InsertLevel (n a b level : ℕ) (s : List ℕ) (count : ℕ) : Type 0 where
+pub record InsertLevelInput (n a b level : ℕ) (s : List ℕ) (count : ℕ) : Type 0 where
   pub small : n ≤ maxDimension
   pub first : a < n
   pub second : b < n

@@ -7,7 +7,7 @@ ghost use Rattle.columns.specs.Columns.{row};
 ghost use Rattle.columns.specs.Kept.{nonzero, keptBelow, pattern};
 ghost use Rattle.closed_set.specs.Requests.{requested};
 ghost use Rattle.levels.specs.Levels.{levelQueue, Raised};
-ghost use Rattle.levels.specs.Closing.{depends, wordDepends, ClosePair, CloseEntry, CloseLevel, LevelPairs, LevelOne, MarkLevels, AllLevels};
+ghost use Rattle.levels.specs.Closing.{depends, wordDepends, ClosePairInput, CloseEntryInput, CloseLevelInput, LevelPairsInput, LevelOne, MarkLevelsInput, AllLevels};
 use super::insert_level;
 use kept_entries::kept_below;
 use pair_places::PACKING;
@@ -22,7 +22,7 @@ pub fn mark_levels(
     request_columns: &[u32],
     scratch: &mut [u32],
 ) -> usize
-    requires { ⌜ MarkLevels n (now «request_rows») (now «request_columns») (now scratch) ⌝ }
+    requires { ⌜ MarkLevelsInput n (now «request_rows») (now «request_columns») (now scratch) ⌝ }
     ensures { λ m. ⌜ LevelOne n (requested (now («request_rows» .entry)) (now («request_columns» .entry)))
         (now (scratch .entry)) (now (scratch .exit)) m ⌝ }
 {
@@ -55,7 +55,7 @@ fn close_entry(
     count: usize,
     scratch: &mut [u32],
 ) -> usize
-    requires { ⌜ CloseEntry n (now rows) (length (now values)) r c p level (now scratch) count ⌝ }
+    requires { ⌜ CloseEntryInput n (now rows) (length (now values)) r c p level (now scratch) count ⌝ }
     ensures { λ m. ⌜ Raised n level (λ x y. keptBelow (now (rows .entry)) (nonzero (now (values .entry))) c p && ordered r (row (now (rows .entry)) p) x y)
         (now (scratch .entry)) count (now (scratch .exit)) m ⌝ }
 {
@@ -77,7 +77,7 @@ fn close_pair(
     count: usize,
     scratch: &mut [u32],
 ) -> usize
-    requires { ⌜ ClosePair n (now starts) (now rows) (length (now values)) r c level (now scratch) count ⌝ }
+    requires { ⌜ ClosePairInput n (now starts) (now rows) (length (now values)) r c level (now scratch) count ⌝ }
     ensures { λ m. ⌜ Raised n level (depends (pattern (now (starts .entry)) (now (rows .entry)) (nonzero (now (values .entry)))) r c)
         (now (scratch .entry)) count (now (scratch .exit)) m ⌝ }
 {
@@ -102,7 +102,7 @@ fn close_level(
     level: u32,
     scratch: &mut [u32],
 ) -> usize
-    requires { ⌜ CloseLevel n (now starts) (now rows) (length (now values)) lo hi level (now scratch) ⌝ }
+    requires { ⌜ CloseLevelInput n (now starts) (now rows) (length (now values)) lo hi level (now scratch) ⌝ }
     ensures { λ m. ⌜ Raised n level
         (λ x y. anyIn (λ j. wordDepends (pattern (now (starts .entry)) (now (rows .entry)) (nonzero (now (values .entry)))) (levelQueue n (now (scratch .entry)) j) x y) lo hi)
         (now (scratch .entry)) hi (now (scratch .exit)) m ⌝ }
@@ -138,7 +138,7 @@ pub fn level_pairs(
     request_columns: &[u32],
     scratch: &mut [u32],
 )
-    requires { ⌜ LevelPairs n (now starts) (now rows) (length (now values)) (now «request_rows») (now «request_columns») (now scratch) ⌝ }
+    requires { ⌜ LevelPairsInput n (now starts) (now rows) (length (now values)) (now «request_rows») (now «request_columns») (now scratch) ⌝ }
     ensures { λ _. ⌜ AllLevels n (pattern (now (starts .entry)) (now (rows .entry)) (nonzero (now (values .entry))))
         (requested (now («request_rows» .entry)) (now («request_columns» .entry))) (now (scratch .entry)) (now (scratch .exit)) ⌝ }
 {

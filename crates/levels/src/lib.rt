@@ -4,7 +4,7 @@ pub mod closing;
 
 ghost use Prim.Native.Nat.{_≤_};
 ghost use Rattle.pairs.specs.Pair.{ordered};
-ghost use Rattle.levels.specs.Levels.{InsertLevel, Raised};
+ghost use Rattle.levels.specs.Levels.{InsertLevelInput, Raised};
 use pair_places::PACKING;
 use pair_places::column_place;
 use pair_places::pair_total;
@@ -18,7 +18,7 @@ fn insert_ordered_level(
     count: usize,
     scratch: &mut [u32],
 ) -> usize
-    requires { ⌜ (c ≤ r) × InsertLevel n r c level (now scratch) count ⌝ }
+    requires { ⌜ (c ≤ r) × InsertLevelInput n r c level (now scratch) count ⌝ }
     ensures { λ m. ⌜ Raised n level (ordered r c) (now (scratch .entry)) count (now (scratch .exit)) m ⌝ }
 {
     let p = column_place(n, r, c);
@@ -41,7 +41,7 @@ pub fn insert_level(
     count: usize,
     scratch: &mut [u32],
 ) -> usize
-    requires { ⌜ InsertLevel n a b level (now scratch) count ⌝ }
+    requires { ⌜ InsertLevelInput n a b level (now scratch) count ⌝ }
     ensures { λ m. ⌜ Raised n level (ordered a b) (now (scratch .entry)) count (now (scratch .exit)) m ⌝ }
 {
     if a < b {

@@ -52,7 +52,7 @@ pub record AlsoMarked (n : ℕ) (S : ℕ → ℕ → Bool) (w w′ : List ℕ) (
   pub marked : Marked n w′ count
 
 -- a pair and the words that it is inserted into
-pub record Insert (n a b : ℕ) (s : List ℕ) (count : ℕ) : Type 0 where
+pub record InsertInput (n a b : ℕ) (s : List ℕ) (count : ℕ) : Type 0 where
   pub small : n ≤ maxDimension
   pub first : a < n
   pub second : b < n

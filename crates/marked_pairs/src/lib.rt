@@ -5,7 +5,7 @@ ghost use lib.ListN.{length};
 ghost use Rattle.refusal.specs.Bounds.{maxDimension};
 ghost use Rattle.pairs.specs.Pair.{pairTotal};
 ghost use Rattle.pairs.specs.Scratch.{queueStart};
-ghost use Rattle.marked_pairs.specs.MarkedPairs.{Insert, Inserted, MarkedPairs};
+ghost use Rattle.marked_pairs.specs.MarkedPairs.{InsertInput, Inserted, MarkedPairs};
 use pair_places::PACKING;
 use pair_places::column_place;
 use pair_places::scratch::mark_words;
@@ -24,7 +24,7 @@ pub fn clear_pairs(n: usize, scratch: &mut [u32])
 
 // Marks the pair (r, c), in order, and puts it at the queue's end, unless it is marked; returns how many are marked.
 fn insert_ordered_pair(n: usize, r: usize, c: usize, count: usize, scratch: &mut [u32]) -> usize
-    requires { ⌜ (c ≤ r) × Insert n r c (now scratch) count ⌝ }
+    requires { ⌜ (c ≤ r) × InsertInput n r c (now scratch) count ⌝ }
     ensures { λ m. ⌜ Inserted n r c (now (scratch .entry)) count (now (scratch .exit)) m ⌝ }
 {
     let p = column_place(n, r, c);
@@ -40,7 +40,7 @@ fn insert_ordered_pair(n: usize, r: usize, c: usize, count: usize, scratch: &mut
 
 // The same for a pair in either order.
 pub fn insert_closure_pair(n: usize, a: usize, b: usize, count: usize, scratch: &mut [u32]) -> usize
-    requires { ⌜ Insert n a b (now scratch) count ⌝ }
+    requires { ⌜ InsertInput n a b (now scratch) count ⌝ }
     ensures { λ m. ⌜ Inserted n a b (now (scratch .entry)) count (now (scratch .exit)) m ⌝ }
 {
     if a < b {

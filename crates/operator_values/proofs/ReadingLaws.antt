@@ -7,12 +7,12 @@ use lib.ListN.{length, getD}
 use Rattle.columns.specs.Columns.{start}
 use Rattle.columns.specs.Factor.{starts-end}
 use Rattle.columns.specs.Operator.{operatorRows}
-use Rattle.operator_values.specs.Reading.{RowsReading, OperatorReading, OperatorsReading}
+use Rattle.operator_values.specs.Reading.{CrossValueInput, OperatorValuesInput, RowPairValuesInput}
 
 -- one place of the first row
 pub one-place : {n : ℕ} {aColumns : List ℕ} {aWeights : ℕ} {bColumns : List ℕ} {bWeights : ℕ} {scratch : List ℕ} {size s e t f : ℕ}
-    → RowsReading n aColumns aWeights bColumns bWeights scratch size s e t f → (a : ℕ) → s ≤ a → a < e
-    → RowsReading n aColumns aWeights bColumns bWeights scratch size a (a + 1) t f
+    → CrossValueInput n aColumns aWeights bColumns bWeights scratch size s e t f → (a : ℕ) → s ≤ a → a < e
+    → CrossValueInput n aColumns aWeights bColumns bWeights scratch size a (a + 1) t f
 one-place R a h l =
     record {
       small = R .small;
@@ -28,8 +28,8 @@ one-place R a h l =
 
 -- a row with itself
 pub row-reading : {n : ℕ} {rowStarts columns : List ℕ} {weights : ℕ} {scratch : List ℕ} {size room : ℕ}
-    → OperatorReading n rowStarts columns weights scratch size room → (i : ℕ) → i < operatorRows rowStarts
-    → RowsReading n columns weights columns weights scratch size (start rowStarts i) (start rowStarts (i + 1)) (start rowStarts i) (start rowStarts (i + 1))
+    → OperatorValuesInput n rowStarts columns weights scratch size room → (i : ℕ) → i < operatorRows rowStarts
+    → CrossValueInput n columns weights columns weights scratch size (start rowStarts i) (start rowStarts (i + 1)) (start rowStarts i) (start rowStarts (i + 1))
 row-reading R i h =
     let O = R .operator in
     let end = starts-end (O .starts-rise) (i + 1) (omega arith) in
@@ -50,8 +50,8 @@ row-reading R i h =
 
 -- a row pair
 pub pair-reading : {n : ℕ} {aStarts aColumns : List ℕ} {aWeights : ℕ} {bStarts bColumns : List ℕ} {bWeights : ℕ} {aRows bRows scratch : List ℕ} {size room : ℕ}
-    → OperatorsReading n aStarts aColumns aWeights bStarts bColumns bWeights aRows bRows scratch size room → (p : ℕ) → p < length aRows
-    → RowsReading n aColumns aWeights bColumns bWeights scratch size (start aStarts (getD aRows p 0)) (start aStarts (getD aRows p 0 + 1)) (start bStarts (getD bRows p 0)) (start bStarts (getD bRows p 0 + 1))
+    → RowPairValuesInput n aStarts aColumns aWeights bStarts bColumns bWeights aRows bRows scratch size room → (p : ℕ) → p < length aRows
+    → CrossValueInput n aColumns aWeights bColumns bWeights scratch size (start aStarts (getD aRows p 0)) (start aStarts (getD aRows p 0 + 1)) (start bStarts (getD bRows p 0)) (start bStarts (getD bRows p 0 + 1))
 pair-reading {aRows = aRows} {bRows = bRows} R p h =
     let A = R .pairs .first in
     let B = R .pairs .second in

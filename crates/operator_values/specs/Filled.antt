@@ -24,9 +24,9 @@ use Rattle.entries.specs.Position.{Positioned, position-below, entryValues-at}
 use Rattle.takahashi.specs.Recurrence.{at}
 use Rattle.request_marks.specs.OperatorRequests.{operatorRequested, places-requested}
 use Rattle.quadratic_form.specs.CrossValue.{crossValue-cong}
-use Rattle.quadratic_form.specs.RowValue.{termColumn, operatorValues, operatorsValues}
+use Rattle.quadratic_form.specs.RowValue.{termColumn, operatorValues, rowPairValues}
 use Rattle.request_marks.specs.CrossRequests.{crossRequested, cross-requested, OperatorPairs}
-use Rattle.operator_values.specs.Reading.{OperatorReading, OperatorsReading}
+use Rattle.operator_values.specs.Reading.{OperatorValuesInput, RowPairValuesInput}
 
 -- a set of pairs, its members' positions, and a list with room for their entries
 module _ (n : ℕ) (S : ℕ → ℕ → Bool) (Z : ℕ → ℕ → Float) (scratch : List ℕ) (values : List Float) (fits : setSize n S ≤ length values) (P : Positioned n S scratch) where
@@ -72,7 +72,7 @@ module _ (n : ℕ) (S : ℕ → ℕ → Bool) (Z : ℕ → ℕ → Float) (scrat
 
     -- they can be read
     pub filled-reading : (room : ℕ) → n ≤ maxDimension → queueStart n + pairTotal n ≤ length scratch → operatorRows rowStarts ≤ room
-        → OperatorReading n rowStarts columns (length weights) scratch (length values′) room
+        → OperatorValuesInput n rowStarts columns (length weights) scratch (length values′) room
     filled-reading room small words h = record {
       small = small;
       operator = O;
@@ -107,7 +107,7 @@ module _ (n : ℕ) (S : ℕ → ℕ → Bool) (Z : ℕ → ℕ → Float) (scrat
         record { inside = omega arith; member = H _ _ (cross-requested aStarts aColumns bStarts bColumns aRows bRows p a b l la ha lb hb) }
 
     pub filled-pairs-reading : (room : ℕ) → n ≤ maxDimension → queueStart n + pairTotal n ≤ length scratch → length aRows ≤ room
-        → OperatorsReading n aStarts aColumns (length aWeights) bStarts bColumns (length bWeights) aRows bRows scratch (length values′) room
+        → RowPairValuesInput n aStarts aColumns (length aWeights) bStarts bColumns (length bWeights) aRows bRows scratch (length values′) room
     filled-pairs-reading room small words h = record {
       small = small;
       pairs = O;
@@ -116,9 +116,9 @@ module _ (n : ℕ) (S : ℕ → ℕ → Bool) (Z : ℕ → ℕ → Float) (scrat
       fits = h;
     }
 
-    pub filled-pairs-values : operatorsValues aStarts aColumns aWeights bStarts bColumns bWeights aRows bRows (inverseAt nan n scratch values′)
-        ≡ operatorsValues aStarts aColumns aWeights bStarts bColumns bWeights aRows bRows Z
-    unfolding operatorsValues
+    pub filled-pairs-values : rowPairValues aStarts aColumns aWeights bStarts bColumns bWeights aRows bRows (inverseAt nan n scratch values′)
+        ≡ rowPairValues aStarts aColumns aWeights bStarts bColumns bWeights aRows bRows Z
+    unfolding rowPairValues
     filled-pairs-values =
         tabulate-cong _ _ (length aRows)
         (λ p l.

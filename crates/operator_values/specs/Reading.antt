@@ -14,7 +14,7 @@ use Rattle.request_marks.specs.CrossRequests.{OperatorPairs}
 use Rattle.quadratic_form.specs.RowValue.{termColumn}
 
 -- places from s to below e of one operator and from t to below f of another, the pairs of whose columns can be read among `size` entries
-pub record RowsReading (n : ℕ) (aColumns : List ℕ) (aWeights : ℕ) (bColumns : List ℕ) (bWeights : ℕ) (scratch : List ℕ) (size s e t f : ℕ) : Type 0 where
+pub record CrossValueInput (n : ℕ) (aColumns : List ℕ) (aWeights : ℕ) (bColumns : List ℕ) (bWeights : ℕ) (scratch : List ℕ) (size s e t f : ℕ) : Type 0 where
   pub small : n ≤ maxDimension
   pub ordered : s ≤ e
   pub stored : e ≤ length aColumns
@@ -26,7 +26,7 @@ pub record RowsReading (n : ℕ) (aColumns : List ℕ) (aWeights : ℕ) (bColumn
   pub reads : (a b : ℕ) → s ≤ a → a < e → t ≤ b → b < f → PairEntryInput n (termColumn aColumns a) (termColumn bColumns b) scratch size
 
 -- an operator past its checks, whose rows' pairs can be read, and an output of `room` places
-pub record OperatorReading (n : ℕ) (rowStarts columns : List ℕ) (weights : ℕ) (scratch : List ℕ) (size room : ℕ) : Type 0 where
+pub record OperatorValuesInput (n : ℕ) (rowStarts columns : List ℕ) (weights : ℕ) (scratch : List ℕ) (size room : ℕ) : Type 0 where
   pub small : n ≤ maxDimension
   pub operator : OperatorRows n rowStarts columns weights
   pub words : queueStart n + pairTotal n ≤ length scratch
@@ -35,7 +35,7 @@ pub record OperatorReading (n : ℕ) (rowStarts columns : List ℕ) (weights : �
   pub fits : operatorRows rowStarts ≤ room
 
 -- two operators past their checks, row pairs inside them, whose columns' pairs can be read, and an output of `room` places
-pub record OperatorsReading (n : ℕ) (aStarts aColumns : List ℕ) (aWeights : ℕ) (bStarts bColumns : List ℕ) (bWeights : ℕ) (aRows bRows scratch : List ℕ) (size room : ℕ) : Type 0 where
+pub record RowPairValuesInput (n : ℕ) (aStarts aColumns : List ℕ) (aWeights : ℕ) (bStarts bColumns : List ℕ) (bWeights : ℕ) (aRows bRows scratch : List ℕ) (size room : ℕ) : Type 0 where
   pub small : n ≤ maxDimension
   pub pairs : OperatorPairs n aStarts aColumns aWeights bStarts bColumns bWeights aRows bRows
   pub words : queueStart n + pairTotal n ≤ length scratch

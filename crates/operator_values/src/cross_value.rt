@@ -8,7 +8,7 @@ ghost use Rattle.columns.specs.Columns.{value};
 ghost use Rattle.exact.specs.Exact.{floats};
 ghost use Rattle.quadratic_form.specs.CrossValue.{withTerms, crossValue};
 ghost use Rattle.quadratic_form.specs.RowValue.{termColumn};
-ghost use Rattle.operator_values.specs.Reading.{RowsReading};
+ghost use Rattle.operator_values.specs.Reading.{CrossValueInput};
 use pair_places::positions::column_shift;
 use pair_places::positions::pair_position;
 use pair_places::scratch::queue_start;
@@ -25,12 +25,12 @@ fn add_terms(
     t: usize,
     f: usize,
     scratch: &[u32],
-    inverse: &[f64],
+    result_values: &[f64],
     first: f64,
 ) -> f64
-    requires { ⌜ RowsReading n (now «a_columns») (length (now «a_weights»)) (now «b_columns») (length (now «b_weights»)) (now scratch) (length (now inverse)) a (a + 1) t f ⌝ }
+    requires { ⌜ CrossValueInput n (now «a_columns») (length (now «a_weights»)) (now «b_columns») (length (now «b_weights»)) (now scratch) (length (now «result_values»)) a (a + 1) t f ⌝ }
     ensures { λ sum. ⌜ sum ≡ withTerms floats (termColumn (now («a_columns» .entry))) (termColumn (now («b_columns» .entry))) (value (now («a_weights» .entry))) (value (now («b_weights» .entry)))
-        (inverseAt nan n (now (scratch .entry)) (now (inverse .entry))) t f a first ⌝ }
+        (inverseAt nan n (now (scratch .entry)) (now («result_values» .entry))) t f a first ⌝ }
 {
     let x = a_weights[a];
     let i = at(a_columns, a);
@@ -41,7 +41,7 @@ fn add_terms(
     while b < f {
         let y = b_weights[b];
         let position = pair_position(n, positions, base, i, at(b_columns, b), scratch);
-        sum = sum + x * y * inverse[position];
+        sum = sum + x * y * result_values[position];
         b += 1;
     }
     sum
@@ -59,11 +59,11 @@ pub fn cross_value(
     t: usize,
     f: usize,
     scratch: &[u32],
-    inverse: &[f64],
+    result_values: &[f64],
 ) -> f64
-    requires { ⌜ RowsReading n (now «a_columns») (length (now «a_weights»)) (now «b_columns») (length (now «b_weights»)) (now scratch) (length (now inverse)) s e t f ⌝ }
+    requires { ⌜ CrossValueInput n (now «a_columns») (length (now «a_weights»)) (now «b_columns») (length (now «b_weights»)) (now scratch) (length (now «result_values»)) s e t f ⌝ }
     ensures { λ v. ⌜ v ≡ crossValue floats (termColumn (now («a_columns» .entry))) (termColumn (now («b_columns» .entry))) (value (now («a_weights» .entry))) (value (now («b_weights» .entry)))
-        (inverseAt nan n (now (scratch .entry)) (now (inverse .entry))) s e t f ⌝ }
+        (inverseAt nan n (now (scratch .entry)) (now («result_values» .entry))) s e t f ⌝ }
 {
     let mut sum = 0.0;
     let mut a = s;
@@ -78,7 +78,7 @@ pub fn cross_value(
             t,
             f,
             scratch,
-            inverse,
+            result_values,
             sum,
         );
         a += 1;

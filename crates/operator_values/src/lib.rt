@@ -10,8 +10,8 @@ ghost use Rattle.lists.specs.Overwrite.{overwrite};
 ghost use Rattle.pairs.specs.Positions.{inverseAt};
 ghost use Rattle.columns.specs.Columns.{start};
 ghost use Rattle.columns.specs.Operator.{operatorRows};
-ghost use Rattle.quadratic_form.specs.RowValue.{operatorValues, operatorsValue, operatorsValues};
-ghost use Rattle.operator_values.specs.Reading.{RowsReading, OperatorReading, OperatorsReading};
+ghost use Rattle.quadratic_form.specs.RowValue.{operatorValues, rowPairValue, rowPairValues};
+ghost use Rattle.operator_values.specs.Reading.{CrossValueInput, OperatorValuesInput, RowPairValuesInput};
 use cross_value::cross_value;
 use operator_check::operator_rows;
 use words::at;
@@ -23,12 +23,12 @@ pub fn operator_values(
     columns: &[u32],
     weights: &[f64],
     scratch: &[u32],
-    inverse: &[f64],
+    result_values: &[f64],
     output: &mut [f64],
 )
-    requires { ⌜ OperatorReading n (now «row_starts») (now columns) (length (now weights)) (now scratch) (length (now inverse)) (length (now output)) ⌝ }
+    requires { ⌜ OperatorValuesInput n (now «row_starts») (now columns) (length (now weights)) (now scratch) (length (now «result_values»)) (length (now output)) ⌝ }
     ensures { λ _. ⌜ now (output .exit) ≡ overwrite (operatorValues (now («row_starts» .entry)) (now (columns .entry)) (now (weights .entry))
-        (inverseAt nan n (now (scratch .entry)) (now (inverse .entry)))) (now (output .entry)) ⌝ }
+        (inverseAt nan n (now (scratch .entry)) (now («result_values» .entry)))) (now (output .entry)) ⌝ }
 {
     let last = operator_rows(row_starts);
     let mut i = 0;
@@ -46,7 +46,7 @@ pub fn operator_values(
             s,
             e,
             scratch,
-            inverse,
+            result_values,
         );
         i += 1;
     }
@@ -64,13 +64,13 @@ fn pair_value(
     b_weights: &[f64],
     j: usize,
     scratch: &[u32],
-    inverse: &[f64],
+    result_values: &[f64],
 ) -> f64
     requires { ⌜ (i < operatorRows (now «a_row_starts»)) × (j < operatorRows (now «b_row_starts»)) ⌝ }
-    requires { ⌜ RowsReading n (now «a_columns») (length (now «a_weights»)) (now «b_columns») (length (now «b_weights»)) (now scratch) (length (now inverse))
+    requires { ⌜ CrossValueInput n (now «a_columns») (length (now «a_weights»)) (now «b_columns») (length (now «b_weights»)) (now scratch) (length (now «result_values»))
         (start (now «a_row_starts») i) (start (now «a_row_starts») (i + 1)) (start (now «b_row_starts») j) (start (now «b_row_starts») (j + 1)) ⌝ }
-    ensures { λ v. ⌜ v ≡ operatorsValue (now («a_row_starts» .entry)) (now («a_columns» .entry)) (now («a_weights» .entry))
-        (now («b_row_starts» .entry)) (now («b_columns» .entry)) (now («b_weights» .entry)) (inverseAt nan n (now (scratch .entry)) (now (inverse .entry))) i j ⌝ }
+    ensures { λ v. ⌜ v ≡ rowPairValue (now («a_row_starts» .entry)) (now («a_columns» .entry)) (now («a_weights» .entry))
+        (now («b_row_starts» .entry)) (now («b_columns» .entry)) (now («b_weights» .entry)) (inverseAt nan n (now (scratch .entry)) (now («result_values» .entry))) i j ⌝ }
 {
     let s = at(a_row_starts, i);
     let e = at(a_row_starts, i + 1);
@@ -87,12 +87,12 @@ fn pair_value(
         t,
         f,
         scratch,
-        inverse,
+        result_values,
     )
 }
 
 // Writes the value of each row pair, row a_rows[p] of the first operator and row b_rows[p] of the second, to the front of the output.
-pub fn operators_values(
+pub fn row_pair_values(
     n: usize,
     a_row_starts: &[u32],
     a_columns: &[u32],
@@ -103,14 +103,14 @@ pub fn operators_values(
     a_rows: &[u32],
     b_rows: &[u32],
     scratch: &[u32],
-    inverse: &[f64],
+    result_values: &[f64],
     output: &mut [f64],
 )
-    requires { ⌜ OperatorsReading n (now «a_row_starts») (now «a_columns») (length (now «a_weights»)) (now «b_row_starts») (now «b_columns») (length (now «b_weights»))
-        (now «a_rows») (now «b_rows») (now scratch) (length (now inverse)) (length (now output)) ⌝ }
-    ensures { λ _. ⌜ now (output .exit) ≡ overwrite (operatorsValues (now («a_row_starts» .entry)) (now («a_columns» .entry)) (now («a_weights» .entry))
+    requires { ⌜ RowPairValuesInput n (now «a_row_starts») (now «a_columns») (length (now «a_weights»)) (now «b_row_starts») (now «b_columns») (length (now «b_weights»))
+        (now «a_rows») (now «b_rows») (now scratch) (length (now «result_values»)) (length (now output)) ⌝ }
+    ensures { λ _. ⌜ now (output .exit) ≡ overwrite (rowPairValues (now («a_row_starts» .entry)) (now («a_columns» .entry)) (now («a_weights» .entry))
         (now («b_row_starts» .entry)) (now («b_columns» .entry)) (now («b_weights» .entry)) (now («a_rows» .entry)) (now («b_rows» .entry))
-        (inverseAt nan n (now (scratch .entry)) (now (inverse .entry)))) (now (output .entry)) ⌝ }
+        (inverseAt nan n (now (scratch .entry)) (now («result_values» .entry)))) (now (output .entry)) ⌝ }
 {
     let mut p = 0;
     while p < a_rows.len() {
@@ -125,7 +125,7 @@ pub fn operators_values(
             b_weights,
             at(b_rows, p),
             scratch,
-            inverse,
+            result_values,
         );
         p += 1;
     }

@@ -22,7 +22,7 @@ use Rattle.selection.specs.Selection.{Selection, Lent, roomOf, scratchWords, se
 use Rattle.selection.specs.Selection.{ResultLists, complete-values}
 use Rattle.request_marks.specs.OperatorRequests.{operatorRequested}
 use Rattle.quadratic_form.specs.RowValue.{operatorValues}
-use Rattle.operator_values.specs.Reading.{OperatorReading}
+use Rattle.operator_values.specs.Reading.{OperatorValuesInput}
 use Rattle.operator_values.specs.Filled.{filled-reading, filled-values}
 use Rattle.operator_variances.specs.Transformed.{TransformedCall, transformedSelection, transformedSteps, transformedValues, AcceptedTransformed}
 
@@ -54,7 +54,7 @@ module _ (x : TransformedCall) (lent : Lent) (output : List Float) where
     values-are = complete-values steps (fillingOf sel) lent passed L complete
 
     pub transformed-reading : length mid ≡ length (lent .scratch)
-        → OperatorReading (x .factor .n) (x .rowStarts) (x .columns) (length (x .weights)) mid (length rv) (length output)
+        → OperatorValuesInput (x .factor .n) (x .rowStarts) (x .columns) (length (x .weights)) mid (length rv) (length output)
     transformed-reading long =
         rw values-are
         (filled-reading (x .factor .n) (selectedSet sel) (selectedTable sel) mid (lent .resultValues) values-fit P (x .rowStarts) (x .columns) (x .weights)

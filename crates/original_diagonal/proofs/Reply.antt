@@ -28,7 +28,7 @@ use Rattle.selection.specs.Selection.{selectedPattern, Selection, Lent, roomOf,
 use Rattle.selection.specs.Selection.{ResultLists, lists-refused, complete-starts, complete-values}
 use Rattle.diagnostics.specs.declared.Selected.the-variants.{Answered, Refused}
 use Rattle.request_marks.specs.DiagonalMarks.{diagonal-requested, diagonals-ranged}
-use Rattle.original_diagonal.specs.Original.{OriginalCall, originalSelection, originalSteps, factorDiagonal, OriginalDiagonal, FirstEntries, firstEntries}
+use Rattle.original_diagonal.specs.Original.{OriginalCall, originalSelection, originalSteps, factorDiagonal, OriginalDiagonal, WriteOriginalInput, firstEntries}
 use Rattle.original_diagonal.specs.Original.{AcceptedOriginal, original-inside}
 
 module _ (x : OriginalCall) (lent : Lent) (output : List Float) where
@@ -105,7 +105,7 @@ module _ (x : OriginalCall) (lent : Lent) (output : List Float) where
       inside : (i : ℕ) → i < x .factor .n → index (x .perm) i < x .factor .n
       inside = original-inside A
 
-      pub original-input : FirstEntries (x .factor .n) (x .perm) (left .resultStarts) (left .resultValues) output
+      pub original-input : WriteOriginalInput (x .factor .n) (x .perm) (left .resultStarts) (left .resultValues) output
       original-input = record {
         long = A .long;
         room = A .room;

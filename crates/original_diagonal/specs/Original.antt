@@ -80,7 +80,7 @@ pub record OriginalDiagonal (x : OriginalCall) (lent : Lent) (output : List Floa
 -- ---- the first entry of each column, in original order
 
 -- what is read: a list of starts and one of values at those places
-pub record FirstEntries (n : ℕ) (perm starts : List ℕ) (values output : List Float) : Type 0 where
+pub record WriteOriginalInput (n : ℕ) (perm starts : List ℕ) (values output : List Float) : Type 0 where
   pub long : length perm ≡ n
   pub room : n ≤ length output
   pub columns : (i : ℕ) → i < n → index perm i < length starts

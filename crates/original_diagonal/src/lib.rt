@@ -4,7 +4,7 @@ ghost use Rattle.lists.specs.Overwrite.{overwrite};
 ghost use Rattle.refusal.specs.Steps.{verdict};
 ghost use Rattle.refusal.specs.Refusal.{replyOf};
 ghost use Rattle.selection.specs.Selection.{lists, room};
-ghost use Rattle.original_diagonal.specs.Original.{originalCall, originalSteps, OriginalDiagonal, FirstEntries, firstEntries};
+ghost use Rattle.original_diagonal.specs.Original.{originalCall, originalSteps, OriginalDiagonal, WriteOriginalInput, firstEntries};
 use diagnostics::Selected;
 use diagnostics::SelectedInverseStatus;
 use factor_check::check_factor;
@@ -64,7 +64,7 @@ fn write_original(
     result_values: &[f64],
     output: &mut [f64],
 )
-    requires { ⌜ FirstEntries n (now «orig_to_perm») (now «result_starts») (now «result_values») (now output) ⌝ }
+    requires { ⌜ WriteOriginalInput n (now «orig_to_perm») (now «result_starts») (now «result_values») (now output) ⌝ }
     ensures { λ _. ⌜ now (output .exit) ≡ overwrite (firstEntries n (now («orig_to_perm» .entry)) (now («result_starts» .entry)) (now («result_values» .entry)))
         (now (output .entry)) ⌝ }
 {

@@ -16,7 +16,7 @@ use Rattle.pairs.specs.Marks.{marking}
 use Rattle.set_bits.specs.Zeros.{Zeros}
 use Rattle.set_bits.specs.Listed.{NumbersListed}
 use Rattle.set_bits.specs.BitsListed.{bitsTest, ListBitsInput}
-use Rattle.pattern_lists.specs.Listing.{RowRoom, RowReached, RowListed, PairsRoom}
+use Rattle.pattern_lists.specs.Listing.{ListRowInput, RowReached, RowListed, ListPairsInput}
 
 -- ---- words that are 0, from a later word on
 
@@ -35,7 +35,7 @@ zeros-here Z h = record { from = h; upto = Z .upto; zeros = λ i lo hi. Z .zeros
 
 -- ---- a row's place, and the word before which it has no mark
 
-module _ {marks : List ℕ} {n : ℕ} {rows columns : List ℕ} (P : PairsRoom marks n rows columns) {r place : ℕ} (l : r ≤ n) (e : place ≡ pairTotal r) where
+module _ {marks : List ℕ} {n : ℕ} {rows columns : List ℕ} (P : ListPairsInput marks n rows columns) {r place : ℕ} (l : r ≤ n) (e : place ≡ pairTotal r) where
   pub place-inside : place / 32 ≤ length marks
   unfolding bitWords
   place-inside = omega (arith, pairTotal-mono r n l, P .all)
@@ -92,7 +92,7 @@ module _ {marks : List ℕ} {r place w low : ℕ} (R : RowReached marks r place 
         )
 
     -- room for the columns that the bits say
-    pub row-room : {first : ℕ} {rows columns : List ℕ} → RowRoom marks r first rows columns → ListBitsInput (r + 1) (place + low) low first columns marks
+    pub row-room : {first : ℕ} {rows columns : List ℕ} → ListRowInput marks r first rows columns → ListBitsInput (r + 1) (place + low) low first columns marks
     row-room P =
         let t : place + low + (r + 1 - low) ≡ pairTotal (r + 1) = omega (arith, pairTotal-next r, R .starts) in
         record {

@@ -22,7 +22,7 @@ pub record CountInput (end : ℕ) (marks : List ℕ) : Type 0 where
   pub small : end ≤ maxPairs
 
 -- there is room for the row's marked pairs
-pub record RowRoom (marks : List ℕ) (r count : ℕ) (rows columns : List ℕ) : Type 0 where
+pub record ListRowInput (marks : List ℕ) (r count : ℕ) (rows columns : List ℕ) : Type 0 where
   pub small : r < maxDimension
   pub stored : markWords (r + 1) ≤ length marks
   pub rows-fit : count + tally (marking marks r) 0 (r + 1) ≤ length rows
@@ -35,7 +35,7 @@ pub record RowReached (marks : List ℕ) (r place w : ℕ) : Type 0 where
   pub small : w ≤ maxPairs
 
 -- there is room for all marked pairs
-pub record PairsRoom (marks : List ℕ) (n : ℕ) (rows columns : List ℕ) : Type 0 where
+pub record ListPairsInput (marks : List ℕ) (n : ℕ) (rows columns : List ℕ) : Type 0 where
   pub small : n ≤ maxDimension
   pub all : length marks ≡ markWords n
   pub rows-fit : pairCount n (marking marks) ≤ length rows
@@ -64,8 +64,8 @@ listed-none marks rows columns = record {
 }
 
 -- room for a row
-pub listed-room : {marks : List ℕ} {n r : ℕ} {rows columns rows′ columns′ : List ℕ} {count : ℕ} → PairsRoom marks n rows columns → r < n → PairsListed marks r rows columns rows′ columns′ count
-    → length rows′ ≡ length rows → length columns′ ≡ length columns → RowRoom marks r count rows′ columns′
+pub listed-room : {marks : List ℕ} {n r : ℕ} {rows columns rows′ columns′ : List ℕ} {count : ℕ} → ListPairsInput marks n rows columns → r < n → PairsListed marks r rows columns rows′ columns′ count
+    → length rows′ ≡ length rows → length columns′ ≡ length columns → ListRowInput marks r count rows′ columns′
 unfolding bitWords
 listed-room {marks} {n} {r} {rows} {columns} {rows′} {columns′} {count} P l L er ec =
     let next = cellCount-next (marking marks) rowStart rowEnd r in

@@ -53,19 +53,19 @@ module _ (rows : List ℕ) (nz : ℕ → Bool) (c p : ℕ) where
   entry-kept e A = added-agree A (λ r c′ _. ap (λ (b : Bool). b && single (row rows p) c r c′) e)
 
 -- the entry at p, if it is kept, has a mark
-abbrev pub EntryFits : ℕ → List ℕ → List ℕ → ℕ → Type 0
-EntryFits c rows marks p = (row rows p ≤ maxDimension) × (c ≤ row rows p → HasMark marks (row rows p) c)
+abbrev pub MarkEntryInput : ℕ → List ℕ → List ℕ → ℕ → Type 0
+MarkEntryInput c rows marks p = (row rows p ≤ maxDimension) × (c ≤ row rows p → HasMark marks (row rows p) c)
 
 -- what marking the entries of column c from s to below e asks
-pub record ColumnFits (c : ℕ) (rows : List ℕ) (values s e : ℕ) (marks : List ℕ) : Type 0 where
+pub record MarkColumnInput (c : ℕ) (rows : List ℕ) (values s e : ℕ) (marks : List ℕ) : Type 0 where
   pub ordered : s ≤ e
   pub stored : e ≤ length rows
   pub valued : e ≤ values
-  pub fits : (p : ℕ) → s ≤ p → p < e → EntryFits c rows marks p
+  pub fits : (p : ℕ) → s ≤ p → p < e → MarkEntryInput c rows marks p
 
 -- the entries of a factor's column have marks
 pub column-fits : {n : ℕ} {starts rows : List ℕ} {values : ℕ} → Factor n starts rows values → n ≤ maxDimension → (marks : List ℕ) → length marks ≡ markWords n → (c : ℕ) → c < n
-    → ColumnFits c rows values (start starts c) (start starts (c + 1)) marks
+    → MarkColumnInput c rows values (start starts c) (start starts (c + 1)) marks
 column-fits {n} {starts} {rows} F small marks e c h =
     let C = factor-column F c h in
     record {
@@ -138,20 +138,20 @@ abbrev pub rowsSet : List ℕ → List ℕ → ℕ → ℕ → ℕ → Bool
 rowsSet rowStarts columns m r c = any (λ i. rowSet columns (start rowStarts i) (start rowStarts (i + 1)) r c) m
 
 -- what marking the columns from s to below e asks
-pub record TermsFit (columns : List ℕ) (s e : ℕ) (marks : List ℕ) : Type 0 where
+pub record MarkTermsInput (columns : List ℕ) (s e : ℕ) (marks : List ℕ) : Type 0 where
   pub ordered : s ≤ e
   pub stored : e ≤ length columns
   pub small : (a : ℕ) → s ≤ a → a < e → getD columns a 0 ≤ maxDimension
   pub fits : (a b : ℕ) → s ≤ a → a < e → s ≤ b → b < e → getD columns b 0 ≤ getD columns a 0 → HasMark marks (getD columns a 0) (getD columns b 0)
 
 -- the pair of x and y, put in order, has a mark
-pub record TermSpot (x y : ℕ) (marks : List ℕ) : Type 0 where
+pub record MarkOrderedInput (x y : ℕ) (marks : List ℕ) : Type 0 where
   pub first-small : x ≤ maxDimension
   pub second-small : y ≤ maxDimension
   pub below : y ≤ x → HasMark marks x y
   pub above : x ≤ y → HasMark marks y x
 
-pub terms-spot : {columns : List ℕ} {s e : ℕ} {marks : List ℕ} → TermsFit columns s e marks → (a b : ℕ) → s ≤ a → a < e → s ≤ b → b < e → TermSpot (getD columns a 0) (getD columns b 0) marks
+pub terms-spot : {columns : List ℕ} {s e : ℕ} {marks : List ℕ} → MarkTermsInput columns s e marks → (a b : ℕ) → s ≤ a → a < e → s ≤ b → b < e → MarkOrderedInput (getD columns a 0) (getD columns b 0) marks
 terms-spot F a b i j k m = record {
   first-small = F .small a i j;
   second-small = F .small b k m;
@@ -160,7 +160,7 @@ terms-spot F a b i j k m = record {
 }
 
 -- a part of the columns, with the marks of a later turn
-pub terms-part : {columns : List ℕ} {s e : ℕ} {marks marks′ : List ℕ} → TermsFit columns s e marks → length marks′ ≡ length marks → (k : ℕ) → s ≤ k → k ≤ e → TermsFit columns s k marks′
+pub terms-part : {columns : List ℕ} {s e : ℕ} {marks marks′ : List ℕ} → MarkTermsInput columns s e marks → length marks′ ≡ length marks → (k : ℕ) → s ≤ k → k ≤ e → MarkTermsInput columns s k marks′
 terms-part F l k lo hi = record {
   ordered = lo;
   stored = omega (arith, F .stored);
@@ -170,7 +170,7 @@ terms-part F l k lo hi = record {
 
 -- the columns of an operator's row have marks
 pub row-fits : {n : ℕ} {rowStarts columns : List ℕ} {weights : ℕ} → OperatorRows n rowStarts columns weights → n ≤ maxDimension → (marks : List ℕ) → length marks ≡ markWords n → (i : ℕ) → i < operatorRows rowStarts
-    → TermsFit columns (start rowStarts i) (start rowStarts (i + 1)) marks
+    → MarkTermsInput columns (start rowStarts i) (start rowStarts (i + 1)) marks
 row-fits {n} {rowStarts} {columns} O small marks e i h =
     let S = O .starts-rise in
     let end = Rattle.columns.specs.Factor.starts-end S (i + 1) (omega arith) in

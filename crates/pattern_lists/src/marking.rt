@@ -9,14 +9,14 @@ ghost use Rattle.pairs.specs.Marks.{Added};
 ghost use Rattle.columns.specs.Kept.{nonzero};
 ghost use Rattle.columns.specs.Factor.{Factor};
 ghost use Rattle.columns.specs.Operator.{operatorRows, OperatorRows};
-ghost use Rattle.pattern_lists.specs.PatternMarks.{EntryFits, ColumnFits, TermSpot, TermsFit, entrySet, columnSet, columnsSet, termsSet, rowSet, rowsSet};
+ghost use Rattle.pattern_lists.specs.PatternMarks.{MarkEntryInput, MarkColumnInput, MarkOrderedInput, MarkTermsInput, entrySet, columnSet, columnsSet, termsSet, rowSet, rowsSet};
 use super::marks::mark_pair;
 use words::at;
 
 // Marks the entry at p of column c if it is kept.
 fn mark_entry(c: usize, rows: &[u32], values: &[f64], p: usize, marks: &mut [u32])
     requires { ⌜ (p < length (now rows)) × (p < length (now values)) ⌝ }
-    requires { ⌜ EntryFits c (now rows) (now marks) p ⌝ }
+    requires { ⌜ MarkEntryInput c (now rows) (now marks) p ⌝ }
     ensures { λ _. ⌜ Added (entrySet (now (rows .entry)) (nonzero (now (values .entry))) c p) (now (marks .entry)) (now (marks .exit)) ⌝ }
 {
     let r = at(rows, p);
@@ -30,7 +30,7 @@ fn mark_entry(c: usize, rows: &[u32], values: &[f64], p: usize, marks: &mut [u32
 
 // Marks the kept entries of column c from s to e.
 fn mark_column(c: usize, rows: &[u32], values: &[f64], s: usize, e: usize, marks: &mut [u32])
-    requires { ⌜ ColumnFits c (now rows) (length (now values)) s e (now marks) ⌝ }
+    requires { ⌜ MarkColumnInput c (now rows) (length (now values)) s e (now marks) ⌝ }
     ensures { λ _. ⌜ Added (columnSet (now (rows .entry)) (nonzero (now (values .entry))) c s e) (now (marks .entry)) (now (marks .exit)) ⌝ }
 {
     let mut p = s;
@@ -55,7 +55,7 @@ pub fn mark_factor(n: usize, starts: &[u32], rows: &[u32], values: &[f64], marks
 
 // Marks the pair of x and y, put in order.
 fn mark_ordered(x: usize, y: usize, marks: &mut [u32])
-    requires { ⌜ TermSpot x y (now marks) ⌝ }
+    requires { ⌜ MarkOrderedInput x y (now marks) ⌝ }
     ensures { λ _. ⌜ Added (ordered x y) (now (marks .entry)) (now (marks .exit)) ⌝ }
 {
     if x < y {
@@ -67,7 +67,7 @@ fn mark_ordered(x: usize, y: usize, marks: &mut [u32])
 
 // Marks the pairs of the column at a with those from s to itself; the row's other columns come with their own turn.
 fn mark_terms(columns: &[u32], s: usize, a: usize, marks: &mut [u32])
-    requires { ⌜ TermsFit (now columns) s (a + 1) (now marks) ⌝ }
+    requires { ⌜ MarkTermsInput (now columns) s (a + 1) (now marks) ⌝ }
     ensures { λ _. ⌜ Added (termsSet (now (columns .entry)) s a) (now (marks .entry)) (now (marks .exit)) ⌝ }
 {
     let x = at(columns, a);
@@ -80,7 +80,7 @@ fn mark_terms(columns: &[u32], s: usize, a: usize, marks: &mut [u32])
 
 // Marks the pairs of the columns from s to e, those of one row of an operator.
 fn mark_row(columns: &[u32], s: usize, e: usize, marks: &mut [u32])
-    requires { ⌜ TermsFit (now columns) s e (now marks) ⌝ }
+    requires { ⌜ MarkTermsInput (now columns) s e (now marks) ⌝ }
     ensures { λ _. ⌜ Added (rowSet (now (columns .entry)) s e) (now (marks .entry)) (now (marks .exit)) ⌝ }
 {
     let mut a = s;

@@ -10,7 +10,7 @@ ghost use Rattle.refusal.specs.Bounds.{maxDimension};
 ghost use Rattle.pairs.specs.Pair.{maxPairs};
 ghost use Rattle.pairs.specs.Marks.{Added, MarkPairInput, single};
 ghost use Rattle.set_bits.specs.Zeros.{Zeros};
-ghost use Rattle.pattern_lists.specs.Listing.{CountInput, RowRoom, RowReached, RowListed, PairsRoom, PairsListed};
+ghost use Rattle.pattern_lists.specs.Listing.{CountInput, ListRowInput, RowReached, RowListed, ListPairsInput, PairsListed};
 use pair_places::row_place;
 use set_bits::count::count_bits;
 use set_bits::list_bits;
@@ -99,7 +99,7 @@ fn list_row(
     rows: &mut [u32],
     columns: &mut [u32],
 ) -> usize
-    requires { ⌜ RowRoom (now marks) r first (now rows) (now columns) ⌝ }
+    requires { ⌜ ListRowInput (now marks) r first (now rows) (now columns) ⌝ }
     requires { ⌜ RowReached (now marks) r place w ⌝ }
     ensures { λ m. ⌜ RowListed (now (marks .entry)) r first (now (rows .entry)) (now (columns .entry)) (now (rows .exit)) (now (columns .exit)) m ⌝ }
 {
@@ -114,7 +114,7 @@ fn list_row(
 
 // Lists the marked pairs of n columns ascending by row then column; returns how many there are.
 pub fn list_pairs(n: usize, marks: &[u32], rows: &mut [u32], columns: &mut [u32]) -> usize
-    requires { ⌜ PairsRoom (now marks) n (now rows) (now columns) ⌝ }
+    requires { ⌜ ListPairsInput (now marks) n (now rows) (now columns) ⌝ }
     ensures { λ m. ⌜ PairsListed (now (marks .entry)) n (now (rows .entry)) (now (columns .entry)) (now (rows .exit)) (now (columns .exit)) m ⌝ }
 {
     let mut count = 0;

@@ -17,7 +17,7 @@ use Rattle.exact.specs.Exact.{floats}
 use Rattle.exact.specs.Examples.{F2-matrix}
 use Rattle.entries.specs.Entries.{floatTable}
 use Rattle.quadratic_form.specs.CrossValue.{addTerms, addPlaces}
-use Rattle.quadratic_form.specs.RowValue.{termColumn, rowValue, operatorValues, operatorsValue}
+use Rattle.quadratic_form.specs.RowValue.{termColumn, rowValue, operatorValues, rowPairValue}
 use Rattle.quadratic_form.specs.ExactCross.{exactTerm, runningSum, bilinear}
 use Rattle.quadratic_form.specs.ExactRow.{quadratic, RowWithin, WholeRow, rowValue-exact}
 
@@ -36,7 +36,7 @@ unfolding operatorValues tabulate addTerms addPlaces floatTable select picked of
 F2-empty = refl
 
 -- two rows: 3 at 0 with 2 at 1 is (3·2)·(−2)
-F2-cross : operatorsValue (0 ∷ 1 ∷ []) (0 ∷ []) (whole 3 ∷ []) (0 ∷ 1 ∷ []) (1 ∷ []) (whole 2 ∷ []) (floatTable 2 F2-starts F2-rows F2-values) 0 0 ≡ neg (whole 12)
+F2-cross : rowPairValue (0 ∷ 1 ∷ []) (0 ∷ []) (whole 3 ∷ []) (0 ∷ 1 ∷ []) (1 ∷ []) (whole 2 ∷ []) (floatTable 2 F2-starts F2-rows F2-values) 0 0 ≡ neg (whole 12)
 unfolding addTerms addPlaces floatTable select picked ofBits ofInt ne add sub mul div neg
 F2-cross = refl
 

@@ -32,16 +32,16 @@ unfoldable pub operatorValues : List ℕ → List ℕ → List Float → (ℕ �
 operatorValues rowStarts columns weights Z = tabulate (operatorValue rowStarts columns weights Z) (operatorRows rowStarts)
 
 -- the value of row i of one operator and row j of another in f64
-abbrev pub operatorsValue : List ℕ → List ℕ → List Float → List ℕ → List ℕ → List Float → (ℕ → ℕ → Float) → ℕ → ℕ → Float
-operatorsValue aStarts aColumns aWeights bStarts bColumns bWeights Z i j =
+abbrev pub rowPairValue : List ℕ → List ℕ → List Float → List ℕ → List ℕ → List Float → (ℕ → ℕ → Float) → ℕ → ℕ → Float
+rowPairValue aStarts aColumns aWeights bStarts bColumns bWeights Z i j =
     crossValue floats (termColumn aColumns) (termColumn bColumns) (value aWeights) (value bWeights) Z (start aStarts i) (start aStarts (i + 1)) (start bStarts j) (start bStarts (j + 1))
 
 -- the values of row pairs: row aRows(p) of the one and row bRows(p) of the other
-unfoldable pub operatorsValues : List ℕ → List ℕ → List Float → List ℕ → List ℕ → List Float → List ℕ → List ℕ → (ℕ → ℕ → Float) → List Float
-operatorsValues aStarts aColumns aWeights bStarts bColumns bWeights aRows bRows Z =
-    tabulate (λ p. operatorsValue aStarts aColumns aWeights bStarts bColumns bWeights Z (getD aRows p 0) (getD bRows p 0)) (length aRows)
+unfoldable pub rowPairValues : List ℕ → List ℕ → List Float → List ℕ → List ℕ → List Float → List ℕ → List ℕ → (ℕ → ℕ → Float) → List Float
+rowPairValues aStarts aColumns aWeights bStarts bColumns bWeights aRows bRows Z =
+    tabulate (λ p. rowPairValue aStarts aColumns aWeights bStarts bColumns bWeights Z (getD aRows p 0) (getD bRows p 0)) (length aRows)
 
 -- a row with itself: its variance, with the same bits
-pub operatorsValue-same : (rowStarts columns : List ℕ) (weights : List Float) (Z : ℕ → ℕ → Float) (i : ℕ)
-    → operatorsValue rowStarts columns weights rowStarts columns weights Z i i ≡ operatorValue rowStarts columns weights Z i
-operatorsValue-same rowStarts columns weights Z i = refl
+pub rowPairValue-same : (rowStarts columns : List ℕ) (weights : List Float) (Z : ℕ → ℕ → Float) (i : ℕ)
+    → rowPairValue rowStarts columns weights rowStarts columns weights Z i i ≡ operatorValue rowStarts columns weights Z i
+rowPairValue-same rowStarts columns weights Z i = refl

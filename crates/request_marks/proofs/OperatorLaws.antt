@@ -8,7 +8,7 @@ use Rattle.refusal.specs.Bounds.{maxDimension}
 use Rattle.columns.specs.Columns.{start}
 use Rattle.columns.specs.Factor.{starts-end}
 use Rattle.columns.specs.Operator.{operatorRows, OperatorRows}
-use Rattle.marked_pairs.specs.MarkedPairs.{Marked, Insert}
+use Rattle.marked_pairs.specs.MarkedPairs.{Marked, InsertInput}
 use Rattle.request_marks.specs.OperatorMarks.{RowInput}
 
 -- the columns of an operator's row
@@ -29,7 +29,7 @@ row-part R M k lo hi = record { small = R .small; ordered = lo; stored = omega (
 
 -- two columns, to be inserted as a pair
 pub row-insert : {n : ℕ} {columns : List ℕ} {s e : ℕ} {w : List ℕ} {count : ℕ} → RowInput n columns s e w count → (a b : ℕ) → a < e → b < e
-    → Insert n (getD columns a 0) (getD columns b 0) w count
+    → InsertInput n (getD columns a 0) (getD columns b 0) w count
 row-insert R a b l m = record {
   small = R .small;
   first = R .inside a (omega (arith, R .stored));

@@ -13,8 +13,8 @@ use Rattle.bits.specs.Bits.{digit, bitAt, bitWords, bit-clear, bit-shifted}
 use Rattle.set_bits.specs.Zeros.{Zeros}
 use Rattle.set_bits.specs.Listed.{NumbersListed}
 use Rattle.set_bits.proofs.ListedLaws.{listed-none, listed-cong, listed-gap, listed-join}
-use Rattle.set_bits.specs.WordNumbers.{wordTest, WordRoom}
-use Rattle.set_bits.specs.BitsListed.{bitsTest, BitsRoom, ListBitsInput, WordsRoom}
+use Rattle.set_bits.specs.WordNumbers.{wordTest, ListWordInput}
+use Rattle.set_bits.specs.BitsListed.{bitsTest, BitsRoom, ListBitsInput, ListWordsInput}
 
 -- w has the bits of the numbers from r to below e, the first being bit q, as its lowest digits
 pub record WordBits (s : List ℕ) (high q r e w : ℕ) : Type 0 where
@@ -50,7 +50,7 @@ module _ {high p low first : ℕ} {list₀ s : List ℕ} (O : BitsRoom high p lo
         ap (λ (x : ℕ). eqb (digit x (k - r)) 1) (W .word) ∙ bit-shifted s q (k - r) (omega (arith, W .within)) ∙ ap (bitAt s) z
 
     -- room for a word's numbers
-    pub bits-room : length list ≡ length list₀ → WordRoom w r e count list
+    pub bits-room : length list ≡ length list₀ → ListWordInput w r e count list
     bits-room long = record {
       within = W .later;
       small = omega (arith, W .below, O .small);
@@ -75,7 +75,7 @@ pub record WordsPart (high word low first : ℕ) (list₀ s : List ℕ) (w : ℕ
   pub upto : w ≤ word + (high - low + 31) / 32
   pub listed : NumbersListed (bitsTest s (word * 32) low) low (numbersBefore high word low w) first list₀ list count
 
-module _ {high word low first : ℕ} {list₀ s : List ℕ} (O : WordsRoom high word low first list₀ s) where
+module _ {high word low first : ℕ} {list₀ s : List ℕ} (O : ListWordsInput high word low first list₀ s) where
   abbrev end : ℕ
   end = word + (high - low + 31) / 32
 
@@ -135,7 +135,7 @@ module _ {high word low first : ℕ} {list₀ s : List ℕ} (O : WordsRoom high 
             }
 
         -- room for its numbers
-        pub words-room : length list ≡ length list₀ → WordRoom (getD s w 0) (wordLow word low w) e count list
+        pub words-room : length list ≡ length list₀ → ListWordInput (getD s w 0) (wordLow word low w) e count list
         words-room = bits-room (O .room) (omega arith) upto-here place word-bits
 
         -- one word more
@@ -173,7 +173,7 @@ module _ {high place low first : ℕ} {list₀ s : List ℕ} (O : ListBitsInput 
     at = omega arith
 
     -- the first word's numbers have room
-    pub list-room : WordRoom w low e first list₀
+    pub list-room : ListWordInput w low e first list₀
     list-room = bits-room (O .room) (omega arith) none at first-bits refl
 
     module _ {list : List ℕ} {count : ℕ} (R : NumbersListed (wordTest w low) low e first list₀ list count) where
@@ -187,7 +187,7 @@ module _ {high place low first : ℕ} {list₀ s : List ℕ} (O : ListBitsInput 
           ap (bitAt s) q
 
       -- and their numbers have room
-      pub list-rest : length list ≡ length list₀ → WordsRoom high (place / 32 + 1) e count list s
+      pub list-rest : length list ≡ length list₀ → ListWordsInput high (place / 32 + 1) e count list s
       unfolding bitWords
       list-rest long = record {
         room = record {

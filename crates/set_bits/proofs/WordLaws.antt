@@ -13,7 +13,7 @@ use borrow.Author.Tests.{eq-eqb}
 use Rattle.bits.specs.Bits.{digit, digit-zero, digit-shift, Lowest}
 use Rattle.set_bits.specs.Listed.{NumbersListed}
 use Rattle.set_bits.proofs.ListedLaws.{listed-none, listed-gap, listed-room, listed-more}
-use Rattle.set_bits.specs.WordNumbers.{wordTest, WordRoom}
+use Rattle.set_bits.specs.WordNumbers.{wordTest, ListWordInput}
 
 -- the word is listed up to the number r, and w is what is left of it
 pub record WordPart (word low e first : ℕ) (list₀ : List ℕ) (w r : ℕ) (list : List ℕ) (count : ℕ) : Type 0 where
@@ -22,7 +22,7 @@ pub record WordPart (word low e first : ℕ) (list₀ : List ℕ) (w r : ℕ) (l
   pub left : w ≡ word / 2 ^ (r - low)
   pub listed : NumbersListed (wordTest word low) low r first list₀ list count
 
-pub word-none : {word low e first : ℕ} {list : List ℕ} → WordRoom word low e first list → WordPart word low e first list word low list first
+pub word-none : {word low e first : ℕ} {list : List ℕ} → ListWordInput word low e first list → WordPart word low e first list word low list first
 word-none {word} {low} {e} {first} {list} O =
     let z : low - low ≡ 0 = omega arith in
     record {
@@ -66,7 +66,7 @@ module _ {word low e first : ℕ} {list₀ : List ℕ} {w r : ℕ} {list : List 
         left-test (r + t) (omega arith) ∙ eq-eqb _ 1 (ap (digit w) q ∙ T .is-one)
 
     -- the next number has room
-    pub word-room : WordRoom word low e first list₀ → r + t < e → count < length list₀
+    pub word-room : ListWordInput word low e first list₀ → r + t < e → count < length list₀
     word-room O l = listed-room (omega (arith, P .from)) upto-next l (O .fits) next
 
     -- and is listed

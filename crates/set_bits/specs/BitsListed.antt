@@ -25,6 +25,6 @@ pub record ListBitsInput (high place low first : ℕ) (list s : List ℕ) : Type
   pub stored : bitWords (place + (high - low)) ≤ length s
 
 -- the same of bits from a word's first on
-pub record WordsRoom (high word low first : ℕ) (list s : List ℕ) : Type 0 where
+pub record ListWordsInput (high word low first : ℕ) (list s : List ℕ) : Type 0 where
   pub room : BitsRoom high (word * 32) low first list s
   pub stored : word + (high - low + 31) / 32 ≤ length s

@@ -14,7 +14,7 @@ abbrev pub wordTest : ℕ → ℕ → ℕ → Bool
 wordTest w low r = eqb (digit w (r - low)) 1
 
 -- there is room for the numbers that a word says
-pub record WordRoom (w low e first : ℕ) (list : List ℕ) : Type 0 where
+pub record ListWordInput (w low e first : ℕ) (list : List ℕ) : Type 0 where
   pub within : low ≤ e
   pub small : e ≤ maxDimension
   pub fits : first + tally (wordTest w low) low e ≤ length list

@@ -5,7 +5,7 @@ pub mod zero_words;
 
 ghost use Prim.Native.Nat.{_*_};
 ghost use Rattle.set_bits.specs.Listed.{NumbersListed};
-ghost use Rattle.set_bits.specs.BitsListed.{bitsTest, WordsRoom, ListBitsInput};
+ghost use Rattle.set_bits.specs.BitsListed.{bitsTest, ListWordsInput, ListBitsInput};
 use word_numbers::list_word;
 use word_numbers::numbers_end;
 use word_numbers::word_from;
@@ -20,7 +20,7 @@ fn list_words(
     list: &mut [u32],
     words: &[u32],
 ) -> usize
-    requires { ⌜ WordsRoom high word low first (now list) (now words) ⌝ }
+    requires { ⌜ ListWordsInput high word low first (now list) (now words) ⌝ }
     ensures { λ m. ⌜ NumbersListed (bitsTest (now (words .entry)) (word * 32) low) low high first (now (list .entry)) (now (list .exit)) m ⌝ }
 {
     let end = word + (high - low + 31) / 32;

@@ -5,7 +5,7 @@ ghost use lib.ListN.{length, getD};
 ghost use Rattle.bits.specs.Bits.{Lowest};
 ghost use Rattle.refusal.specs.Bounds.{maxDimension};
 ghost use Rattle.set_bits.specs.Listed.{NumbersListed};
-ghost use Rattle.set_bits.specs.WordNumbers.{WordRoom, wordTest};
+ghost use Rattle.set_bits.specs.WordNumbers.{ListWordInput, wordTest};
 
 // The bits from p on in its word, lowest first.
 pub fn word_from(words: &[u32], p: usize) -> u32
@@ -38,7 +38,7 @@ fn lowest_bit(w: u32) -> usize
 
 // Lists the numbers from `low` to below `end` that the word's bits say behind `first` numbers; returns how many are listed.
 pub fn list_word(word: u32, low: usize, end: usize, first: usize, list: &mut [u32]) -> usize
-    requires { ⌜ WordRoom word low end first (now list) ⌝ }
+    requires { ⌜ ListWordInput word low end first (now list) ⌝ }
     ensures { λ m. ⌜ NumbersListed (wordTest word low) low end first (now (list .entry)) (now (list .exit)) m ⌝ }
 {
     let mut count = first;

@@ -21,7 +21,7 @@ use Rattle.entries.specs.Entries.{entryValues, entryValues-length}
 use Rattle.entries.specs.Position.{columnCount-cong, position-cong, entryStarts-cong, entryRows-cong, entryValues-cong}
 use Rattle.entries.specs.WholeTable.{wholeTable, keptExceeds, exceeds, keptExceeds-none}
 use Rattle.marked_pairs.specs.MarkedPairs.{ColumnsReached}
-use Rattle.layout.specs.Layout.{LayOut, LaidOut, LayFirsts, FirstsLaid, marks-same}
+use Rattle.layout.specs.Layout.{LayOutInput, LaidOut, LayFirstsInput, FirstsLaid, marks-same}
 use Rattle.whole_route.specs.Route.{WholeRouteInput, RouteDone}
 use Rattle.whole_selection.specs.Call.{WholeLent, wholeLent}
 use Rattle.whole_entries.specs.Filling.{SetInput, SetDone, CompleteInput, CompleteDone}
@@ -66,7 +66,7 @@ module _ {f : FactorLists ℤ} {reached s₀ : List ℕ} {work₀ : List ℤ} (I
   }
 
   -- what the layout asks
-  pub set-firsts : {firsts listed : List ℕ} → f .n ≤ length firsts → f .n ≤ length listed → LayFirsts (f .n) firsts listed s₀
+  pub set-firsts : {firsts listed : List ℕ} → f .n ≤ length firsts → f .n ≤ length listed → LayFirstsInput (f .n) firsts listed s₀
   set-firsts a b = record { small = I .small; room = I .room; firsts-fit = a; listed-fit = b }
 
   module _ {firsts s : List ℕ} {count : ℕ} (F : FirstsLaid (f .n) s₀ firsts s count) where
@@ -153,7 +153,7 @@ module _ {f : FactorLists ℤ} {reached : List ℕ} (lent : WholeLent) (I : Comp
     }
 
     -- what the layout asks
-    pub complete-layout : LayOut (f .n) (lent .lists .resultStarts) (lent .lists .resultRows) s
+    pub complete-layout : LayOutInput (f .n) (lent .lists .resultStarts) (lent .lists .resultRows) s
     complete-layout = record {
       small = I .set .small;
       room = omega (arith, D .long, I .set .room);

@@ -18,7 +18,7 @@ use Rattle.exact.specs.Exceeds.{entryExceeds, setExceeds}
 use Rattle.entries.specs.Entries.{columnCount, position}
 use Rattle.entries.specs.Position.{select-tally, columnCount-next, columnCount-none, position-found, position-in, position-below, entryValues-overwrite}
 use Rattle.entries.specs.WholeTable.{wholeTable}
-use Rattle.layout.specs.ColumnRows.{columnTest, ColumnRoom, ColumnListed}
+use Rattle.layout.specs.ColumnRows.{columnTest, ListColumnInput, ColumnListed}
 use Rattle.whole_route.specs.Route.{WholesFrom, RowsInput, RowsDone, WholeColumnInput, WholeRouteInput, RouteDone}
 
 module _ {n j first : ℕ} {listed₀ starts rows : List ℕ} {values : List ℤ} {scratch : List ℕ} {work : List ℤ}
@@ -27,7 +27,7 @@ module _ {n j first : ℕ} {listed₀ starts rows : List ℕ} {values : List ℤ
   S = columnMarking n scratch
 
   -- there is room for its rows
-  pub column-room : {place : ℕ} → place ≡ colStart n j → ColumnRoom n place j 0 listed₀ scratch
+  pub column-room : {place : ℕ} → place ≡ colStart n j → ListColumnInput n place j 0 listed₀ scratch
   column-room e = record {
     small = I .whole .small;
     inside = I .inside;

@@ -33,11 +33,11 @@ use Rattle.diagnostics.specs.Selected.{selectedReplyOf}
 use Rattle.selection.specs.Selection.{Selection, LentOf, Lent, roomOf, roomSteps, Accepted, selectedAnswer, selectedPattern, selectedSet, selectedSize, fillingOf, ResultLists, passed-starts, passed-rows}
 use Rattle.selection.specs.SamePositions.{front-starts, front-rows}
 use Rattle.selection.specs.Call.{selectionOf, selectedSteps, accepted}
-use Rattle.exact_entries.specs.Recurrence.{Selected as FloatSelected, found, selected-pattern}
+use Rattle.exact_entries.specs.Recurrence.{InClosedSet, found, selected-pattern}
 use Rattle.exact_entries.specs.ExactEntries.{ExactCall, ReadsBack, exact-call}
 use Rattle.whole_selection.specs.Call.{WholeCall, WholeLent, wholeRoomOf, wholeRequests, wholeDescendants, wholeSet, wholeSize, wholeAnswer, wholeFilling, checkSteps, exceedSteps, wholeSteps, WholeEntries}
 use Rattle.whole_selection.specs.Accepted.{WholeAccepted, whole-accepted}
-use Rattle.whole_selection.specs.ReadBack.{WholeSelected, wholeFound, wholeEntries, wholeMatrix, ReadsWhole, whole-complete, whole-pattern, whole-member, whole-has-inverse, whole-small, whole-passed, whole-reply}
+use Rattle.whole_selection.specs.ReadBack.{InWholeSet, wholeFound, wholeEntries, wholeMatrix, ReadsWhole, whole-complete, whole-pattern, whole-member, whole-has-inverse, whole-small, whole-passed, whole-reply}
 use Rattle.whole_selection.specs.Agree.{SameNumbers, floatCall, SameFound, same-entries, same-diagonal, same-diagnosis, same-set, float-passed}
 
 -- the whole numbers as floats, each rounded
@@ -90,23 +90,23 @@ module _ (x : WholeCall) (lent : WholeLent) {reply : Selected} {left : WholeLent
     sets = same-set x (wholeRoomOf lent) A values same
 
     -- the sets, as pairs
-    same-member : (i j : ℕ) → j ≤ i → i < x .factor .n → FloatSelected f i j ↔ WholeSelected x i j
+    same-member : (i j : ℕ) → j ≤ i → i < x .factor .n → InClosedSet f i j ↔ InWholeSet x i j
     same-member i j ji hi =
         let mf = member-needed (x .factor .n) (selectedPattern f) (wholeRequests x) (selected-pattern f floatLent B) (B .requests) i j ji hi in
         let mw = whole-member x (wholeRoomOf lent) A i j ji hi in
         ((λ s. mw .0 (sym (sets i j ji hi) ∙ mf .1 s)), (λ s. mf .0 (sets i j ji hi ∙ mw .1 s)))
 
-    float-range : (i j : ℕ) → FloatSelected f i j → (j ≤ i) × (i < x .factor .n)
+    float-range : (i j : ℕ) → InClosedSet f i j → (j ≤ i) × (i < x .factor .n)
     float-range i j s = needed-range (selectedPattern f) (wholeRequests x) (x .factor .n) (selected-pattern f floatLent B) (B .requests) s
 
-    whole-range : (i j : ℕ) → WholeSelected x i j → (j ≤ i) × (i < x .factor .n)
+    whole-range : (i j : ℕ) → InWholeSet x i j → (j ≤ i) × (i < x .factor .n)
     whole-range i j s = needed-range (wholeDescendants x) (wholeRequests x) (x .factor .n) (whole-pattern x (wholeRoomOf lent) A) (A .requests) s
 
     -- the factor in f64 is in the exact case
     exact : ExactCall f (wholeEntries x)
     exact =
         let W = whole-small x lent C passed e .1 in
-        let into : (i j : ℕ) → FloatSelected f i j → WholeSelected x i j = λ i j s. same-member i j (float-range i j s .0) (float-range i j s .1) .0 s in
+        let into : (i j : ℕ) → InClosedSet f i j → InWholeSet x i j = λ i j s. same-member i j (float-range i j s .0) (float-range i j s .1) .0 s in
         record {
           diagonals = λ j jn. same-diagonal x (wholeRoomOf lent) A values same j jn (B .diagonals .diagonal j jn);
           entries = λ j jn. same-entries x (wholeRoomOf lent) A values same j jn;
@@ -151,7 +151,7 @@ module _ (x : WholeCall) (lent : WholeLent) {reply : Selected} {left : WholeLent
               let m = R .members fe row col (same-member (max row col) (min row col) (omega arith) l .1 p) in
               agree-answered (m .1) (Q .members e row col p) (m .2)
           by-member l false t =
-              let none : WholeSelected x (max row col) (min row col) → ⊥ =
+              let none : InWholeSet x (max row col) (min row col) → ⊥ =
               λ p. true≢false (sym (whole-member x (wholeRoomOf lent) A (max row col) (min row col) (omega arith) l .1 p) ∙ t) in
               agree-refused
               (R .others fe row col (λ q. none (same-member (max row col) (min row col) (omega arith) l .0 q)))

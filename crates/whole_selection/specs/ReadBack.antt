@@ -39,8 +39,8 @@ use Rattle.whole_selection.specs.Accepted.{WholeAccepted, whole-accepted
 
 module _ (x : WholeCall) where
   -- the closed set: the requested pairs and the dependencies of its pairs, and no other
-  abbrev pub WholeSelected : ℕ → ℕ → Type 0
-  WholeSelected = Needed (wholeDescendants x) (wholeRequests x)
+  abbrev pub InWholeSet : ℕ → ℕ → Type 0
+  InWholeSet = Needed (wholeDescendants x) (wholeRequests x)
 
   -- what a lookup finds in the filled starts, the rows and the values that are left
   abbrev pub wholeFound : LentOf ℤ → ℕ → ℕ → Reply ℤ
@@ -56,13 +56,13 @@ module _ (x : WholeCall) where
 
   -- every kept entry, and every product, running sum and entry of the exact recurrence over the closed set, is at most 2 ^ 53 in size
   abbrev pub Within53 : Type 0
-  Within53 = KeptSmall (x .factor .n) (x .factor .starts) (x .factor .rows) (x .factor .values) × WithinBound (x .factor .n) wholeEntries WholeSelected
+  Within53 = KeptSmall (x .factor .n) (x .factor .starts) (x .factor .rows) (x .factor .values) × WithinBound (x .factor .n) wholeEntries InWholeSet
 
   -- X is what reads back: Complete exactly when the set is within the limit; then each pair of the set as X's entry, every other pair as absent
   pub record ReadsWhole (left : LentOf ℤ) (X : Matrix) : Type 0 where
     pub complete : (wholeAnswer x .status ≡ Complete) ↔ (wholeSize x ≤ x .limit)
-    pub members : wholeAnswer x .status ≡ Complete → (row col : ℕ) → WholeSelected (max row col) (min row col) → wholeFound left row col ≡ answered (X row col)
-    pub others : wholeAnswer x .status ≡ Complete → (row col : ℕ) → (WholeSelected (max row col) (min row col) → ⊥) → wholeFound left row col ≡ refused 8
+    pub members : wholeAnswer x .status ≡ Complete → (row col : ℕ) → InWholeSet (max row col) (min row col) → wholeFound left row col ≡ answered (X row col)
+    pub others : wholeAnswer x .status ≡ Complete → (row col : ℕ) → (InWholeSet (max row col) (min row col) → ⊥) → wholeFound left row col ≡ refused 8
 
   pub whole-complete : (wholeAnswer x .status ≡ Complete) ↔ (wholeSize x ≤ x .limit)
   whole-complete = diagnosis-complete (x .factor .n) (wholeDescendants x) _ (wholeRequests x) (x .limit)
@@ -75,17 +75,17 @@ module _ (x : WholeCall) (lengths : WholeRoom) (A : WholeAccepted x lengths) whe
   whole-ascend : (j : ℕ) → j < x .factor .n → Ascend (x .factor .n) (suc j) (wholeEntries x j)
   whole-ascend j jn = wholeDesc-ascend (x .factor .values) (A .factor) j jn
 
-  whole-closed : RecurrenceClosed (x .factor .n) (wholeEntries x) (WholeSelected x)
+  whole-closed : RecurrenceClosed (x .factor .n) (wholeEntries x) (InWholeSet x)
   whole-closed =
       needed-closed (x .factor .n) (wholeDescendants x) (wholeRequests x) whole-pattern (A .requests) (wholeEntries x) whole-ascend
       (λ j jn. places-descend (wholeStored (x .factor .rows) (x .factor .values)) (wholeNonzero (x .factor .values)) (A .factor) (λ p. refl) j jn)
 
-  pub whole-member : (i j : ℕ) → j ≤ i → i < x .factor .n → (wholeSet x i j ≡ true) ↔ WholeSelected x i j
+  pub whole-member : (i j : ℕ) → j ≤ i → i < x .factor .n → (wholeSet x i j ≡ true) ↔ InWholeSet x i j
   whole-member = member-needed (x .factor .n) (wholeDescendants x) (wholeRequests x) whole-pattern (A .requests)
 
   -- nothing exceeds exactly if all is within
   pub call-within : (exceeds (x .factor .n) (x .factor .starts) (x .factor .rows) (x .factor .values) (wholeSet x) ≡ false) ↔ Within53 x
-  call-within = whole-within (x .factor .n) (x .factor .starts) (x .factor .rows) (x .factor .values) (wholeSet x) (WholeSelected x) whole-member whole-closed
+  call-within = whole-within (x .factor .n) (x .factor .starts) (x .factor .rows) (x .factor .values) (wholeSet x) (InWholeSet x) whole-member whole-closed
 
   -- L * Lᵀ has an inverse in whole numbers
   pub whole-has-inverse : (X : Matrix) × WholeInverse (x .factor .n) (wholeMatrix x) X
@@ -93,10 +93,10 @@ module _ (x : WholeCall) (lengths : WholeRoom) (A : WholeAccepted x lengths) whe
 
   module _ (X : Matrix) (is : WholeInverse (x .factor .n) (wholeMatrix x) X) where
     -- the exact recurrence gives its entries, read at either order of the indices
-    whole-either : (row col : ℕ) → WholeSelected x (max row col) (min row col) → at (wholeFilling x .table) row col ≡ X row col
+    whole-either : (row col : ℕ) → InWholeSet x (max row col) (min row col) → at (wholeFilling x .table) row col ≡ X row col
     unfolding wholeTable
     whole-either row col p =
-        unit-inverse (x .factor .n) (wholeEntries x) whole-ascend X is (WholeSelected x) whole-closed (max row col) (min row col) p
+        unit-inverse (x .factor .n) (wholeEntries x) whole-ascend X is (InWholeSet x) whole-closed (max row col) (min row col) p
         ∙ unit-ordered (x .factor .n) (wholeEntries x) whole-ascend X is row col
         (needed-range (wholeDescendants x) (wholeRequests x) (x .factor .n) whole-pattern (A .requests) p .1)
 

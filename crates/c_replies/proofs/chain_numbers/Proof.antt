@@ -1,4 +1,4 @@
-use Rattle.dependency_chain.specs.declared.Chain.{Chain}
+use Rattle.dependency_chain.specs.declared.ChainPairs.{ChainPairs}
 use Rattle.dependency_chain.specs.Reply.{chainReply}
 use Rattle.c_replies.specs.Numbers.{pairNumbers}
 use Rattle.refusal.specs.Steps.{refused}
@@ -18,10 +18,10 @@ refusal-number-requires : tie.Need-refusal-number-requires
 refusal-number-requires c κs = search needs
 
 returns : tie.Need-returns
-returns c = sym (ap (λ (x : Chain). pairNumbers (chainReply x)) (c .before .answer .given .1))
+returns c = sym (ap (λ (x : ChainPairs). pairNumbers (chainReply x)) (c .before .answer .given .1))
 
 returns-2 : tie.Need-returns-2
-returns-2 c = ap (λ (k : ℕ). pairNumbers (refused k)) (c .refusal-number .ensures) ∙ sym (ap (λ (x : Chain). pairNumbers (chainReply x)) (c .before .before .answer2 .given .1))
+returns-2 c = ap (λ (k : ℕ). pairNumbers (refused k)) (c .refusal-number .ensures) ∙ sym (ap (λ (x : ChainPairs). pairNumbers (chainReply x)) (c .before .before .answer2 .given .1))
 
 pub chain-numbers-spec : {M : Type 1} → statement M
 chain-numbers-spec =

@@ -22,7 +22,7 @@ start d = begin (bounds d)
 abbrev lists : tie.Start → RouteLists
 lists s =
     let a = s .args in
-    routeLists (a .n) (now (a .starts)) (now (a .rows)) (now (a .values)) (now (a .entry-starts)) (now (a .entry-rows)) (now (a .scratch))
+    routeLists (a .n) (now (a .starts)) (now (a .rows)) (now (a .values)) (now (a .result-starts)) (now (a .result-rows)) (now (a .scratch))
 
 -- where the column starts and ends
 ends : (d : tie.After-diagonal) →
@@ -52,7 +52,7 @@ returns c =
     let s = begin f in
     let p = s .pre .0 in
     solved-empty (p .route) (p .inside) (ends-read (p .route) (p .inside) (f .before .at .ensures) (f .at2 .ensures) refl refl)
-    _ (now (s .args .entry-values)) (c .if1 .taken) (p .later)
+    _ (now (s .args .result-values)) (c .if1 .taken) (p .later)
 
 at-requires-3 : tie.Need-at-requires-3
 at-requires-3 c κs = search needs

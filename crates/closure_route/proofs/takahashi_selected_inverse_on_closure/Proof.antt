@@ -14,13 +14,13 @@ use Rattle.closure_route.proofs.takahashi_selected_inverse_on_closure.S
 use Rattle.closure_route.proofs.takahashi_selected_inverse_on_closure.Tie as tie
 
 abbrev Inv-loop : tie.InvT-loop
-Inv-loop n starts rows values entry-starts entry-rows entry-values₀ scratch j₀ entry-values j =
-    (length entry-values ≡ length entry-values₀)
+Inv-loop n starts rows values result-starts result-rows entry-values₀ scratch j₀ result-values j =
+    (length result-values ≡ length entry-values₀)
     × (j ≤ n)
-    × ColumnsSolved n (columnMarking n scratch) (floatTable n starts rows values) j entry-values₀ entry-values
+    × ColumnsSolved n (columnMarking n scratch) (floatTable n starts rows values) j entry-values₀ result-values
 
 abbrev μ-loop : tie.MeasureT-loop
-μ-loop n starts rows values entry-starts entry-rows entry-values₀ scratch j₀ entry-values j = j
+μ-loop n starts rows values result-starts result-rows entry-values₀ scratch j₀ result-values j = j
 
 abbrev start : tie.At-loop Inv-loop μ-loop → tie.Start Inv-loop μ-loop
 start q = q .before .before .before .before .before .before .before .before
@@ -65,7 +65,7 @@ returns c =
     let s = start q in
     let e : l .j ≡ 0 = omega (arith, c .loop-test .left) in
     solved-all (s .pre .0 .values-fit)
-    (subst (λ (m : ℕ). ColumnsSolved (s .args .n) (set-of s) (table-of s) m (now (s .args .entry-values)) (l .entry-values)) e (l .inv .2))
+    (subst (λ (m : ℕ). ColumnsSolved (s .args .n) (set-of s) (table-of s) m (now (s .args .result-values)) (l .result-values)) e (l .inv .2))
 
 pub takahashi-selected-inverse-on-closure-spec : {M : Type 1} → statement M
 takahashi-selected-inverse-on-closure-spec =

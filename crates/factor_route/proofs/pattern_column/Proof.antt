@@ -51,7 +51,7 @@ add-b c =
     let s = c .before .before .before .before .before .at3 in
     let t = c .before .before .before .before .at4 in
     let m = c .mark-column in
-    let h : a .result + 1 + m .result ≤ length (z .args .entry-rows .now) =
+    let h : a .result + 1 + m .result ≤ length (z .args .result-rows .now) =
     route-first (z .pre .0 .0) (z .args .j) (z .pre .0 .1) (a .result) (s .result) (t .result) (m .result) (a .ensures) (s .ensures) (t .ensures)
     (m .ensures .count) in
     omega (arith, h, z .good)
@@ -115,7 +115,7 @@ returns c =
     let w = c .before .before .before .before .write-column in
     route-column (z .pre .0 .0) (z .args .j) (z .pre .0 .1) (a .result) (s .result) (t .result) (m .result) (a .ensures) (s .ensures) (t .ensures)
     (m .ensures .count)
-    (e .result) (d .result) (z .args .entry-values .now) _ (z .args .marker .now) (z .args .weights .now) (z .args .sums .now) _ _ _ _ _
+    (e .result) (d .result) (z .args .result-values .now) _ (z .args .marker .now) (z .args .weights .now) (z .args .sums .now) _ _ _ _ _
     (e .ensures) (z .pre .1 .0) refl (z .pre .1 .1) (m .ensures) (x .ensures) (d .ensures) (w .ensures) (c .unmark-column .ensures)
 
 pub pattern-column-spec : {M : Type 1} → statement M

@@ -79,7 +79,7 @@ loop-again c =
     let t = v .before .before .before in
     let l = t .before .loop in
     let s = start (t .before) in (
-      length-set (l .starts) (l .c) _ ∙ l .inv .0,
+      length-set (l .result-starts) (l .c) _ ∙ l .inv .0,
       v .lay-reached-column .kept .1 .1 .1 .1 .1 .0 ∙ l .inv .1,
       v .lay-reached-column .kept .1 .1 .1 .1 .1 .1 .0 ∙ l .inv .2,
       omega (arith, t .loop-test .taken),

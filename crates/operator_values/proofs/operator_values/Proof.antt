@@ -12,18 +12,18 @@ use Rattle.columns.specs.Columns.{value}
 use Rattle.columns.specs.Operator.{operatorRows}
 use Rattle.exact.specs.Exact.{floats}
 use Rattle.quadratic_form.specs.RowValue.{rowValue, termColumn, operatorValue, operatorValues}
-use Rattle.operator_values.specs.Reading.{RowsReading}
+use Rattle.operator_values.specs.Reading.{CrossValueInput}
 use Rattle.operator_values.proofs.ReadingLaws.{row-reading}
 use Rattle.operator_values.proofs.operator_values.Statement.{statement}
 use Rattle.operator_values.proofs.operator_values.Tie as tie
 
 abbrev Inv-loop : tie.InvT-loop
-Inv-loop n row-starts columns weights scratch inverse output₀ last i₀ output i =
+Inv-loop n row-starts columns weights scratch result-values output₀ last i₀ output i =
     (i ≤ operatorRows row-starts) × (length output ≡ length output₀)
-    × (output ≡ filled (operatorValue row-starts columns weights (inverseAt nan n scratch inverse)) i output₀)
+    × (output ≡ filled (operatorValue row-starts columns weights (inverseAt nan n scratch result-values)) i output₀)
 
 abbrev μ-loop : tie.MeasureT-loop
-μ-loop n row-starts columns weights scratch inverse output₀ last i₀ output i = operatorRows row-starts - i
+μ-loop n row-starts columns weights scratch result-values output₀ last i₀ output i = operatorRows row-starts - i
 
 abbrev start : tie.At-loop Inv-loop μ-loop → tie.Start Inv-loop μ-loop
 start q = q .before .before .before .before .before .before .before .before
@@ -32,7 +32,7 @@ start q = q .before .before .before .before .before .before .before .before
 abbrev row-value-at : tie.Start Inv-loop μ-loop → ℕ → Float
 row-value-at s =
     let a = s .args in
-    operatorValue (now (a .row-starts)) (now (a .columns)) (now (a .weights)) (inverseAt nan (a .n) (now (a .scratch)) (now (a .inverse)))
+    operatorValue (now (a .row-starts)) (now (a .columns)) (now (a .weights)) (inverseAt nan (a .n) (now (a .scratch)) (now (a .result-values)))
 
 -- the row's number
 row : (c : tie.In-loop Inv-loop μ-loop) → c .before .loop .i < operatorRows (now (start (c .before) .args .row-starts))
@@ -62,7 +62,7 @@ cross-value-requires c κs =
     let t = c .before .before in
     let s = start (t .before) in
     let a = s .args in
-    subst₂ (λ (x y : ℕ). RowsReading (a .n) (now (a .columns)) (length (now (a .weights))) (now (a .columns)) (length (now (a .weights))) (now (a .scratch)) (length (now (a .inverse))) x y x y)
+    subst₂ (λ (x y : ℕ). CrossValueInput (a .n) (now (a .columns)) (length (now (a .weights))) (now (a .columns)) (length (now (a .weights))) (now (a .scratch)) (length (now (a .result-values))) x y x y)
     (sym (c .before .at .ensures)) (sym (c .at2 .ensures)) (row-reading (s .pre) (t .before .loop .i) (row t))
 
 mul-output : tie.Need-mul-output Inv-loop μ-loop
@@ -85,7 +85,7 @@ loop-again c =
     let s = start (t .before) in
     let a = s .args in
     let f = row-value-at s in
-    let Z = inverseAt nan (a .n) (now (a .scratch)) (now (a .inverse)) in
+    let Z = inverseAt nan (a .n) (now (a .scratch)) (now (a .result-values)) in
     let made : c .cross-value .result ≡ f (l .i) =
     c .cross-value .ensures
     ∙ ap₂ (λ (x y : ℕ). rowValue floats (termColumn (now (a .columns))) (value (now (a .weights))) Z x y) (d .before .at .ensures) (d .at2 .ensures) in (

@@ -9,13 +9,13 @@ use Rattle.columns.specs.Columns.{value}
 use Rattle.exact.specs.Exact.{floats}
 use Rattle.quadratic_form.specs.CrossValue.{crossValue}
 use Rattle.quadratic_form.specs.RowValue.{termColumn}
-use Rattle.operator_values.specs.Reading.{RowsReading}
+use Rattle.operator_values.specs.Reading.{CrossValueInput}
 use Rattle.operator_values.proofs.pair_value.Statement.{statement}
 use Rattle.operator_values.proofs.pair_value.Tie as tie
 
 -- a reading, and a value, at equal places
 same-places : {n : ℕ} {ac : List ℕ} {aw : ℕ} {bc : List ℕ} {bw : ℕ} {s : List ℕ} {size a b d e a′ b′ d′ e′ : ℕ} → a ≡ a′ → b ≡ b′ → d ≡ d′ → e ≡ e′
-    → RowsReading n ac aw bc bw s size a′ b′ d′ e′ → RowsReading n ac aw bc bw s size a b d e
+    → CrossValueInput n ac aw bc bw s size a′ b′ d′ e′ → CrossValueInput n ac aw bc bw s size a b d e
 same-places x y z w R = rw (x, y, z, w) R
 
 same-value : (f : ℕ → ℕ → ℕ → ℕ → Float) {a b d e a′ b′ d′ e′ : ℕ} → a ≡ a′ → b ≡ b′ → d ≡ d′ → e ≡ e′ → f a b d e ≡ f a′ b′ d′ e′
@@ -49,7 +49,7 @@ returns c =
     let a = d .before .before .before .before .before .before .before .before .before .before .before .before .args in
     c .cross-value .ensures
     ∙ same-value
-    (crossValue floats (termColumn (now (a .a-columns))) (termColumn (now (a .b-columns))) (value (now (a .a-weights))) (value (now (a .b-weights))) (inverseAt nan (a .n) (now (a .scratch)) (now (a .inverse))))
+    (crossValue floats (termColumn (now (a .a-columns))) (termColumn (now (a .b-columns))) (value (now (a .a-weights))) (value (now (a .b-weights))) (inverseAt nan (a .n) (now (a .scratch)) (now (a .result-values))))
     (d .before .before .before .at .ensures) (d .before .before .at2 .ensures) (d .before .at3 .ensures) (d .at4 .ensures)
 
 pub pair-value-spec : {M : Type 1} → statement M

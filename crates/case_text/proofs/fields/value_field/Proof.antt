@@ -1,4 +1,4 @@
-use Rattle.case_text.specs.Items.{valueAt}
+use Rattle.case_text.specs.Items.{floatAt}
 use Rattle.case_text.proofs.ItemLaws.{listing-at}
 use borrow.Author.Needs.{needs}
 use Rattle.case_text.proofs.fields.value_field.Statement.{statement}
@@ -16,7 +16,7 @@ same-length c = search needs
 returns : tie.Need-returns
 returns c =
     let read = c .before .before in
-    listing-at valueAt _ _ _ _ (read .before .before .skip-to .ensures) (read .read-values .ensures)
+    listing-at floatAt _ _ _ _ (read .before .before .skip-to .ensures) (read .read-values .ensures)
 
 pub value-field-spec : {M : Type 1} → statement M
 value-field-spec =

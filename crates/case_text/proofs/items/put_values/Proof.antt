@@ -1,5 +1,5 @@
 use Prim.Native.Nat.{ℕ, _≤_, _<_, _-_}
-use Rattle.case_text.specs.Items.{pastItems, valueAt}
+use Rattle.case_text.specs.Items.{pastItems, floatAt}
 use Rattle.case_text.proofs.ItemLaws.{pastItems-none, pastItems-more, filled-step}
 use Rattle.case_text.specs.Text.{pastBlanks, pastWord, numberAt}
 use Rattle.lists.specs.Overwrite.{filled, filled-none}
@@ -13,7 +13,7 @@ use Rattle.case_text.proofs.items.put_values.Statement.{statement}
 use Rattle.case_text.proofs.items.put_values.Tie as tie
 
 abbrev Inv-loop : tie.InvT-loop
-Inv-loop text p count list₀ q₀ i₀ list q i = (i ≤ count) × (length list ≡ length list₀) × (q ≡ pastItems text p i) × (list ≡ filled (valueAt text p) i list₀)
+Inv-loop text p count list₀ q₀ i₀ list q i = (i ≤ count) × (length list ≡ length list₀) × (q ≡ pastItems text p i) × (list ≡ filled (floatAt text p) i list₀)
 
 abbrev μ-loop : tie.MeasureT-loop
 μ-loop text p count list₀ q₀ i₀ list q i = count - i
@@ -49,7 +49,7 @@ loop-again c =
     let text = now (a .text) in
     let room : at .i < length (now (a .list)) = omega arith in
     let q = c .before .before .skip-blanks .ensures ∙ ap (pastBlanks text) (at .inv .2) in
-    let x : c .before .float-value .result ≡ valueAt text (a .p) (at .i) = c .before .float-value .ensures ∙ ap (λ (k : ℕ). ofBits binary64 (numberAt 16 text k)) q in (
+    let x : c .before .float-value .result ≡ floatAt text (a .p) (at .i) = c .before .float-value .ensures ∙ ap (λ (k : ℕ). ofBits binary64 (numberAt 16 text k)) q in (
       omega arith,
       length-set (at .list) (at .i) (c .before .float-value .result) ∙ at .inv .1,
       c .skip-word .ensures ∙ ap (pastWord text) q ∙ pastItems-more _ _ _,
@@ -64,7 +64,7 @@ returns c =
     let a = c .before .before .before .before .args in
     let at = c .before .loop in
     let e : at .i ≡ a .count = omega arith in
-    at .inv .3 ∙ ap (λ (k : ℕ). filled (valueAt (now (a .text)) (a .p)) k (now (a .list))) e
+    at .inv .3 ∙ ap (λ (k : ℕ). filled (floatAt (now (a .text)) (a .p)) k (now (a .list))) e
 
 pub put-values-spec : {M : Type 1} → statement M
 put-values-spec =

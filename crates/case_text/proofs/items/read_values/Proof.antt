@@ -1,4 +1,4 @@
-use Rattle.case_text.specs.Items.{valueAt}
+use Rattle.case_text.specs.Items.{floatAt}
 use Rattle.case_text.proofs.ItemLaws.{listing}
 use borrow.Author.Needs.{needs}
 use Rattle.case_text.proofs.items.read_values.Statement.{statement}
@@ -26,7 +26,7 @@ returns : tie.Need-returns
 returns c =
     let put = c .before .before in
     let s = put .before .before in
-    listing valueAt _ _ _ _ _ _ _ _ (s .before .before .before .skip-blanks .ensures) (s .before .before .decimal .ensures) (s .skip-word .ensures)
+    listing floatAt _ _ _ _ _ _ _ _ (s .before .before .before .skip-blanks .ensures) (s .before .before .decimal .ensures) (s .skip-word .ensures)
     (s .before .smaller .ensures) (put .put-values .ensures)
 
 pub read-values-spec : {M : Type 1} → statement M

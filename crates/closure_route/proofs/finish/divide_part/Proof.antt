@@ -45,7 +45,7 @@ returns c =
     let v = c .before .before in
     let s = v .before .before .before .before .before in
     let a = s .args in
-    let z = now (a .inverse) in
+    let z = now (a .result-values) in
     let m = a .last - a .first in
     let size : length (take m (drop (a .first) z)) ≡ m = length-take-le m (drop (a .first) z) (simp length-drop (omega (arith, s .pre .0, s .pre .1))) in
     part-finished (a .j) (float-off (a .d)) (now (a .rows)) (a .first) (a .last) z _ (s .pre .0) (s .pre .1) (rw size at (v .divide-column .ensures))

@@ -18,14 +18,14 @@ abbrev start : tie.After-at → tie.Start
 start c = c .before .before .before .before .before .before
 
 -- the row is that of the diagonal
-own : (c : tie.Else1) → let a = start (c .before) .args in row (now (a .entry-rows)) (a .q) ≡ a .j
+own : (c : tie.Else1) → let a = start (c .before) .args in row (now (a .result-rows)) (a .q) ≡ a .j
 own c = omega (arith, c .before .at .ensures, c .if1 .left)
 
 -- the entry on the diagonal
 abbrev entry-of : tie.Start → Float
 entry-of s =
     let a = s .args in
-    float-on (a .d) (entrySum (sumTerms (a .n) (a .j) (a .s) (a .e) (now (a .rows)) (now (a .values)) (now (a .scratch))) (now (a .inverse)) (a .j))
+    float-on (a .d) (entrySum (sumTerms (a .n) (a .j) (a .s) (a .e) (now (a .rows)) (now (a .values)) (now (a .scratch))) (now (a .result-values)) (a .j))
 
 at-requires : tie.Need-at-requires
 at-requires c κs = search needs
@@ -34,8 +34,8 @@ returns : tie.Need-returns
 returns c =
     let s = start (c .before) in
     let a = s .args in
-    ap (λ (b : Bool). putIf b (now (a .inverse)) (a .q) (entry-of s))
-    (sym (ne-eqb (row (now (a .entry-rows)) (a .q)) (a .j) (λ e. c .if1 .taken (c .before .at .ensures ∙ e))))
+    ap (λ (b : Bool). putIf b (now (a .result-values)) (a .q) (entry-of s))
+    (sym (ne-eqb (row (now (a .result-rows)) (a .q)) (a .j) (λ e. c .if1 .taken (c .before .at .ensures ∙ e))))
 
 entry-sum-requires : tie.Need-entry-sum-requires
 entry-sum-requires c κs = let t = c .before in start (t .before) .pre .sum (own t)
@@ -58,8 +58,8 @@ returns-2 c =
     let t = f .before .before in
     let s = start (t .before) in
     let a = s .args in
-    ap (set (now (a .inverse)) (a .q)) (c .entry-on-diagonal .ensures ∙ ap (float-on (a .d)) (f .entry-sum .ensures))
-    ∙ ap (λ (b : Bool). putIf b (now (a .inverse)) (a .q) (entry-of s)) (sym (eq-eqb (row (now (a .entry-rows)) (a .q)) (a .j) (own t)))
+    ap (set (now (a .result-values)) (a .q)) (c .entry-on-diagonal .ensures ∙ ap (float-on (a .d)) (f .entry-sum .ensures))
+    ∙ ap (λ (b : Bool). putIf b (now (a .result-values)) (a .q) (entry-of s)) (sym (eq-eqb (row (now (a .result-rows)) (a .q)) (a .j) (own t)))
 
 pub store-diagonal-spec : {M : Type 1} → statement M
 store-diagonal-spec =

@@ -35,7 +35,7 @@ returns : tie.Need-returns
 returns c =
     let t = c .before .before in
     let a = t .before .before .before .args in
-    ap (λ (x : ℕ). set (now (a .inverse)) (a .q) (withTerm (now (a .inverse)) (a .q) (a .l) x)) (t .at .ensures)
+    ap (λ (x : ℕ). set (now (a .result-values)) (a .q) (withTerm (now (a .result-values)) (a .q) (a .l) x)) (t .at .ensures)
 
 pub add-at-spec : {M : Type 1} → statement M
 add-at-spec =

@@ -25,7 +25,7 @@ first-inside c =
 first-is : (c : tie.After-at2) →
     let d = based (c .before .before) in
     let a = start d .args in
-    c .at2 .result ≡ rowPositions (d .column-base .result) (now (a .entry-rows)) (now (a .scratch)) (a .from)
+    c .at2 .result ≡ rowPositions (d .column-base .result) (now (a .result-rows)) (now (a .scratch)) (a .from)
 first-is c =
     let d = based (c .before .before) in
     c .at2 .ensures ∙ ap (λ (k : ℕ). getD (now (start d .args .scratch)) (d .column-base .result + k) 0) (c .before .at .ensures)

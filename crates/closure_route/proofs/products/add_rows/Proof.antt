@@ -13,11 +13,11 @@ use Rattle.closure_route.proofs.products.add_rows.Statement.{statement}
 use Rattle.closure_route.proofs.products.add_rows.Tie as tie
 
 abbrev Inv-loop : tie.InvT-loop
-Inv-loop base from last l entry-rows scratch inverse₀ q₀ inverse q =
-    (from ≤ q) × (q ≤ last) × PartSet from q (rowTerms base l entry-rows scratch inverse₀) inverse₀ inverse
+Inv-loop base from last l result-rows scratch result-values₀ q₀ result-values q =
+    (from ≤ q) × (q ≤ last) × PartSet from q (rowTerms base l result-rows scratch result-values₀) result-values₀ result-values
 
 abbrev μ-loop : tie.MeasureT-loop
-μ-loop base from last l entry-rows scratch inverse₀ q₀ inverse q = last - q
+μ-loop base from last l result-rows scratch result-values₀ q₀ result-values q = last - q
 
 abbrev start : tie.At-loop Inv-loop μ-loop → tie.Start Inv-loop μ-loop
 start q = q .before .before .before .before
@@ -58,7 +58,7 @@ loop-again c =
       omega (arith, l .inv .0),
       omega (arith, t .loop-test .taken),
       rw (v .add-at .ensures)
-          (product-more (λ p. getD (now (a .scratch)) (a .base + row (now (a .entry-rows)) p) 0) (a .l) (l .inv .2) (l .inv .0)
+          (product-more (λ p. getD (now (a .scratch)) (a .base + row (now (a .result-rows)) p) 0) (a .l) (l .inv .2) (l .inv .0)
           (s .pre .words (l .q) (l .inv .0) (t .loop-test .taken) .fits) e
           (omega (arith, e, s .pre .behind (l .q) (l .inv .0) (t .loop-test .taken)))),
     )
@@ -70,9 +70,9 @@ returns : tie.Need-returns Inv-loop μ-loop
 returns c =
     let l = c .before .loop in
     let a = start (c .before) .args in
-    let z₀ = now (a .inverse) in
+    let z₀ = now (a .result-values) in
     let e : l .q ≡ a .last = omega (arith, c .loop-test .left, l .inv .1) in
-    subst (λ (q : ℕ). PartSet (a .from) q (rowTerms (a .base) (a .l) (now (a .entry-rows)) (now (a .scratch)) z₀) z₀ (l .inverse)) e (l .inv .2)
+    subst (λ (q : ℕ). PartSet (a .from) q (rowTerms (a .base) (a .l) (now (a .result-rows)) (now (a .scratch)) z₀) z₀ (l .result-values)) e (l .inv .2)
 
 pub add-rows-spec : {M : Type 1} → statement M
 add-rows-spec =

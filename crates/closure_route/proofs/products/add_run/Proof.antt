@@ -11,11 +11,11 @@ use Rattle.closure_route.proofs.products.add_run.Statement.{statement}
 use Rattle.closure_route.proofs.products.add_run.Tie as tie
 
 abbrev Inv-loop : tie.InvT-loop
-Inv-loop from last position l inverse₀ q₀ r₀ inverse q r =
-    (from ≤ q) × (q ≤ last) × (r ≡ position + (q - from)) × PartSet from q (runTerms from position l inverse₀) inverse₀ inverse
+Inv-loop from last position l result-values₀ q₀ r₀ result-values q r =
+    (from ≤ q) × (q ≤ last) × (r ≡ position + (q - from)) × PartSet from q (runTerms from position l result-values₀) result-values₀ result-values
 
 abbrev μ-loop : tie.MeasureT-loop
-μ-loop from last position l inverse₀ q₀ r₀ inverse q r = last - q
+μ-loop from last position l result-values₀ q₀ r₀ result-values q r = last - q
 
 loop-holds : tie.Need-loop-holds Inv-loop μ-loop
 loop-holds c = (omega arith, search needs, omega arith, part-none _ _ _)
@@ -66,9 +66,9 @@ returns : tie.Need-returns Inv-loop μ-loop
 returns c =
     let l = c .before .loop in
     let a = c .before .before .args in
-    let z₀ = now (a .inverse) in
+    let z₀ = now (a .result-values) in
     let e : l .q ≡ a .last = omega (arith, c .loop-test .left, l .inv .1) in
-    subst (λ (q : ℕ). PartSet (a .from) q (runTerms (a .from) (a .position) (a .l) z₀) z₀ (l .inverse)) e (l .inv .3)
+    subst (λ (q : ℕ). PartSet (a .from) q (runTerms (a .from) (a .position) (a .l) z₀) z₀ (l .result-values)) e (l .inv .3)
 
 pub add-run-spec : {M : Type 1} → statement M
 add-run-spec =

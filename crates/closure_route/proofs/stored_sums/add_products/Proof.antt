@@ -11,17 +11,17 @@ use Rattle.closure_route.proofs.stored_sums.add_products.Statement.{sta
 use Rattle.closure_route.proofs.stored_sums.add_products.Tie as tie
 
 abbrev Inv-loop : tie.InvT-loop
-Inv-loop n j first last s e rows values entry-rows scratch inverse₀ q₀ p₀ inverse q p =
-    (length inverse ≡ length inverse₀)
+Inv-loop n j first last s e rows values result-rows scratch result-values₀ q₀ p₀ result-values q p =
+    (length result-values ≡ length result-values₀)
     × (s ≤ p)
     × (p ≤ e)
     × (first ≤ q)
     × (q ≤ last)
-    × RowsBefore (sumColumn n j first last s e rows values entry-rows scratch) q p
-    × ProductsAdded (sumColumn n j first last s e rows values entry-rows scratch) p inverse₀ inverse
+    × RowsBefore (sumColumn n j first last s e rows values result-rows scratch) q p
+    × ProductsAdded (sumColumn n j first last s e rows values result-rows scratch) p result-values₀ result-values
 
 abbrev μ-loop : tie.MeasureT-loop
-μ-loop n j first last s e rows values entry-rows scratch inverse₀ q₀ p₀ inverse q p = e - p
+μ-loop n j first last s e rows values result-rows scratch result-values₀ q₀ p₀ result-values q p = e - p
 
 abbrev begin : tie.At-loop Inv-loop μ-loop → tie.Start Inv-loop μ-loop
 begin c = c .before .before .before .before .before .before
@@ -30,13 +30,13 @@ begin c = c .before .before .before .before .before .before
 abbrev column : tie.Start Inv-loop μ-loop → SumColumn
 column s =
     let a = s .args in
-    sumColumn (a .n) (a .j) (a .first) (a .last) (a .s) (a .e) (now (a .rows)) (now (a .values)) (now (a .entry-rows)) (now (a .scratch))
+    sumColumn (a .n) (a .j) (a .first) (a .last) (a .s) (a .e) (now (a .rows)) (now (a .values)) (now (a .result-rows)) (now (a .scratch))
 
 loop-holds : tie.Need-loop-holds Inv-loop μ-loop
 loop-holds c =
     let s = c .before .before .before .before .before in
     let S = s .pre .sums .storing in
-    (refl, omega arith, S .column .ordered, omega arith, S .ordered, λ i t a b. absurd (omega arith), products-none (s .pre .sums) (now (s .args .inverse)) (s .pre .cleared))
+    (refl, omega arith, S .column .ordered, omega arith, S .ordered, λ i t a b. absurd (omega arith), products-none (s .pre .sums) (now (s .args .result-values)) (s .pre .cleared))
 
 add-stored-requires : tie.Need-add-stored-requires Inv-loop μ-loop
 add-stored-requires c κs =
@@ -75,7 +75,7 @@ returns c =
     let l = c .before .loop in
     let s = begin (c .before) in
     let e : l .p ≡ s .args .e = omega (arith, c .loop-test .left, l .inv .2) in
-    subst (λ (k : ℕ). ProductsAdded (column s) k (now (s .args .inverse)) (l .inverse)) e (l .inv .6)
+    subst (λ (k : ℕ). ProductsAdded (column s) k (now (s .args .result-values)) (l .result-values)) e (l .inv .6)
 
 pub add-products-spec : {M : Type 1} → statement M
 add-products-spec =

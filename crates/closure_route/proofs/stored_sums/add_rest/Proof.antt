@@ -20,12 +20,12 @@ begin c = c .before .before .before .before .before .before
 abbrev column : tie.Start → SumColumn
 column s =
     let a = s .args in
-    sumColumn (a .n) (a .j) (a .q) (a .q + 1) (a .p) (a .e) (now (a .rows)) (now (a .values)) (now (a .entry-rows)) (now (a .scratch))
+    sumColumn (a .n) (a .j) (a .q) (a .q + 1) (a .p) (a .e) (now (a .rows)) (now (a .values)) (now (a .result-rows)) (now (a .scratch))
 
 -- where the greater rows start
 from : (c : tie.After-first-from) →
     let a = begin (c .before) .args in
-    FirstFrom (row (now (a .entry-rows)) (a .q) + 1) (now (a .rows)) (a .p) (a .e) (c .first-from .result)
+    FirstFrom (row (now (a .result-rows)) (a .q) + 1) (now (a .rows)) (a .p) (a .e) (c .first-from .result)
 from c =
     let a = begin (c .before) .args in
     subst (λ (k : ℕ). FirstFrom (k + 1) (now (a .rows)) (a .p) (a .e) (c .first-from .result)) (c .before .at .ensures) (c .first-from .ensures)
@@ -65,7 +65,7 @@ returns c =
     let f = c .before .before .before .before in
     let s = begin (f .before) in
     let a = s .args in
-    let z = now (a .inverse) in
+    let z = now (a .result-values) in
     let t = sumTerms (a .n) (a .j) (f .first-from .result) (a .e) (now (a .rows)) (now (a .values)) (now (a .scratch)) in
     rest-set (column s) (from f) z (c .sum-rest .result) (s .pre .fits)
     (subst (λ (k : ℕ). SumContinued t z k (getD z (a .q) nan) (c .sum-rest .result)) (f .before .at .ensures) (c .sum-rest .ensures))
@@ -74,7 +74,7 @@ returns-2 : tie.Need-returns-2
 returns-2 c =
     let f = c .before in
     let s = begin (f .before) in
-    rest-none (column s) (from f) (now (s .args .inverse)) (c .if1 .left)
+    rest-none (column s) (from f) (now (s .args .result-values)) (c .if1 .left)
 
 pub add-rest-spec : {M : Type 1} → statement M
 add-rest-spec =

@@ -11,17 +11,17 @@ use Rattle.closure_route.proofs.stored_sums.add_rests.Statement.{statem
 use Rattle.closure_route.proofs.stored_sums.add_rests.Tie as tie
 
 abbrev Inv-loop : tie.InvT-loop
-Inv-loop n j first last s e zeros rows values entry-rows scratch inverse₀ p₀ q₀ inverse p q =
-    (length inverse ≡ length inverse₀)
+Inv-loop n j first last s e zeros rows values result-rows scratch result-values₀ p₀ q₀ result-values p q =
+    (length result-values ≡ length result-values₀)
     × (first ≤ q)
     × (q ≤ last)
     × (s ≤ p)
     × (p ≤ e)
-    × RowsReached (sumColumn n j first last s e rows values entry-rows scratch) p q
-    × RestsAdded (sumColumn n j first last s e rows values entry-rows scratch) q inverse₀ inverse
+    × RowsReached (sumColumn n j first last s e rows values result-rows scratch) p q
+    × RestsAdded (sumColumn n j first last s e rows values result-rows scratch) q result-values₀ result-values
 
 abbrev μ-loop : tie.MeasureT-loop
-μ-loop n j first last s e zeros rows values entry-rows scratch inverse₀ p₀ q₀ inverse p q = last - q
+μ-loop n j first last s e zeros rows values result-rows scratch result-values₀ p₀ q₀ result-values p q = last - q
 
 abbrev begin : tie.At-loop Inv-loop μ-loop → tie.Start Inv-loop μ-loop
 begin c = c .before .before .before .before .before .before
@@ -30,13 +30,13 @@ begin c = c .before .before .before .before .before .before
 abbrev column : tie.Start Inv-loop μ-loop → SumColumn
 column s =
     let a = s .args in
-    sumColumn (a .n) (a .j) (a .first) (a .last) (a .s) (a .e) (now (a .rows)) (now (a .values)) (now (a .entry-rows)) (now (a .scratch))
+    sumColumn (a .n) (a .j) (a .first) (a .last) (a .s) (a .e) (now (a .rows)) (now (a .values)) (now (a .result-rows)) (now (a .scratch))
 
 loop-holds : tie.Need-loop-holds Inv-loop μ-loop
 loop-holds c =
     let s = c .before .before .before .before .before in
     let S = s .pre .sums .storing in
-    (refl, omega arith, S .ordered, omega arith, S .column .ordered, λ t i a b. absurd (omega arith), rests-none (s .pre) (now (s .args .inverse)))
+    (refl, omega arith, S .ordered, omega arith, S .column .ordered, λ t i a b. absurd (omega arith), rests-none (s .pre) (now (s .args .result-values)))
 
 add-rest-requires : tie.Need-add-rest-requires Inv-loop μ-loop
 add-rest-requires c κs =
@@ -75,7 +75,7 @@ returns c =
     let l = c .before .loop in
     let s = begin (c .before) in
     let e : l .q ≡ s .args .last = omega (arith, c .loop-test .left, l .inv .2) in
-    subst (λ (k : ℕ). RestsAdded (column s) k (now (s .args .inverse)) (l .inverse)) e (l .inv .6)
+    subst (λ (k : ℕ). RestsAdded (column s) k (now (s .args .result-values)) (l .result-values)) e (l .inv .6)
 
 pub add-rests-spec : {M : Type 1} → statement M
 add-rests-spec =

@@ -24,11 +24,11 @@ under c = omega (arith, c .if1 .left, c .before .at .ensures)
 -- where the sums start whose row is not less
 from : (c : tie.After-first-from) →
     let a = begin (c .before .before) .args in
-    FirstFrom (row (now (a .rows)) (a .p)) (now (a .entry-rows)) (a .q) (a .last) (c .first-from .result)
+    FirstFrom (row (now (a .rows)) (a .p)) (now (a .result-rows)) (a .q) (a .last) (c .first-from .result)
 from c =
     let t = c .before .before in
     let a = begin t .args in
-    subst (λ (k : ℕ). FirstFrom k (now (a .entry-rows)) (a .q) (a .last) (c .first-from .result)) (t .at .ensures) (c .first-from .ensures)
+    subst (λ (k : ℕ). FirstFrom k (now (a .result-rows)) (a .q) (a .last) (c .first-from .result)) (t .at .ensures) (c .first-from .ensures)
 
 -- past both tests it is kept
 kept : (c : tie.Else2) →
@@ -46,7 +46,7 @@ at-requires c κs = search needs
 returns : tie.Need-returns
 returns c =
     let s = begin (c .before) in
-    product-above (s .pre) (now (s .args .inverse)) (omega (arith, c .before .at .ensures, c .if1 .taken))
+    product-above (s .pre) (now (s .args .result-values)) (omega (arith, c .before .at .ensures, c .if1 .taken))
 
 first-from-requires : tie.Need-first-from-requires
 first-from-requires c κs = search needs
@@ -61,7 +61,7 @@ returns-2 : tie.Need-returns-2
 returns-2 c =
     let f = c .before .before in
     let s = begin (f .before .before) in
-    product-zero (s .pre) (from f) (now (s .args .inverse)) (under (f .before)) (nonzero-not (now (s .args .values)) (s .args .p) (c .if2 .taken))
+    product-zero (s .pre) (from f) (now (s .args .result-values)) (under (f .before)) (nonzero-not (now (s .args .values)) (s .args .p) (c .if2 .taken))
 
 add-column-requires : tie.Need-add-column-requires
 add-column-requires c κs =
@@ -85,7 +85,7 @@ returns-4 : tie.Need-returns-4
 returns-4 c =
     let f = c .before .before .before in
     let s = begin (f .before .before) in
-    product-none (s .pre) (from f) (now (s .args .inverse)) (c .if3 .left)
+    product-none (s .pre) (from f) (now (s .args .result-values)) (c .if3 .left)
 
 pub add-stored-spec : {M : Type 1} → statement M
 add-stored-spec =

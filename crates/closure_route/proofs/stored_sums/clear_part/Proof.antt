@@ -11,11 +11,11 @@ use Rattle.closure_route.proofs.stored_sums.clear_part.Statement.{state
 use Rattle.closure_route.proofs.stored_sums.clear_part.Tie as tie
 
 abbrev Inv-loop : tie.InvT-loop
-Inv-loop first last inverse₀ q₀ inverse q =
-    (length inverse ≡ length inverse₀) × (first ≤ q) × (q ≤ last) × PartSet first q zeros inverse₀ inverse
+Inv-loop first last result-values₀ q₀ result-values q =
+    (length result-values ≡ length result-values₀) × (first ≤ q) × (q ≤ last) × PartSet first q zeros result-values₀ result-values
 
 abbrev μ-loop : tie.MeasureT-loop
-μ-loop first last inverse₀ q₀ inverse q = last - q
+μ-loop first last result-values₀ q₀ result-values q = last - q
 
 loop-holds : tie.Need-loop-holds Inv-loop μ-loop
 loop-holds c = (refl, omega arith, search needs, part-none _ _ _)
@@ -35,7 +35,7 @@ loop-less c = search needs
 loop-again : tie.Need-loop-again Inv-loop μ-loop
 loop-again c =
     let l = c .before .loop in
-    (length-set (l .inverse) (l .q) f0 ∙ l .inv .0, omega arith, omega arith, part-more (l .inv .3) (l .inv .1) (omega arith) refl)
+    (length-set (l .result-values) (l .q) f0 ∙ l .inv .0, omega arith, omega arith, part-more (l .inv .3) (l .inv .1) (omega arith) refl)
 
 same-length : tie.Need-same-length Inv-loop μ-loop
 same-length c = search needs
@@ -45,7 +45,7 @@ returns c =
     let l = c .before .loop in
     let a = c .before .before .args in
     let e : l .q ≡ a .last = omega arith in
-    subst (λ (q : ℕ). PartSet (a .first) q zeros (now (a .inverse)) (l .inverse)) e (l .inv .3)
+    subst (λ (q : ℕ). PartSet (a .first) q zeros (now (a .result-values)) (l .result-values)) e (l .inv .3)
 
 pub clear-part-spec : {M : Type 1} → statement M
 clear-part-spec =

@@ -20,10 +20,10 @@ begin f = f .before .before .before .before .before .before
 abbrev column : tie.After-first-from → SumColumn
 column f =
     let a = begin f .args in
-    sumColumn (a .n) (a .j) (a .first) (a .last) (a .s) (a .e) (now (a .rows)) (now (a .values)) (now (a .entry-rows)) (now (a .scratch))
+    sumColumn (a .n) (a .j) (a .first) (a .last) (a .s) (a .e) (now (a .rows)) (now (a .values)) (now (a .result-rows)) (now (a .scratch))
 
 -- the sums from the first row below the diagonal on
-sums : (t : tie.Then1) → let f = t .before in SumsInput (columnFrom (column f) (f .first-from .result)) (length (now (begin f .args .inverse)))
+sums : (t : tie.Then1) → let f = t .before in SumsInput (columnFrom (column f) (f .first-from .result)) (length (now (begin f .args .result-values)))
 sums t = let f = t .before in from-sums (column f) (f .first-from .ensures) (begin f .pre) (t .if1 .taken)
 
 add-first-from : tie.Need-add-first-from
@@ -102,7 +102,7 @@ returns-2 c =
     (rests-idle (sums t) _ (ap (λ (i : ℕ). anyIn (outsideAt (i + 1) (now (a .rows))) (a .s) (a .e)) (sym (g .before .at .ensures)) ∙ sym (g .has-greater .ensures) ∙ c .if2 .left)))
 
 returns-3 : tie.Need-returns-3
-returns-3 c = let f = c .before in none-stored (column f) (f .first-from .ensures) (now (begin f .args .inverse)) (c .if1 .left)
+returns-3 c = let f = c .before in none-stored (column f) (f .first-from .ensures) (now (begin f .args .result-values)) (c .if1 .left)
 
 pub store-sums-spec : {M : Type 1} → statement M
 store-sums-spec =

@@ -19,7 +19,7 @@ start c = c .before .before .before .before .before
 
 -- the inverse's row i
 abbrev inverse-row : tie.Start → ℕ → Float
-inverse-row s = inverseAt nan (s .args .n) (now (s .args .scratch)) (now (s .args .inverse)) (s .args .i)
+inverse-row s = inverseAt nan (s .args .n) (now (s .args .scratch)) (now (s .args .result-values)) (s .args .i)
 
 -- the entry is below the diagonal, and kept
 under : (c : tie.Else1) → start (c .before) .args .j < row (now (start (c .before) .args .rows)) (start (c .before) .args .p)
@@ -52,11 +52,11 @@ kept c =
 reads : (c : tie.Then2) →
     let t = c .before .before .before in
     let a = start t .args in
-    PairEntryInput (a .n) (a .i) (t .at .result) (now (a .scratch)) (length (now (a .inverse)))
+    PairEntryInput (a .n) (a .i) (t .at .result) (now (a .scratch)) (length (now (a .result-values)))
 reads c =
     let t = c .before .before .before in
     let s = start t in
-    subst (λ (k : ℕ). PairEntryInput (s .args .n) (s .args .i) k (now (s .args .scratch)) (length (now (s .args .inverse)))) (sym (t .at .ensures))
+    subst (λ (k : ℕ). PairEntryInput (s .args .n) (s .args .i) k (now (s .args .scratch)) (length (now (s .args .result-values)))) (sym (t .at .ensures))
     (product-read (s .pre .1) (kept c))
 
 pair-position-requires : tie.Need-pair-position-requires
@@ -65,7 +65,7 @@ pair-position-requires c κs =
     (s .pre .0 .0, s .pre .0 .1, reads c .pair)
 
 -- its position is within the list
-within : (c : tie.After-pair-position) → c .pair-position .result < length (now (start (c .before .before .before .before) .args .inverse))
+within : (c : tie.After-pair-position) → c .pair-position .result < length (now (start (c .before .before .before .before) .args .result-values))
 within c = omega (arith, c .pair-position .ensures, reads (c .before) .known)
 
 mul-result : tie.Need-mul-result
@@ -80,7 +80,7 @@ returns-2 c =
     let t = d .before .before .before in
     let s = start (t .before) in
     ap (λ (x : Float). add binary64 (s .args .sum) (mul binary64 (value (now (s .args .values)) (s .args .p)) x))
-    (ap (λ (q : ℕ). getD (now (s .args .inverse)) q nan) (d .pair-position .ensures) ∙ ap (inverse-row s) (t .before .at .ensures))
+    (ap (λ (q : ℕ). getD (now (s .args .result-values)) q nan) (d .pair-position .ensures) ∙ ap (inverse-row s) (t .before .at .ensures))
     ∙ withProduct-kept (now (s .args .rows)) (now (s .args .values)) (s .args .j) (s .args .p) (inverse-row s) (s .args .sum) (kept (d .before))
 
 returns-3 : tie.Need-returns-3

@@ -12,11 +12,11 @@ use Rattle.closure_route.proofs.sums.sum_from.Statement.{statement}
 use Rattle.closure_route.proofs.sums.sum_from.Tie as tie
 
 abbrev Inv-loop : tie.InvT-loop
-Inv-loop n i j first e start rows values scratch inverse positions base sum₀ p₀ sum p =
-    (first ≤ p) × (p ≤ e) × SumContinued (sumTerms n j first p rows values scratch) inverse i start sum
+Inv-loop n i j first e start rows values scratch result-values positions base sum₀ p₀ sum p =
+    (first ≤ p) × (p ≤ e) × SumContinued (sumTerms n j first p rows values scratch) result-values i start sum
 
 abbrev μ-loop : tie.MeasureT-loop
-μ-loop n i j first e start rows values scratch inverse positions base sum₀ p₀ sum p = e - p
+μ-loop n i j first e start rows values scratch result-values positions base sum₀ p₀ sum p = e - p
 
 abbrev based : tie.After-column-shift Inv-loop μ-loop → tie.Start Inv-loop μ-loop
 based d = d .before .before .before .before .before .before
@@ -57,7 +57,7 @@ loop-again c =
     let t = c .before in
     let l = t .before .loop in
     let a = begin (t .before) .args in
-    let r = inverseAt nan (a .n) (now (a .scratch)) (now (a .inverse)) (a .i) in (
+    let r = inverseAt nan (a .n) (now (a .scratch)) (now (a .result-values)) (a .i) in (
       omega (arith, l .inv .0),
       omega (arith, t .loop-test .taken),
       λ s h q.
@@ -71,7 +71,7 @@ returns c =
     let a = begin (c .before) .args in
     let e : l .p ≡ a .e = omega (arith, c .loop-test .left, l .inv .1) in
     let t : ℕ → SumTerms = λ k. sumTerms (a .n) (a .j) (a .first) k (now (a .rows)) (now (a .values)) (now (a .scratch)) in
-    subst (λ (k : ℕ). SumContinued (t k) (now (a .inverse)) (a .i) (a .start) (l .sum)) e (l .inv .2)
+    subst (λ (k : ℕ). SumContinued (t k) (now (a .result-values)) (a .i) (a .start) (l .sum)) e (l .inv .2)
 
 pub sum-from-spec : {M : Type 1} → statement M
 sum-from-spec =

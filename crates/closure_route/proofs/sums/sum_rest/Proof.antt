@@ -63,7 +63,7 @@ returns c =
     let d = based t in
     let s = begin d in
     run-summed (s .pre) (none d) _ (d .column-base .ensures) (t .before .is-run .ensures (t .if2 .taken)) _ (first-is f)
-    (now (s .args .inverse)) (s .args .start) (c .sum-run .result) (c .sum-run .ensures)
+    (now (s .args .result-values)) (s .args .start) (c .sum-run .result) (c .sum-run .ensures)
 
 sum-rows-requires : tie.Need-sum-rows-requires
 sum-rows-requires c κs = let d = c .before .before in rows-input (begin d .pre) (none d) _ (d .column-base .ensures)
@@ -72,7 +72,7 @@ returns-2 : tie.Need-returns-2
 returns-2 c =
     let d = c .before .before .before in
     let s = begin d in
-    rows-summed (s .pre) (none d) _ (d .column-base .ensures) (now (s .args .inverse)) (s .args .start) (c .sum-rows .result) (c .sum-rows .ensures)
+    rows-summed (s .pre) (none d) _ (d .column-base .ensures) (now (s .args .result-values)) (s .args .start) (c .sum-rows .result) (c .sum-rows .ensures)
 
 sum-from-requires : tie.Need-sum-from-requires
 sum-from-requires c κs = c .before .before .before .before .before .pre .sum

@@ -12,11 +12,11 @@ use Rattle.closure_route.proofs.sums.sum_rows.Statement.{statement}
 use Rattle.closure_route.proofs.sums.sum_rows.Tie as tie
 
 abbrev Inv-loop : tie.InvT-loop
-Inv-loop base first e start rows values scratch inverse sum₀ p₀ sum p =
-    (first ≤ p) × (p ≤ e) × ProductsSummed values inverse first p (rowPositions base rows scratch) start sum
+Inv-loop base first e start rows values scratch result-values sum₀ p₀ sum p =
+    (first ≤ p) × (p ≤ e) × ProductsSummed values result-values first p (rowPositions base rows scratch) start sum
 
 abbrev μ-loop : tie.MeasureT-loop
-μ-loop base first e start rows values scratch inverse sum₀ p₀ sum p = e - p
+μ-loop base first e start rows values scratch result-values sum₀ p₀ sum p = e - p
 
 abbrev begin : tie.At-loop Inv-loop μ-loop → tie.Start Inv-loop μ-loop
 begin c = c .before .before .before .before .before
@@ -30,7 +30,7 @@ at-requires c κs = search needs
 -- the word is there, and its position
 word : (c : tie.After-at Inv-loop μ-loop) →
     let a = begin (c .before .before) .args in
-    (a .base + c .at .result < length (now (a .scratch))) × (getD (now (a .scratch)) (a .base + c .at .result) 0 < length (now (a .inverse)))
+    (a .base + c .at .result < length (now (a .scratch))) × (getD (now (a .scratch)) (a .base + c .at .result) 0 < length (now (a .result-values)))
 word c =
     let t = c .before in
     let l = t .before .loop in
@@ -49,7 +49,7 @@ shared-slice-read-sum : tie.Need-shared-slice-read-sum Inv-loop μ-loop
 shared-slice-read-sum c = search needs
 
 -- the entry is there
-inside : (c : tie.After-at2 Inv-loop μ-loop) → c .at2 .result < length (now (begin (c .before .before .before) .args .inverse))
+inside : (c : tie.After-at2 Inv-loop μ-loop) → c .at2 .result < length (now (begin (c .before .before .before) .args .result-values))
 inside c = omega (arith, c .at2 .ensures, word (c .before) .1)
 
 mul-sum-2 : tie.Need-mul-sum-2 Inv-loop μ-loop
@@ -74,7 +74,7 @@ loop-again c =
       omega (arith, l .inv .0),
       omega arith,
       λ f b s.
-          ap₂ (λ (x : Float) (k : ℕ). add binary64 x (mul binary64 (value (now (a .values)) (l .p)) (getD (now (a .inverse)) k nan)))
+          ap₂ (λ (x : Float) (k : ℕ). add binary64 x (mul binary64 (value (now (a .values)) (l .p)) (getD (now (a .result-values)) k nan)))
           (l .inv .2 f b (λ p lo hi. s p lo (omega arith)))
           (d .at2 .ensures ∙ ap (λ (k : ℕ). getD (now (a .scratch)) (a .base + k) 0) (d .before .at .ensures))
           ∙ s (l .p) (l .inv .0) (omega arith),
@@ -85,7 +85,7 @@ returns c =
     let l = c .before .loop in
     let a = begin (c .before) .args in
     let e : l .p ≡ a .e = omega (arith, c .loop-test .left, l .inv .1) in
-    subst (λ (k : ℕ). ProductsSummed (now (a .values)) (now (a .inverse)) (a .first) k (rowPositions (a .base) (now (a .rows)) (now (a .scratch))) (a .start) (l .sum)) e (l .inv .2)
+    subst (λ (k : ℕ). ProductsSummed (now (a .values)) (now (a .result-values)) (a .first) k (rowPositions (a .base) (now (a .rows)) (now (a .scratch))) (a .start) (l .sum)) e (l .inv .2)
 
 pub sum-rows-spec : {M : Type 1} → statement M
 sum-rows-spec =

@@ -11,11 +11,11 @@ use Rattle.closure_route.proofs.sums.sum_run.Statement.{statement}
 use Rattle.closure_route.proofs.sums.sum_run.Tie as tie
 
 abbrev Inv-loop : tie.InvT-loop
-Inv-loop first e position start values inverse sum₀ p₀ r₀ sum p r =
-    (first ≤ p) × (p ≤ e) × (r ≡ position + (p - first)) × ProductsSummed values inverse first p (runPositions first position) start sum
+Inv-loop first e position start values result-values sum₀ p₀ r₀ sum p r =
+    (first ≤ p) × (p ≤ e) × (r ≡ position + (p - first)) × ProductsSummed values result-values first p (runPositions first position) start sum
 
 abbrev μ-loop : tie.MeasureT-loop
-μ-loop first e position start values inverse sum₀ p₀ r₀ sum p r = e - p
+μ-loop first e position start values result-values sum₀ p₀ r₀ sum p r = e - p
 
 loop-holds : tie.Need-loop-holds Inv-loop μ-loop
 loop-holds c = (omega arith, search needs, omega arith, λ f b s. b)
@@ -50,7 +50,7 @@ loop-again c =
       omega arith,
       omega (arith, l .inv .2, l .inv .0),
       λ f b s.
-          ap₂ (λ (x : Float) (k : ℕ). add binary64 x (mul binary64 (value (now (a .values)) (l .p)) (getD (now (a .inverse)) k nan)))
+          ap₂ (λ (x : Float) (k : ℕ). add binary64 x (mul binary64 (value (now (a .values)) (l .p)) (getD (now (a .result-values)) k nan)))
           (l .inv .3 f b (λ p lo hi. s p lo (omega arith))) (l .inv .2)
           ∙ s (l .p) (l .inv .0) (omega arith),
     )
@@ -60,7 +60,7 @@ returns c =
     let l = c .before .loop in
     let a = c .before .before .args in
     let e : l .p ≡ a .e = omega (arith, c .loop-test .left, l .inv .1) in
-    subst (λ (k : ℕ). ProductsSummed (now (a .values)) (now (a .inverse)) (a .first) k (runPositions (a .first) (a .position)) (a .start) (l .sum)) e (l .inv .3)
+    subst (λ (k : ℕ). ProductsSummed (now (a .values)) (now (a .result-values)) (a .first) k (runPositions (a .first) (a .position)) (a .start) (l .sum)) e (l .inv .3)
 
 pub sum-run-spec : {M : Type 1} → statement M
 sum-run-spec =

@@ -37,7 +37,7 @@ returns : tie.Need-returns
 returns c =
     let k = c .before .before in
     let t = k .before .before in
-    pattern-values (begin (t .before) .pre) (agrees t) (now (begin (t .before) .args .entry-values)) (k .takahashi-selected-inverse-on-factor-pattern .ensures)
+    pattern-values (begin (t .before) .pre) (agrees t) (now (begin (t .before) .args .result-values)) (k .takahashi-selected-inverse-on-factor-pattern .ensures)
 
 -- src/lib.rt:50:5
 takahashi-selected-inverse-on-closure-requires :

@@ -15,11 +15,11 @@ use Rattle.operator_values.proofs.cross_value.add_terms.Statement.{stat
 use Rattle.operator_values.proofs.cross_value.add_terms.Tie as tie
 
 abbrev Inv-loop : tie.InvT-loop
-Inv-loop n a-columns a-weights a b-columns b-weights t f scratch inverse first x i positions base sum₀ b₀ sum b =
-    (t ≤ b) × (b ≤ f) × (sum ≡ withTerms floats (termColumn a-columns) (termColumn b-columns) (value a-weights) (value b-weights) (inverseAt nan n scratch inverse) t b a first)
+Inv-loop n a-columns a-weights a b-columns b-weights t f scratch result-values first x i positions base sum₀ b₀ sum b =
+    (t ≤ b) × (b ≤ f) × (sum ≡ withTerms floats (termColumn a-columns) (termColumn b-columns) (value a-weights) (value b-weights) (inverseAt nan n scratch result-values) t b a first)
 
 abbrev μ-loop : tie.MeasureT-loop
-μ-loop n a-columns a-weights a b-columns b-weights t f scratch inverse first x i positions base sum₀ b₀ sum b = f - b
+μ-loop n a-columns a-weights a b-columns b-weights t f scratch result-values first x i positions base sum₀ b₀ sum b = f - b
 
 abbrev start : tie.After-column-shift Inv-loop μ-loop → tie.Start Inv-loop μ-loop
 start q = q .before .before .before .before .before .before .before .before .before .before
@@ -74,14 +74,14 @@ at-requires-2 c κs = search needs
 reads : (c : tie.After-at2 Inv-loop μ-loop) →
     let d = c .before .before .before .before in
     let a = start d .args in
-    PairEntryInput (a .n) (d .before .before .at .result) (c .at2 .result) (now (a .scratch)) (length (now (a .inverse)))
+    PairEntryInput (a .n) (d .before .before .at .result) (c .at2 .result) (now (a .scratch)) (length (now (a .result-values)))
 reads c =
     let t = c .before .before in
     let q = t .before in
     let d = q .before in
     let s = start d in
     let a = s .args in
-    subst₂ (λ (i k : ℕ). PairEntryInput (a .n) i k (now (a .scratch)) (length (now (a .inverse)))) (sym (d .before .before .at .ensures)) (sym (c .at2 .ensures))
+    subst₂ (λ (i k : ℕ). PairEntryInput (a .n) i k (now (a .scratch)) (length (now (a .result-values)))) (sym (d .before .before .at .ensures)) (sym (c .at2 .ensures))
     (s .pre .reads (a .a) (q .loop .b) (omega arith) (omega arith) (q .loop .inv .0) (place t))
 
 pair-position-requires : tie.Need-pair-position-requires Inv-loop μ-loop
@@ -92,7 +92,7 @@ pair-position-requires c κs =
 
 -- its position is within the list
 within : (c : tie.After-pair-position Inv-loop μ-loop) →
-    c .pair-position .result < length (now (start (c .before .before .before .before .before) .args .inverse))
+    c .pair-position .result < length (now (start (c .before .before .before .before .before) .args .result-values))
 within c = omega (arith, c .pair-position .ensures, reads (c .before) .known)
 
 mul-sum : tie.Need-mul-sum Inv-loop μ-loop
@@ -117,13 +117,13 @@ loop-again c =
     let a = start (q .before) .args in
     let i = termColumn (now (a .a-columns)) (a .a) in
     let k = termColumn (now (a .b-columns)) (l .b) in
-    let Z = inverseAt nan (a .n) (now (a .scratch)) (now (a .inverse)) in
+    let Z = inverseAt nan (a .n) (now (a .scratch)) (now (a .result-values)) in
     let w = value (now (a .a-weights)) in
     let v = value (now (a .b-weights)) in
     let entry =
-    ap (λ (p : ℕ). getD (now (a .inverse)) p nan) (r .pair-position .ensures)
+    ap (λ (p : ℕ). getD (now (a .result-values)) p nan) (r .pair-position .ensures)
     ∙ ap₂ Z (q .before .before .before .at .ensures) (d .at2 .ensures)
-    ∙ sym (inverseAt-ordered nan (a .n) (now (a .scratch)) (now (a .inverse)) i k) in (
+    ∙ sym (inverseAt-ordered nan (a .n) (now (a .scratch)) (now (a .result-values)) i k) in (
       omega (arith, l .inv .0),
       omega (arith, place t),
       ap₂ (λ (x y : Float). add binary64 x (mul binary64 (mul binary64 (w (a .a)) (v (l .b))) y)) (l .inv .2) entry
@@ -135,7 +135,7 @@ returns c =
     let l = c .before .loop in
     let a = start (c .before .before) .args in
     let e : l .b ≡ a .f = omega (arith, c .loop-test .left, l .inv .1) in
-    let Z = inverseAt nan (a .n) (now (a .scratch)) (now (a .inverse)) in
+    let Z = inverseAt nan (a .n) (now (a .scratch)) (now (a .result-values)) in
     l .inv .2 ∙ ap (λ (k : ℕ). withTerms floats (termColumn (now (a .a-columns))) (termColumn (now (a .b-columns))) (value (now (a .a-weights))) (value (now (a .b-weights))) Z (a .t) k (a .a) (a .first)) e
 
 pub add-terms-spec : {M : Type 1} → statement M

@@ -14,11 +14,11 @@ use Rattle.operator_values.proofs.cross_value.cross_value.Statement.{st
 use Rattle.operator_values.proofs.cross_value.cross_value.Tie as tie
 
 abbrev Inv-loop : tie.InvT-loop
-Inv-loop n a-columns a-weights s e b-columns b-weights t f scratch inverse sum₀ a₀ sum a =
-    (s ≤ a) × (a ≤ e) × (sum ≡ sumBefore floats (termColumn a-columns) (termColumn b-columns) (value a-weights) (value b-weights) (inverseAt nan n scratch inverse) s t f a)
+Inv-loop n a-columns a-weights s e b-columns b-weights t f scratch result-values sum₀ a₀ sum a =
+    (s ≤ a) × (a ≤ e) × (sum ≡ sumBefore floats (termColumn a-columns) (termColumn b-columns) (value a-weights) (value b-weights) (inverseAt nan n scratch result-values) s t f a)
 
 abbrev μ-loop : tie.MeasureT-loop
-μ-loop n a-columns a-weights s e b-columns b-weights t f scratch inverse sum₀ a₀ sum a = e - a
+μ-loop n a-columns a-weights s e b-columns b-weights t f scratch result-values sum₀ a₀ sum a = e - a
 
 abbrev start : tie.At-loop Inv-loop μ-loop → tie.Start Inv-loop μ-loop
 start q = q .before .before .before .before .before .before .before
@@ -27,7 +27,7 @@ start q = q .before .before .before .before .before .before .before
 abbrev sum-to : tie.Start Inv-loop μ-loop → ℕ → Float
 sum-to s =
     let a = s .args in
-    sumBefore floats (termColumn (now (a .a-columns))) (termColumn (now (a .b-columns))) (value (now (a .a-weights))) (value (now (a .b-weights))) (inverseAt nan (a .n) (now (a .scratch)) (now (a .inverse))) (a .s) (a .t) (a .f)
+    sumBefore floats (termColumn (now (a .a-columns))) (termColumn (now (a .b-columns))) (value (now (a .a-weights))) (value (now (a .b-weights))) (inverseAt nan (a .n) (now (a .scratch)) (now (a .result-values))) (a .s) (a .t) (a .f)
 
 loop-holds : tie.Need-loop-holds Inv-loop μ-loop
 loop-holds c =
@@ -53,7 +53,7 @@ loop-again c =
     let j = termColumn (now (a .b-columns)) in
     let w = value (now (a .a-weights)) in
     let v = value (now (a .b-weights)) in
-    let Z = inverseAt nan (a .n) (now (a .scratch)) (now (a .inverse)) in (
+    let Z = inverseAt nan (a .n) (now (a .scratch)) (now (a .result-values)) in (
       omega (arith, l .inv .0),
       omega (arith, t .loop-test .taken),
       c .add-terms .ensures ∙ ap (λ (x : Float). withTerms floats k j w v Z (a .t) (a .f) (l .a) x) (l .inv .2)

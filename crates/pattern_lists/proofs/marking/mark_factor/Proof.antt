@@ -7,7 +7,7 @@ use borrow.Author.Needs.{needs}
 use Rattle.pairs.specs.Marks.{Added}
 use Rattle.columns.specs.Columns as columns
 use Rattle.columns.specs.Kept.{nonzero}
-use Rattle.pattern_lists.specs.PatternMarks.{ColumnFits, column-fits, columnSet, columnsSet, below-none, below-more}
+use Rattle.pattern_lists.specs.PatternMarks.{MarkColumnInput, column-fits, columnSet, columnsSet, below-none, below-more}
 use Rattle.pattern_lists.proofs.marking.mark_factor.Statement.{statement}
 use Rattle.pattern_lists.proofs.marking.mark_factor.Tie as tie
 
@@ -42,7 +42,7 @@ mark-column-requires c κs =
     let t = d .before .before in
     let l = t .before .loop in
     let s = start (t .before) in
-    subst₂ (λ (x y : ℕ). ColumnFits (l .c) (now (s .args .rows)) (length (now (s .args .values))) x y (l .marks)) (sym (d .before .at .ensures)) (sym (d .at2 .ensures))
+    subst₂ (λ (x y : ℕ). MarkColumnInput (l .c) (now (s .args .rows)) (length (now (s .args .values))) x y (l .marks)) (sym (d .before .at .ensures)) (sym (d .at2 .ensures))
     (column-fits (s .pre .0) (s .pre .1 .0) (l .marks) (l .inv .0 ∙ s .pre .1 .1) (l .c) (t .loop-test .taken))
 
 add-c : tie.Need-add-c Inv-loop μ-loop

@@ -7,7 +7,7 @@ use borrow.Author.Needs.{needs}
 use Rattle.pairs.specs.Marks.{Added}
 use Rattle.columns.specs.Columns as columns
 use Rattle.columns.specs.Operator.{operatorRows}
-use Rattle.pattern_lists.specs.PatternMarks.{TermsFit, row-fits, rowSet, rowsSet, below-none, below-more}
+use Rattle.pattern_lists.specs.PatternMarks.{MarkTermsInput, row-fits, rowSet, rowsSet, below-none, below-more}
 use Rattle.pattern_lists.proofs.marking.mark_operator.Statement.{statement}
 use Rattle.pattern_lists.proofs.marking.mark_operator.Tie as tie
 
@@ -49,7 +49,7 @@ mark-row-requires c κs =
     let t = d .before .before in
     let l = t .before .loop in
     let s = start (t .before) in
-    subst₂ (λ (x y : ℕ). TermsFit (now (s .args .columns)) x y (l .marks)) (sym (d .before .at .ensures)) (sym (d .at2 .ensures))
+    subst₂ (λ (x y : ℕ). MarkTermsInput (now (s .args .columns)) x y (l .marks)) (sym (d .before .at .ensures)) (sym (d .at2 .ensures))
     (row-fits (s .pre .0) (s .pre .1 .0) (l .marks) (l .inv .0 ∙ s .pre .1 .1) (l .i) (row t))
 
 add-i : tie.Need-add-i Inv-loop μ-loop

@@ -7,7 +7,7 @@ use borrow.Author.Needs.{needs}
 use Rattle.lists.specs.Test.{anyIn}
 use Rattle.pairs.specs.Pair.{ordered}
 use Rattle.pairs.specs.Marks.{Added}
-use Rattle.pattern_lists.specs.PatternMarks.{TermSpot, terms-spot, terms-part, termSet, range-none, range-more}
+use Rattle.pattern_lists.specs.PatternMarks.{MarkOrderedInput, terms-spot, terms-part, termSet, range-none, range-more}
 use Rattle.pattern_lists.proofs.marking.mark_terms.Statement.{statement}
 use Rattle.pattern_lists.proofs.marking.mark_terms.Tie as tie
 
@@ -39,7 +39,7 @@ mark-ordered-requires c κs =
     let l = t .before .loop in
     let s = start (t .before) in
     let F = terms-part (s .pre) (l .inv .0) (s .args .a + 1) (s .pre .ordered) (omega arith) in
-    subst₂ (λ (x y : ℕ). TermSpot x y (l .marks)) (sym (t .before .before .at .ensures)) (sym (d .at2 .ensures))
+    subst₂ (λ (x y : ℕ). MarkOrderedInput x y (l .marks)) (sym (t .before .before .at .ensures)) (sym (d .at2 .ensures))
     (terms-spot F (s .args .a) (l .b) (omega (arith, l .inv .1, t .loop-test .taken)) (omega arith) (l .inv .1) (omega (arith, t .loop-test .taken)))
 
 add-b : tie.Need-add-b Inv-loop μ-loop

@@ -5,7 +5,7 @@ use denote.Ref.{now}
 use lib.ListN.{getD}
 use Rattle.lists.specs.Test.{anyIn-none}
 use Rattle.pairs.specs.Pair.{ordered}
-use Rattle.marked_pairs.specs.MarkedPairs.{Insert, AlsoMarked, also-none, also-next}
+use Rattle.marked_pairs.specs.MarkedPairs.{InsertInput, AlsoMarked, also-none, also-next}
 use Rattle.request_marks.specs.CrossRequests.{withColumns}
 use Rattle.request_marks.proofs.cross.mark_with.Statement.{statement}
 use Rattle.request_marks.proofs.cross.mark_with.Tie as tie
@@ -33,7 +33,7 @@ insert-closure-pair-requires c κs =
     let t = d .before in
     let l = t .before .loop in
     let s = start (t .before) in
-    subst (λ (y : ℕ). Insert (s .args .n) (s .args .x) y (l .scratch) (l .count)) (sym (d .at .ensures))
+    subst (λ (y : ℕ). InsertInput (s .args .n) (s .args .x) y (l .scratch) (l .count)) (sym (d .at .ensures))
     (record { small = s .pre .1 .small; first = s .pre .0; second = s .pre .1 .inside (l .b) (omega (arith, t .loop-test .taken, s .pre .1 .stored)); marked = l .inv .2 .marked })
 
 add-b : tie.Need-add-b Inv-loop μ-loop

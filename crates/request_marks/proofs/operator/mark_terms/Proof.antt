@@ -4,7 +4,7 @@ use mathlib.Core.Path.{_≡_, sym, subst, subst₂}
 use denote.Ref.{now}
 use Rattle.lists.specs.Test.{anyIn, anyIn-none}
 use Rattle.pairs.specs.Pair.{ordered}
-use Rattle.marked_pairs.specs.MarkedPairs.{Insert, AlsoMarked, also-none, also-next}
+use Rattle.marked_pairs.specs.MarkedPairs.{InsertInput, AlsoMarked, also-none, also-next}
 use Rattle.pattern_lists.specs.PatternMarks.{termSet}
 use Rattle.request_marks.proofs.OperatorLaws.{row-part, row-insert}
 use Rattle.request_marks.proofs.operator.mark_terms.Statement.{statement}
@@ -37,7 +37,7 @@ insert-closure-pair-requires c κs =
     let t = d .before in
     let l = t .before .loop in
     let s = start (t .before) in
-    subst₂ (λ (x y : ℕ). Insert (s .args .n) x y (l .scratch) (l .count)) (sym (t .before .before .at .ensures)) (sym (d .at2 .ensures))
+    subst₂ (λ (x y : ℕ). InsertInput (s .args .n) x y (l .scratch) (l .count)) (sym (t .before .before .at .ensures)) (sym (d .at2 .ensures))
     (row-insert (row-part (s .pre) (l .inv .2 .marked) (s .args .a + 1) (s .pre .ordered) (omega arith))
     (s .args .a) (l .b) (omega arith) (omega (arith, t .loop-test .taken)))
 

@@ -8,23 +8,23 @@ use denote.Ref.{now}
 use Rattle.lists.specs.Overwrite.{filled, filled-none, filled-more}
 use Rattle.pairs.specs.Positions.{inverseAt}
 use Rattle.columns.specs.Columns as columns
-use Rattle.quadratic_form.specs.RowValue.{operatorsValue, operatorsValues}
-use Rattle.operator_values.specs.Reading.{RowsReading}
+use Rattle.quadratic_form.specs.RowValue.{rowPairValue, rowPairValues}
+use Rattle.operator_values.specs.Reading.{CrossValueInput}
 use Rattle.operator_values.proofs.ReadingLaws.{pair-reading}
-use Rattle.operator_values.proofs.operators_values.Statement.{statement}
-use Rattle.operator_values.proofs.operators_values.Tie as tie
+use Rattle.operator_values.proofs.row_pair_values.Statement.{statement}
+use Rattle.operator_values.proofs.row_pair_values.Tie as tie
 
 -- the value of row pair p
 abbrev pairValue : List ℕ → List ℕ → List Float → List ℕ → List ℕ → List Float → List ℕ → List ℕ → (ℕ → ℕ → Float) → ℕ → Float
-pairValue ast ac aw bst bc bw ar br Z p = operatorsValue ast ac aw bst bc bw Z (getD ar p 0) (getD br p 0)
+pairValue ast ac aw bst bc bw ar br Z p = rowPairValue ast ac aw bst bc bw Z (getD ar p 0) (getD br p 0)
 
 abbrev Inv-loop : tie.InvT-loop
-Inv-loop n a-row-starts a-columns a-weights b-row-starts b-columns b-weights a-rows b-rows scratch inverse output₀ p₀ output p =
+Inv-loop n a-row-starts a-columns a-weights b-row-starts b-columns b-weights a-rows b-rows scratch result-values output₀ p₀ output p =
     (p ≤ length a-rows) × (length output ≡ length output₀)
-    × (output ≡ filled (pairValue a-row-starts a-columns a-weights b-row-starts b-columns b-weights a-rows b-rows (inverseAt nan n scratch inverse)) p output₀)
+    × (output ≡ filled (pairValue a-row-starts a-columns a-weights b-row-starts b-columns b-weights a-rows b-rows (inverseAt nan n scratch result-values)) p output₀)
 
 abbrev μ-loop : tie.MeasureT-loop
-μ-loop n a-row-starts a-columns a-weights b-row-starts b-columns b-weights a-rows b-rows scratch inverse output₀ p₀ output p = length a-rows - p
+μ-loop n a-row-starts a-columns a-weights b-row-starts b-columns b-weights a-rows b-rows scratch result-values output₀ p₀ output p = length a-rows - p
 
 abbrev start : tie.At-loop Inv-loop μ-loop → tie.Start Inv-loop μ-loop
 start q = q .before .before .before .before .before .before .before .before .before .before .before .before
@@ -33,7 +33,7 @@ abbrev value-at : tie.Start Inv-loop μ-loop → ℕ → Float
 value-at s =
     let a = s .args in
     pairValue (now (a .a-row-starts)) (now (a .a-columns)) (now (a .a-weights)) (now (a .b-row-starts)) (now (a .b-columns)) (now (a .b-weights)) (now (a .a-rows)) (now (a .b-rows))
-    (inverseAt nan (a .n) (now (a .scratch)) (now (a .inverse)))
+    (inverseAt nan (a .n) (now (a .scratch)) (now (a .result-values)))
 
 -- there is room for its value
 room : (c : tie.In-loop Inv-loop μ-loop) → c .before .loop .p < length (now (start (c .before) .args .output))
@@ -50,8 +50,8 @@ at-requires-2 c κs = let t = c .before in omega (arith, t .loop-test .taken, st
 
 -- a reading at equal rows
 same-rows : {n : ℕ} {ac : List ℕ} {aw : ℕ} {bc : List ℕ} {bw : ℕ} {s : List ℕ} {size : ℕ} (as′ bs′ : List ℕ) {i j i′ j′ : ℕ} → i ≡ i′ → j ≡ j′
-    → RowsReading n ac aw bc bw s size (columns.start as′ i′) (columns.start as′ (i′ + 1)) (columns.start bs′ j′) (columns.start bs′ (j′ + 1))
-    → RowsReading n ac aw bc bw s size (columns.start as′ i) (columns.start as′ (i + 1)) (columns.start bs′ j) (columns.start bs′ (j + 1))
+    → CrossValueInput n ac aw bc bw s size (columns.start as′ i′) (columns.start as′ (i′ + 1)) (columns.start bs′ j′) (columns.start bs′ (j′ + 1))
+    → CrossValueInput n ac aw bc bw s size (columns.start as′ i) (columns.start as′ (i + 1)) (columns.start bs′ j) (columns.start bs′ (j + 1))
 same-rows as′ bs′ x y R = rw (x, y) R
 
 pair-value-requires : tie.Need-pair-value-requires Inv-loop μ-loop
@@ -90,10 +90,10 @@ loop-again c =
     let s = start (t .before) in
     let a = s .args in
     let f = value-at s in
-    let Z = inverseAt nan (a .n) (now (a .scratch)) (now (a .inverse)) in
+    let Z = inverseAt nan (a .n) (now (a .scratch)) (now (a .result-values)) in
     let made : c .pair-value .result ≡ f (l .p) =
     c .pair-value .ensures
-    ∙ ap₂ (operatorsValue (now (a .a-row-starts)) (now (a .a-columns)) (now (a .a-weights)) (now (a .b-row-starts)) (now (a .b-columns)) (now (a .b-weights)) Z) (d .before .at .ensures) (d .at2 .ensures) in (
+    ∙ ap₂ (rowPairValue (now (a .a-row-starts)) (now (a .a-columns)) (now (a .a-weights)) (now (a .b-row-starts)) (now (a .b-columns)) (now (a .b-weights)) Z) (d .before .at .ensures) (d .at2 .ensures) in (
       omega (arith, t .loop-test .taken),
       length-set (l .output) (l .p) (c .pair-value .result) ∙ l .inv .1,
       ap (set (l .output) (l .p)) made
@@ -105,7 +105,7 @@ same-length : tie.Need-same-length Inv-loop μ-loop
 same-length c = c .before .loop .inv .1
 
 returns : tie.Need-returns Inv-loop μ-loop
-unfolding operatorsValues filled
+unfolding rowPairValues filled
 returns c =
     let l = c .before .loop in
     let s = start (c .before) in
