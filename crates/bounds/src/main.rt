@@ -1,13 +1,16 @@
 // Calls with 1,048,577 entries, requests or terms, which are refused by 1, and with 1,048,576, which are not; and lookups of the largest index. The text of `replay` has no room for such lists, nor for such an index of a pair.
-// The program `driver malformed` (bindings/driver) makes such calls of every function through the C interface; here the proved code runs without it.
 // What the lists lent for writing hold is written after each call; they hold 7777 before it.
 mod calls;
 
 // All calls with so many indices, each 0.
 fn all(indices: &[u32]) {
+    calls::factor_pattern(indices);
     calls::operator_pattern(indices);
     calls::factor_entries(indices);
     calls::requests(indices);
+    calls::original_diagonal(indices);
+    calls::variances_of_factor(indices);
+    calls::variances_of_terms(indices);
 }
 
 fn above_and_within(indices: &[u32], most: usize) {

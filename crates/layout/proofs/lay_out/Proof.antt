@@ -37,14 +37,14 @@ next t =
 loop-holds : tie.Need-loop-holds Inv-loop μ-loop
 loop-holds c = (refl, refl, refl, omega arith, sym (colStart-none _), columns-none _ _ _ _)
 
-cast-starts : tie.Need-cast-starts Inv-loop μ-loop
-cast-starts c = omega (arith, few (c .before))
+cast-result-starts : tie.Need-cast-result-starts Inv-loop μ-loop
+cast-result-starts c = omega (arith, few (c .before))
 
-mul-starts : tie.Need-mul-starts Inv-loop μ-loop
-mul-starts c = search needs
+mul-result-starts : tie.Need-mul-result-starts Inv-loop μ-loop
+mul-result-starts c = search needs
 
-slice-write-starts : tie.Need-slice-write-starts Inv-loop μ-loop
-slice-write-starts c = search needs
+slice-write-result-starts : tie.Need-slice-write-result-starts Inv-loop μ-loop
+slice-write-result-starts c = search needs
 
 lay-reached-column-requires : tie.Need-lay-reached-column-requires Inv-loop μ-loop
 lay-reached-column-requires c κs =
@@ -87,14 +87,14 @@ loop-again c =
       columns-more (s .pre .0) (l .inv .5) (t .loop-test .taken) (v .lay-reached-column .ensures),
     )
 
-cast-starts-2 : tie.Need-cast-starts-2 Inv-loop μ-loop
-cast-starts-2 c = omega (arith, few (c .before))
+cast-result-starts-2 : tie.Need-cast-result-starts-2 Inv-loop μ-loop
+cast-result-starts-2 c = omega (arith, few (c .before))
 
-mul-starts-2 : tie.Need-mul-starts-2 Inv-loop μ-loop
-mul-starts-2 c = search needs
+mul-result-starts-2 : tie.Need-mul-result-starts-2 Inv-loop μ-loop
+mul-result-starts-2 c = search needs
 
-slice-write-starts-2 : tie.Need-slice-write-starts-2 Inv-loop μ-loop
-slice-write-starts-2 c = search needs
+slice-write-result-starts-2 : tie.Need-slice-write-result-starts-2 Inv-loop μ-loop
+slice-write-result-starts-2 c = search needs
 
 same-length : tie.Need-same-length Inv-loop μ-loop
 same-length c = search needs
@@ -117,18 +117,18 @@ lay-out-spec =
     Inv-loop
     μ-loop
     loop-holds
-    cast-starts
-    mul-starts
-    slice-write-starts
+    cast-result-starts
+    mul-result-starts
+    slice-write-result-starts
     lay-reached-column-requires
     sub-place
     add-place
     add-c
     loop-less
     loop-again
-    cast-starts-2
-    mul-starts-2
-    slice-write-starts-2
+    cast-result-starts-2
+    mul-result-starts-2
+    slice-write-result-starts-2
     same-length
     same-length-2
     same-length-3

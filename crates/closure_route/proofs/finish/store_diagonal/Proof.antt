@@ -43,11 +43,11 @@ entry-sum-requires c κs = let t = c .before in start (t .before) .pre .sum (own
 entry-on-diagonal-requires : tie.Need-entry-on-diagonal-requires
 entry-on-diagonal-requires c κs = search needs
 
-mul-inverse : tie.Need-mul-inverse
-mul-inverse c = search needs
+mul-result-values : tie.Need-mul-result-values
+mul-result-values c = search needs
 
-slice-write-inverse : tie.Need-slice-write-inverse
-slice-write-inverse c = search needs
+slice-write-result-values : tie.Need-slice-write-result-values
+slice-write-result-values c = search needs
 
 same-length : tie.Need-same-length
 same-length c = search needs
@@ -69,7 +69,7 @@ store-diagonal-spec =
     returns
     entry-sum-requires
     entry-on-diagonal-requires
-    mul-inverse
-    slice-write-inverse
+    mul-result-values
+    slice-write-result-values
     same-length
     returns-2)

@@ -16,17 +16,17 @@ mul-z c = search needs
 slice-read-z : tie.Need-slice-read-z
 slice-read-z c = search needs
 
-mul-inverse : tie.Need-mul-inverse
-mul-inverse c = search needs
+mul-result-values : tie.Need-mul-result-values
+mul-result-values c = search needs
 
-slice-read-inverse : tie.Need-slice-read-inverse
-slice-read-inverse c = search needs
+slice-read-result-values : tie.Need-slice-read-result-values
+slice-read-result-values c = search needs
 
-mul-inverse-2 : tie.Need-mul-inverse-2
-mul-inverse-2 c = search needs
+mul-result-values-2 : tie.Need-mul-result-values-2
+mul-result-values-2 c = search needs
 
-slice-write-inverse : tie.Need-slice-write-inverse
-slice-write-inverse c = search needs
+slice-write-result-values : tie.Need-slice-write-result-values
+slice-write-result-values c = search needs
 
 same-length : tie.Need-same-length
 same-length c = search needs
@@ -44,9 +44,9 @@ add-at-spec =
     at-requires
     mul-z
     slice-read-z
-    mul-inverse
-    slice-read-inverse
-    mul-inverse-2
-    slice-write-inverse
+    mul-result-values
+    slice-read-result-values
+    mul-result-values-2
+    slice-write-result-values
     same-length
     returns)

@@ -20,23 +20,23 @@ abbrev μ-loop : tie.MeasureT-loop
 loop-holds : tie.Need-loop-holds Inv-loop μ-loop
 loop-holds c = (omega arith, search needs, omega arith, part-none _ _ _)
 
-mul-inverse : tie.Need-mul-inverse Inv-loop μ-loop
-mul-inverse c = search needs
+mul-result-values : tie.Need-mul-result-values Inv-loop μ-loop
+mul-result-values c = search needs
 
-slice-read-inverse : tie.Need-slice-read-inverse Inv-loop μ-loop
-slice-read-inverse c = search needs
+slice-read-result-values : tie.Need-slice-read-result-values Inv-loop μ-loop
+slice-read-result-values c = search needs
 
-mul-inverse-2 : tie.Need-mul-inverse-2 Inv-loop μ-loop
-mul-inverse-2 c = search needs
+mul-result-values-2 : tie.Need-mul-result-values-2 Inv-loop μ-loop
+mul-result-values-2 c = search needs
 
-slice-read-inverse-2 : tie.Need-slice-read-inverse-2 Inv-loop μ-loop
-slice-read-inverse-2 c = search needs
+slice-read-result-values-2 : tie.Need-slice-read-result-values-2 Inv-loop μ-loop
+slice-read-result-values-2 c = search needs
 
-mul-inverse-3 : tie.Need-mul-inverse-3 Inv-loop μ-loop
-mul-inverse-3 c = search needs
+mul-result-values-3 : tie.Need-mul-result-values-3 Inv-loop μ-loop
+mul-result-values-3 c = search needs
 
-slice-write-inverse : tie.Need-slice-write-inverse Inv-loop μ-loop
-slice-write-inverse c = search needs
+slice-write-result-values : tie.Need-slice-write-result-values Inv-loop μ-loop
+slice-write-result-values c = search needs
 
 add-q : tie.Need-add-q Inv-loop μ-loop
 add-q c = search needs
@@ -77,12 +77,12 @@ add-run-spec =
     Inv-loop
     μ-loop
     loop-holds
-    mul-inverse
-    slice-read-inverse
-    mul-inverse-2
-    slice-read-inverse-2
-    mul-inverse-3
-    slice-write-inverse
+    mul-result-values
+    slice-read-result-values
+    mul-result-values-2
+    slice-read-result-values-2
+    mul-result-values-3
+    slice-write-result-values
     add-q
     add-r
     loop-less

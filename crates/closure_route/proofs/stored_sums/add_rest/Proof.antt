@@ -51,11 +51,11 @@ sum-rest-requires c κs =
     let f = t .before in
     rw (f .before .at .ensures) (begin (f .before) .pre .rest (f .first-from .result) (from f) (t .if1 .taken))
 
-mul-inverse : tie.Need-mul-inverse
-mul-inverse c = search needs
+mul-result-values : tie.Need-mul-result-values
+mul-result-values c = search needs
 
-slice-write-inverse : tie.Need-slice-write-inverse
-slice-write-inverse c = search needs
+slice-write-result-values : tie.Need-slice-write-result-values
+slice-write-result-values c = search needs
 
 same-length : tie.Need-same-length
 same-length c = search needs
@@ -86,8 +86,8 @@ add-rest-spec =
     mul-start
     slice-read-start
     sum-rest-requires
-    mul-inverse
-    slice-write-inverse
+    mul-result-values
+    slice-write-result-values
     same-length
     returns
     returns-2)

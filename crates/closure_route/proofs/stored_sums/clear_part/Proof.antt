@@ -20,11 +20,11 @@ abbrev μ-loop : tie.MeasureT-loop
 loop-holds : tie.Need-loop-holds Inv-loop μ-loop
 loop-holds c = (refl, omega arith, search needs, part-none _ _ _)
 
-mul-inverse : tie.Need-mul-inverse Inv-loop μ-loop
-mul-inverse c = search needs
+mul-result-values : tie.Need-mul-result-values Inv-loop μ-loop
+mul-result-values c = search needs
 
-slice-write-inverse : tie.Need-slice-write-inverse Inv-loop μ-loop
-slice-write-inverse c = search needs
+slice-write-result-values : tie.Need-slice-write-result-values Inv-loop μ-loop
+slice-write-result-values c = search needs
 
 add-q : tie.Need-add-q Inv-loop μ-loop
 add-q c = search needs
@@ -54,8 +54,8 @@ clear-part-spec =
     Inv-loop
     μ-loop
     loop-holds
-    mul-inverse
-    slice-write-inverse
+    mul-result-values
+    slice-write-result-values
     add-q
     loop-less
     loop-again
