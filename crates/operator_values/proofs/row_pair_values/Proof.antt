@@ -112,8 +112,8 @@ returns c =
     let e : l .p ≡ length (now (s .args .a-rows)) = omega (arith, c .loop-test .left, l .inv .0) in
     l .inv .2 ∙ ap (λ (k : ℕ). filled (value-at s) k (now (s .args .output))) e
 
-pub operators-values-spec : {M : Type 1} → statement M
-operators-values-spec =
+pub row-pair-values-spec : {M : Type 1} → statement M
+row-pair-values-spec =
     tie.close
     (tie.spec
     Inv-loop
