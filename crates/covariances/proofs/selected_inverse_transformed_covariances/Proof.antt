@@ -157,8 +157,8 @@ returns c =
 enum-told-3 : tie.Need-enum-told-3
 enum-told-3 c = search needs
 
-operators-values-requires : tie.Need-operators-values-requires
-operators-values-requires c κs =
+row-pair-values-requires : tie.Need-row-pair-values-requires
+row-pair-values-requires c κs =
     let v = c .before .before .before in
     let e = filling v in
     let t = asked e in
@@ -220,7 +220,7 @@ returns-3 c =
     let L = marked-lists (l .resultStarts) (l .resultRows) (l .resultValues) A M (filled .fills) (steps s) (passed t) in
     let P = filled .positions _ (marked-are (l .resultStarts) (l .resultRows) (l .resultValues) A M) (complete v) in
     output-within (steps s) (covarianceSelection (handed s)) (covarianceValues (handed s)) l (out s) (passed t) _ L (answer e) (k .clear-scratch2 .ensures) (complete v)
-    (w .operators-values .ensures
+    (w .row-pair-values .ensures
     ∙ ap (λ (z : List Float). overwrite z (out s)) (covariance-written (handed s) l (out s) (passed t) _ L (ready t) (complete v) P))
 
 pub selected-inverse-transformed-covariances-spec : {M : Type 1} → statement M
@@ -241,7 +241,7 @@ selected-inverse-transformed-covariances-spec =
     same-length-4
     returns
     enum-told-3
-    operators-values-requires
+    row-pair-values-requires
     clear-scratch-requires-2
     returns-2
     same-length-5
