@@ -26,7 +26,7 @@ use Rattle.lookup.specs.declared.ordered.Entry as inverse
 use Rattle.lookup.specs.Reply.{entryReply}
 use Rattle.result.specs.Lookup.{lookup}
 use Rattle.exact_entries.specs.ReadBack.{readBack}
-use Rattle.exact_entries.specs.Recurrence as entries
+use Rattle.exact_entries.specs.Recurrence.{InClosedSet}
 use Rattle.exact_entries.specs.ExactEntries.{ExactCall}
 use Rattle.selected_entry.specs.declared.SelectedEntry.{SelectedEntry}
 use Rattle.selected_entry.specs.declared.SelectedEntry.the-variants.{Found, ClosureTooLarge, Refused}
@@ -60,8 +60,8 @@ entryAnswer x lengths row col =
 abbrev pub Exact : Call → ℕ → ℕ → Matrix → SelectedEntry → Type 0
 Exact x row col X (Found e) =
     (selectedSize (selectionOf x) ≤ x .limit)
-    × (entries.Selected (selectionOf x) (max row col) (min row col) → (v : Float) × (entryReply e ≡ answered v) × Whole v (X row col))
-    × ((entries.Selected (selectionOf x) (max row col) (min row col) → ⊥) → entryReply e ≡ refused 8)
+    × (InClosedSet (selectionOf x) (max row col) (min row col) → (v : Float) × (entryReply e ≡ answered v) × Whole v (X row col))
+    × ((InClosedSet (selectionOf x) (max row col) (min row col) → ⊥) → entryReply e ≡ refused 8)
 Exact x row col X ClosureTooLarge = x .limit < selectedSize (selectionOf x)
 Exact x row col X (Refused why) = Unit {0}
 
