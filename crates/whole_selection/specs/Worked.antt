@@ -32,6 +32,7 @@ use Rattle.exact.specs.Exceeds.{setExceeds}
 use Rattle.entries.specs.Entries.{floatTable}
 use Rattle.entries.specs.WholeTable.{wholeTable}
 use Rattle.result.specs.Lookup.{columnFaults, searchSteps, entrySteps, entryOf}
+use Rattle.diagnostics.specs.Selected.{selectedReplyOf}
 use Rattle.diagnostics.specs.declared.Selected.the-variants.{Answered, Refused}
 use Rattle.diagnostics.specs.declared.SelectedInverseStatus.the-variants.{Complete}
 use Rattle.diagnostics.specs.Diagnosis.{diagnosis}
@@ -40,7 +41,7 @@ use Rattle.selection.specs.Diagnosis.{diagnosisOf}
 use Rattle.selection.specs.Selection.{Lent, lists, roomOf, roomSteps, fillingOf, ResultLists}
 use Rattle.selection.specs.Call.{selectionOf, selectedSteps}
 use Rattle.whole_selection.specs.Call.{WholeCall, WholeLent, wholeCall, wholeLent, wholeRoomOf, wholeSize, wholeAnswer, workSteps, checkSteps, exceedSteps, WholeEntries}
-use Rattle.whole_selection.specs.ReadBack.{wholeFound, wholeMatrix, Within53, ReadsWhole, whole-reply, told-twenty}
+use Rattle.whole_selection.specs.ReadBack.{wholeFound, wholeMatrix, Within53, ReadsWhole, whole-reply, twenty-told, told-twenty}
 use Rattle.whole_selection.specs.Agree.{floatCall}
 use Rattle.whole_selection.specs.Engines.{Agrees, converted, engines-complete}
 
@@ -134,3 +135,7 @@ large-checked = refl
 
 large-told : (wholeSize large ≤ 3) × (Within53 large → ⊥)
 large-told = told-twenty large before large-entries large-checked refl
+
+-- ---- `twenty-told`: the other way
+large-refused : selectedReplyOf (Refused NumberTooLarge) ≡ refused 20
+large-refused = twenty-told large before large-entries large-checked (large-told .0) (large-told .1)
