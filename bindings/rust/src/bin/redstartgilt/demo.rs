@@ -328,7 +328,7 @@ pub fn run(output: &mut impl Write, options: &Options) -> Result<(), Failure> {
     let refused = |error| Failure::refused_at(PLACE, error);
     let harbour = Harbour::new();
     let factor = harbour.factor().map_err(refused)?;
-    let requested = requested(&factor, options)?;
+    let requested = requested(&factor.permutation(), options)?;
     let why = options.why.map(|pair| Why::find(PLACE, &factor, &requested, pair));
     let why = why.transpose()?;
     let found = find(PLACE, &factor, &requested, options)?;
