@@ -1,5 +1,6 @@
 //! Variances from a factor in a file, and a picture of them. `--help` says how it is used.
 
+mod calibration;
 mod cell_lists;
 mod demo;
 mod failure;
