@@ -20,9 +20,11 @@
 extern "C" {
 #endif
 
-/* Refusals; 0 is none. No call of this header gives 19 to 24, which are named for calls that are not in it:
+/* Refusals; 0 is none. Those from 19 on:
  *   19  a kept diagonal other than 1 of a factor of whole numbers
- *   20  a number beyond the size that the call computes with exactly: 2^53 for entries, 2^30 for ranges, 2^40 for tracks
+ *   20  a number beyond 2^53 in size, in the calls in whole numbers
+ * No call of this header gives the others, which are named for calls that are not in it, nor 20 for another size, 2^30 for
+ * ranges and 2^40 for tracks:
  *   21  weights: a low one above its high one, one beyond 1,024 in size, or more than 64 terms
  *   22  a width of 0, above 1,024 or above the track's length
  *   23  a kept diagonal other than 1 beside pivots
@@ -71,6 +73,9 @@ typedef struct {
 
 /* The reply of a lookup: a refusal, or the value. */
 typedef struct { uint32_t refusal; double value; } redstartgilt_entry;
+
+/* The reply of a lookup in a result of whole numbers: a refusal, or the value. */
+typedef struct { uint32_t refusal; int64_t value; } redstartgilt_whole_entry;
 
 /* The reply of a lookup that counts: a refusal, or the value; and how many places of the column its search looked at,
  * also where the pair is absent. */
@@ -125,12 +130,61 @@ redstartgilt_selected redstartgilt_selected_inverse_entries(
     uint32_t *result_starts, size_t result_starts_len, uint32_t *result_rows, size_t result_rows_len, double *result_values, size_t result_values_len,
     uint32_t *scratch, size_t scratch_len);
 
+/* Selected entries in whole numbers, for a factor whose diagonal is 1 and whose entries are whole: exact, or refused
+ * where a number is too large for that. Values are signed 64-bit numbers. Entries of L above the diagonal and those of 0
+ * are dropped. Set, status, counts, starts and rows are those of selected entries for the same positions; the values are
+ * the inverse's own entries, and never rounded. Where it is COMPLETE, selected entries is COMPLETE too for the same
+ * factor as doubles, requests and limit, and each of its entries is equal to the one here.
+ *
+ * Lengths needed: as selected entries, and work, of any contents, as many places as result_values: the lesser of limit
+ * and T. Refuses, in this order:
+ *   1, 2, 3, 4, 5   as selected entries does
+ *   19  a diagonal entry that is kept and is not 1, in any column
+ *   6   a column without a diagonal entry that is kept
+ *   7   a list too short, work among them
+ *   20  the closed set has at most limit pairs, and a kept entry of L, in any column, or a product, a running sum or an
+ *       entry of the exact recurrence over the set is beyond 2^53 in size; 2^53 and -2^53 are accepted. Dropped entries
+ *       may be of any size. The result lists are as they were, and scratch and work 0 as after an answer
+ * A set of more than limit pairs is CLOSURE_TOO_LARGE, whatever the sizes; closure_pairs is then limit + 1, and the
+ * result lists are left as they were. Either status leaves the first ceil(T/32) + T + 4n words of the scratch 0 and the lesser
+ * of limit and T places of work 0, and later words and places as they were. 1 to 7 and 19 touch no list.
+ *
+ * Of the factor with columns (1, -3) and (1), whose inverse is (10, 3; 3, 1):
+ *   const uint32_t starts[] = {0, 2, 3}, rows[] = {0, 1, 1}, request_rows[] = {0}, request_columns[] = {0};
+ *   const int64_t values[] = {1, -3, 1};
+ *   uint32_t result_starts[3], result_rows[3], scratch[12];
+ *   int64_t result_values[3], work[3];
+ *   redstartgilt_selected reply = redstartgilt_selected_inverse_entries_whole_with_limit(
+ *       2, starts, 3, rows, 3, values, 3, 2, request_rows, 1, request_columns, 1, 3,
+ *       result_starts, 3, result_rows, 3, result_values, 3, scratch, 12, work, 3);
+ * gives refusal 0, COMPLETE, and the entries 10, 3 and 1. */
+redstartgilt_selected redstartgilt_selected_inverse_entries_whole_with_limit(
+    size_t n, const uint32_t *starts, size_t starts_len, const uint32_t *rows, size_t rows_len, const int64_t *values, size_t values_len,
+    size_t dimension, const uint32_t *request_rows, size_t request_rows_len, const uint32_t *request_columns, size_t request_columns_len,
+    size_t limit,
+    uint32_t *result_starts, size_t result_starts_len, uint32_t *result_rows, size_t result_rows_len, int64_t *result_values, size_t result_values_len,
+    uint32_t *scratch, size_t scratch_len, int64_t *work, size_t work_len);
+
+/* Selected entries in whole numbers with the default limit, 10 times rows_len; dropped entries count. Otherwise as the
+ * call above: result_rows, result_values and work need the lesser of that limit and T. */
+redstartgilt_selected redstartgilt_selected_inverse_entries_whole(
+    size_t n, const uint32_t *starts, size_t starts_len, const uint32_t *rows, size_t rows_len, const int64_t *values, size_t values_len,
+    size_t dimension, const uint32_t *request_rows, size_t request_rows_len, const uint32_t *request_columns, size_t request_columns_len,
+    uint32_t *result_starts, size_t result_starts_len, uint32_t *result_rows, size_t result_rows_len, int64_t *result_values, size_t result_values_len,
+    uint32_t *scratch, size_t scratch_len, int64_t *work, size_t work_len);
+
 /* Whether a factor's lists are well formed and its kept entries finite, which every call with a factor checks first.
  * Refuses with 1 for n above 2,048 or more than 1,048,576 rows, then with 2, 3 and 18 as selected entries does. It reads
  * every start, row and value. Writes nothing. A factor that it accepts may still be refused with 6 by a call that needs
  * the diagonal of each column. */
 uint32_t redstartgilt_check_factor(
     size_t n, const uint32_t *starts, size_t starts_len, const uint32_t *rows, size_t rows_len, const double *values, size_t values_len);
+
+/* Whether the lists of a factor of whole numbers are well formed. Refuses with 1, 2 and 3 as the call above. It reads
+ * every start and every row; of the values it sees how many there are. Writes nothing. A factor that it accepts may still
+ * be refused with 19, 6 and 20. */
+uint32_t redstartgilt_check_whole_factor(
+    size_t n, const uint32_t *starts, size_t starts_len, const uint32_t *rows, size_t rows_len, const int64_t *values, size_t values_len);
 
 /* The entry at (row, column) of a filled result; the two may be exchanged. The dimension is starts_len - 1, so lend only
  * the n + 1 filled starts; rows and values may be longer than filled. Refuses with 2 where there are no starts, then
@@ -153,7 +207,8 @@ redstartgilt_counted_entry redstartgilt_get_counted(
 
 /* Whether a result is well formed, so that the call below may be used on it. Refuses with 2 where there are no starts;
  * then, column by column, with 2 for starts that fall or pass rows or values and with 3 for a row not above the one
- * before it; the first column at fault decides. It reads every start and every row once. Writes nothing. */
+ * before it; the first column at fault decides. It reads every start and every row once, and no value: a result of whole
+ * numbers is checked by the same call, its values lent as (const double *)values. Writes nothing. */
 uint32_t redstartgilt_check_result(
     const uint32_t *starts, size_t starts_len, const uint32_t *rows, size_t rows_len, const double *values, size_t values_len);
 
@@ -168,6 +223,12 @@ uint32_t redstartgilt_check_result(
  * column's starts fall or pass rows or values, or that the search has passed the row by. */
 redstartgilt_entry redstartgilt_get_well_formed(
     const uint32_t *starts, size_t starts_len, const uint32_t *rows, size_t rows_len, const double *values, size_t values_len,
+    size_t row, size_t column);
+
+/* The lookup in a result of whole numbers: refuses as redstartgilt_get does for the same starts, rows and number of values.
+ * The value is 0 on a refusal. Writes nothing. It reads every row of the column. */
+redstartgilt_whole_entry redstartgilt_get_whole(
+    const uint32_t *starts, size_t starts_len, const uint32_t *rows, size_t rows_len, const int64_t *values, size_t values_len,
     size_t row, size_t column);
 
 /* The diagonal of a filled result, with marks: where the lookup finds (c, c), output[c] is its value and marks[c] 1, also

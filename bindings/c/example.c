@@ -172,6 +172,39 @@ int main(void)
         printf(" (%u, %u)", (unsigned)read_rows[place], (unsigned)read_columns[place]);
     printf("\n");
 
+    /* In whole numbers, exact: the factor of columns (1, -3) and (1), whose inverse is (10, 3; 3, 1). */
+    const int64_t whole_values[] = {1, -3, 1};
+    int64_t whole_result[3];
+    int64_t work[3]; /* as many places as the result values */
+    refusal = redstartgilt_check_whole_factor(
+        2, starts, COUNT(starts), rows, COUNT(rows), whole_values, COUNT(whole_values));
+    reply = redstartgilt_selected_inverse_entries_whole_with_limit(
+        2, starts, COUNT(starts), rows, COUNT(rows), whole_values, COUNT(whole_values),
+        2, request_rows, COUNT(request_rows), request_columns, COUNT(request_columns),
+        3,
+        result_starts, COUNT(result_starts), result_rows, COUNT(result_rows), whole_result, COUNT(whole_result),
+        scratch, COUNT(scratch), work, COUNT(work));
+    redstartgilt_whole_entry whole_entry = redstartgilt_get_whole(
+        result_starts, COUNT(result_starts), result_rows, COUNT(result_rows), whole_result, COUNT(whole_result), 0, 1);
+    printf("whole numbers: refusal %u of the factor, %u of the call, %zu computed: %lld %lld %lld\n",
+        (unsigned)refusal, (unsigned)reply.refusal, reply.closure_pairs,
+        (long long)whole_result[0], (long long)whole_result[1], (long long)whole_result[2]);
+    printf("lookup (0, 1): refusal %u, %lld\n", (unsigned)whole_entry.refusal, (long long)whole_entry.value);
+
+    /* A diagonal of 2 is refused with 19. The square of 2^27 is beyond 2^53: 20, and the result is as it was. */
+    const int64_t other_diagonal[] = {1, -3, 2};
+    const int64_t too_steep[] = {1, 134217728, 1};
+    const int64_t *refused[] = {other_diagonal, too_steep};
+    for (size_t place = 0; place < COUNT(refused); place++) {
+        reply = redstartgilt_selected_inverse_entries_whole(
+            2, starts, COUNT(starts), rows, COUNT(rows), refused[place], 3,
+            2, request_rows, COUNT(request_rows), request_columns, COUNT(request_columns),
+            result_starts, COUNT(result_starts), result_rows, COUNT(result_rows), whole_result, COUNT(whole_result),
+            scratch, COUNT(scratch), work, COUNT(work));
+        printf("%s: refusal %u, the first value is still %lld\n", place == 0 ? "a diagonal of 2" : "an entry of 2^27",
+            (unsigned)reply.refusal, (long long)whole_result[0]);
+    }
+
     /* A list too short is refused with 7, and nothing is written. */
     reply = redstartgilt_selected_inverse_entries(
         2, starts, COUNT(starts), rows, COUNT(rows), values, COUNT(values),

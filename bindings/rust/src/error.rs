@@ -73,13 +73,13 @@ pub enum Error {
     /// assert_eq!(Error::from_number(18), Some(Error::NotFiniteEntry(None)));
     /// ```
     NotFiniteEntry(Option<(usize, usize)>),
-    /// 19: a diagonal entry other than 1 in a factor of whole numbers; an entry of 0 counts as none. No call gives it
-    /// yet, nor one of those below.
+    /// 19: a diagonal entry other than 1 in a factor of whole numbers; an entry of 0 counts as none.
     DiagonalNotOne,
-    /// 20: a number beyond the size that the call computes with exactly: 2^53 for entries, 2^30 for ranges of weights,
-    /// 2^40 for tracks.
+    /// 20: in whole numbers, an entry of the factor, or a product, running sum or entry of the recurrence, that is beyond
+    /// 2^53 in size.
     NumberTooLarge,
-    /// 21: weights within ranges, with a low one above its high one, one beyond ±1,024, or more than 64 terms.
+    /// 21: weights within ranges, with a low one above its high one, one beyond ±1,024, or more than 64 terms. No call
+    /// gives it yet, nor one of those below.
     BadWeights,
     /// 22: a width of 0, above 1,024, or above the length of the track.
     BadWidth,
@@ -206,8 +206,8 @@ impl Error {
             Error::NotFiniteEntry(_) => "an entry of the factor, on or below its diagonal, is not finite",
             Error::DiagonalNotOne => "a diagonal entry of a factor of whole numbers is not 1",
             Error::NumberTooLarge => {
-                "a number is beyond the size that is computed with exactly: 2^53 for entries, 2^30 for ranges of weights, \
-                 2^40 for tracks"
+                "a number is beyond 2^53 in size, too large to be exact: an entry of a factor of whole numbers, or a product, \
+                 a running sum or an entry of the recurrence"
             }
             Error::BadWeights => {
                 "bad weights: a low one is above its high one, one is beyond 1,024 in size, or there are more than 64"

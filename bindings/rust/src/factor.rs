@@ -1,9 +1,10 @@
 //! A sparse Cholesky factor in compressed columns.
 
+use crate::columns::Columns;
 use crate::index::{word, words};
 use crate::lent::{self, FactorLists};
 use crate::marks;
-use crate::{Error, Permutation, MAX_DIMENSION};
+use crate::{Error, Permutation};
 
 /// A sparse lower factor L in compressed columns, with the permutation that its order comes from.
 ///
@@ -32,10 +33,7 @@ use crate::{Error, Permutation, MAX_DIMENSION};
 /// ```
 #[derive(Debug, Clone, PartialEq)]
 pub struct CholeskyFactor {
-    n: usize,
-    starts: Vec<u32>,
-    rows: Vec<u32>,
-    values: Vec<f64>,
+    columns: Columns<f64>,
     orig_to_perm: Option<Vec<u32>>,
 }
 
@@ -49,15 +47,20 @@ impl CholeskyFactor {
     /// Refuses with [`Error::TooLarge`], [`Error::BrokenStarts`], [`Error::BrokenRows`] and [`Error::NotFiniteEntry`],
     /// by the library's checks. Entries above the diagonal may be NaN or infinite.
     pub fn new(n: usize, starts: Vec<u32>, rows: Vec<u32>, values: Vec<f64>) -> Result<Self, Error> {
-        let factor = Self {
+        Self::checked(Columns {
             n,
             starts,
             rows,
             values,
+        })
+    }
+
+    fn checked(columns: Columns<f64>) -> Result<Self, Error> {
+        lent::check_factor(columns.factor_lists())?;
+        Ok(Self {
+            columns,
             orig_to_perm: None,
-        };
-        lent::check_factor(factor.lists())?;
-        Ok(factor)
+        })
     }
 
     /// A factor from entries (row, column, value) in any order.
@@ -65,25 +68,7 @@ impl CholeskyFactor {
     /// Refuses as [`CholeskyFactor::new`] does; two entries at one position, or one outside the dimension, give
     /// [`Error::BrokenRows`].
     pub fn from_triplets(n: usize, triplets: &[(usize, usize, f64)]) -> Result<Self, Error> {
-        if n > MAX_DIMENSION {
-            // Refused without lists of that length.
-            return Self::new(n, Vec::new(), Vec::new(), Vec::new());
-        }
-        if triplets.iter().any(|(_, column, _)| *column >= n) {
-            return Err(Error::BrokenRows);
-        }
-        let mut sorted = triplets.to_vec();
-        sorted.sort_by_key(|(row, column, _)| (*column, *row));
-        let mut starts = vec![0; n + 1];
-        for (_, column, _) in &sorted {
-            starts[column + 1] += 1;
-        }
-        for column in 0..n {
-            starts[column + 1] += starts[column];
-        }
-        let rows = sorted.iter().map(|(row, _, _)| word(*row)).collect();
-        let values = sorted.iter().map(|(_, _, value)| *value).collect();
-        Self::new(n, words(&starts), rows, values)
+        Self::checked(Columns::from_triplets(n, triplets)?)
     }
 
     /// The factor with the permutation of its order: its row and column `orig_to_perm[i]` belong to cell i.
@@ -100,7 +85,7 @@ impl CholeskyFactor {
     /// # Ok::<(), redstartgilt::Error>(())
     /// ```
     pub fn with_permutation(mut self, permutation: Permutation) -> Result<Self, Error> {
-        if permutation.dimension() != self.n {
+        if permutation.dimension() != self.columns.n {
             return Err(Error::DimensionMismatch);
         }
         permutation.validate()?;
@@ -110,33 +95,33 @@ impl CholeskyFactor {
 
     /// The dimension n.
     pub fn dimension(&self) -> usize {
-        self.n
+        self.columns.n
     }
 
     /// The number of stored entries, dropped ones counted.
     pub fn nnz(&self) -> usize {
-        self.values.len()
+        self.columns.values.len()
     }
 
     /// Where each column starts in [`rows`](Self::rows), and last their number.
     pub fn starts(&self) -> &[u32] {
-        &self.starts
+        &self.columns.starts
     }
 
     /// Row indices, column by column, ascending.
     pub fn rows(&self) -> &[u32] {
-        &self.rows
+        &self.columns.rows
     }
 
     /// The value of each row.
     pub fn values(&self) -> &[f64] {
-        &self.values
+        &self.columns.values
     }
 
     /// The permutation of the factor's order; the identity where none was given.
     pub fn permutation(&self) -> Permutation {
         match &self.orig_to_perm {
-            None => Permutation::identity(self.n),
+            None => Permutation::identity(self.columns.n),
             Some(orig_to_perm) => {
                 Permutation::from_words(orig_to_perm).expect("it was validated when the factor was given it")
             }
@@ -152,7 +137,7 @@ impl CholeskyFactor {
     ///
     /// Refuses a vector of another length with [`Error::DimensionMismatch`].
     pub fn permute_factor_to_original(&self, input: &[f64]) -> Result<Vec<f64>, Error> {
-        let mut output = vec![0.0; self.n];
+        let mut output = vec![0.0; self.columns.n];
         lent::permute_factor_to_original(&self.order(), input, &mut output)?;
         Ok(output)
     }
@@ -179,19 +164,14 @@ impl CholeskyFactor {
 
     /// The factor's lists, to be lent.
     pub fn lists(&self) -> FactorLists<'_> {
-        FactorLists {
-            n: self.n,
-            starts: &self.starts,
-            rows: &self.rows,
-            values: &self.values,
-        }
+        self.columns.factor_lists()
     }
 
     /// `orig_to_perm`, the identity where no permutation was given.
     pub(crate) fn order(&self) -> Vec<u32> {
         match &self.orig_to_perm {
             Some(orig_to_perm) => orig_to_perm.clone(),
-            None => (0..self.n).map(word).collect(),
+            None => (0..self.columns.n).map(word).collect(),
         }
     }
 

@@ -1,5 +1,6 @@
 //! Selected entries of the inverse.
 
+use crate::columns::Columns;
 use crate::lent::{self, default_limit, EntryLists};
 use crate::marks::covered;
 use crate::{CholeskyFactor, Error, SelectedInverseDiagnostics, SparseSymmetricPattern, Workspace};
@@ -7,16 +8,13 @@ use crate::{CholeskyFactor, Error, SelectedInverseDiagnostics, SparseSymmetricPa
 /// Entries of the inverse of L·Lᵀ on a closed set of pairs, in the factor's order.
 #[derive(Debug, Clone, PartialEq)]
 pub struct SparseSelectedInverse {
-    dimension: usize,
-    starts: Vec<u32>,
-    rows: Vec<u32>,
-    values: Vec<f64>,
+    columns: Columns<f64>,
 }
 
 impl SparseSelectedInverse {
     /// The dimension of the factor.
     pub fn dimension(&self) -> usize {
-        self.dimension
+        self.columns.n
     }
 
     /// The entry at a pair, which may be in either order; `None` for a pair that is not in the closed set.
@@ -89,7 +87,7 @@ impl SparseSelectedInverse {
     }
 
     fn marked_diag(&self) -> (Vec<f64>, Vec<u8>) {
-        let (mut values, mut marks) = (vec![0.0; self.dimension], vec![0; self.dimension]);
+        let (mut values, mut marks) = (vec![0.0; self.columns.n], vec![0; self.columns.n]);
         self.diag_into(&mut values, &mut marks)
             .expect("entries that a call has filled, and lists of their dimension");
         (values, marks)
@@ -97,38 +95,31 @@ impl SparseSelectedInverse {
 
     /// The number of entries.
     pub fn len(&self) -> usize {
-        self.values.len()
+        self.columns.values.len()
     }
 
     /// Whether there are no entries.
     pub fn is_empty(&self) -> bool {
-        self.values.is_empty()
+        self.columns.values.is_empty()
     }
 
     /// The entries (row, column, value), row ≥ column, by column then row.
     pub fn entries(&self) -> impl Iterator<Item = (usize, usize, f64)> + '_ {
-        (0..self.dimension).flat_map(move |column| {
-            let places = self.starts[column] as usize..self.starts[column + 1] as usize;
-            places.map(move |place| (self.rows[place] as usize, column, self.values[place]))
-        })
+        self.columns.entries()
     }
 
     /// The entries' lists, in the layout of a factor.
     #[inline]
     pub fn lists(&self) -> EntryLists<'_> {
-        EntryLists {
-            starts: &self.starts,
-            rows: &self.rows,
-            values: &self.values,
-        }
+        self.columns.entry_lists()
     }
 }
 
-/// The answer to a request for entries.
+/// The answer to a request for entries, in floats or in whole numbers.
 #[derive(Debug, Clone, PartialEq)]
-pub struct SelectedInverseEntries {
+pub struct SelectedInverseEntries<I = SparseSelectedInverse> {
     /// The entries; `None` where the closed set passes the limit.
-    pub inverse: Option<SparseSelectedInverse>,
+    pub inverse: Option<I>,
     /// Status and counts.
     pub diagnostics: SelectedInverseDiagnostics,
 }
@@ -220,13 +211,8 @@ pub fn selected_inverse_entries_with_limit_in(
 
 fn answer(n: usize, diagnostics: SelectedInverseDiagnostics, workspace: &Workspace) -> SelectedInverseEntries {
     let inverse = diagnostics.is_complete().then(|| {
-        let (starts, rows, values) = workspace.filled(n, diagnostics.closure_pairs);
-        SparseSelectedInverse {
-            dimension: n,
-            starts,
-            rows,
-            values,
-        }
+        let columns = workspace.filled(n, diagnostics.closure_pairs);
+        SparseSelectedInverse { columns }
     });
     SelectedInverseEntries { inverse, diagnostics }
 }

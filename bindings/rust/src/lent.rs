@@ -65,6 +65,7 @@ mod patterns;
 mod permutations;
 mod results;
 mod selected_entries;
+mod wholes;
 
 pub use chains::dependency_chain;
 pub use factors::check_factor;
@@ -73,11 +74,14 @@ pub use floors::{count_and_least, stabilize_variances, Floored};
 pub use lengths::{
     chain_places, chain_words, default_limit, mark_words, pair_total, request_places, result_places, scratch_words,
 };
-pub use lists::{EntryLists, FactorLists, OperatorLists, ResultLists};
+pub use lists::{EntryLists, FactorLists, Number, OperatorLists, ResultLists};
 pub use patterns::{from_cholesky_factor, from_transformed_operator};
 pub use permutations::{from_orig_to_perm, permute_factor_to_original, permute_factor_to_original_marked, validate};
 pub use results::{check_result, diag, get, get_counted, get_well_formed, CountedEntry};
 pub use selected_entries::{
     selected_inverse_diag_with_diagnostics, selected_inverse_entries, selected_inverse_entries_with_limit,
     selected_inverse_transformed_covariances, selected_inverse_transformed_diag,
+};
+pub use wholes::{
+    check_whole_factor, get_whole, selected_inverse_entries_whole, selected_inverse_entries_whole_with_limit,
 };

@@ -37,6 +37,7 @@
 #![deny(unsafe_op_in_unsafe_fn)]
 
 mod chain;
+mod columns;
 mod covariances;
 mod diagnostics;
 mod error;
@@ -52,6 +53,7 @@ mod permutation;
 mod request_file;
 pub mod sys;
 mod variances;
+mod wholes;
 mod workspace;
 
 pub use chain::{dependency_chain, dependency_chain_in};
@@ -75,6 +77,10 @@ pub use variances::{
     selected_inverse_diag, selected_inverse_diag_with_diagnostics, selected_inverse_diag_with_diagnostics_in,
     selected_inverse_transformed_diag, selected_inverse_transformed_diag_in, SelectedInverseDiagResult,
     SelectedInverseTransformedResult, VarianceEstimate,
+};
+pub use wholes::{
+    selected_inverse_entries_whole, selected_inverse_entries_whole_in, selected_inverse_entries_whole_with_limit,
+    selected_inverse_entries_whole_with_limit_in, WholeFactor, WholeSelectedInverse,
 };
 pub use workspace::Workspace;
 

@@ -14,6 +14,7 @@ mod permutations;
 mod refusals;
 mod results;
 mod selected_entries;
+mod wholes;
 
 pub use chains::*;
 pub use factors::*;
@@ -24,3 +25,4 @@ pub use permutations::*;
 pub use refusals::*;
 pub use results::*;
 pub use selected_entries::*;
+pub use wholes::*;

@@ -1,11 +1,13 @@
 //! Memory that calls use again.
 
+use crate::columns::Columns;
 use crate::lent::{chain_places, chain_words, result_places, scratch_words, ResultLists};
 
 /// Result lists and scratch for one call after another.
 ///
 /// A call makes them longer where it needs to and never shorter. In dimension 2,048 they take up to 34 megabytes, 42
-/// once a chain was asked for, so a caller who makes many calls should lend one workspace to all. Answers do not depend
+/// once a chain was asked for and 34 more once entries were asked for in whole numbers, so a caller who makes many calls
+/// should lend one workspace to all. Answers do not depend
 /// on what a workspace was used for before.
 ///
 /// ```
@@ -25,6 +27,8 @@ pub struct Workspace {
     rows: Vec<u32>,
     values: Vec<f64>,
     scratch: Vec<u32>,
+    whole_values: Vec<i64>,
+    work: Vec<i64>,
 }
 
 /// At least `length` places. A longer list is allocated anew, as nothing in it needs to be kept.
@@ -44,7 +48,8 @@ impl Workspace {
 
     /// The bytes that it holds.
     pub fn bytes(&self) -> usize {
-        4 * (self.starts.len() + self.rows.len() + self.scratch.len()) + 8 * self.values.len()
+        4 * (self.starts.len() + self.rows.len() + self.scratch.len())
+            + 8 * (self.values.len() + self.whole_values.len() + self.work.len())
     }
 
     /// Lists for a dimension that the library accepts, and a limit.
@@ -60,6 +65,20 @@ impl Workspace {
         )
     }
 
+    /// The same in whole numbers, with a work list.
+    pub(crate) fn lend_whole(&mut self, n: usize, limit: usize) -> (ResultLists<'_, i64>, &mut [u32], &mut [i64]) {
+        let places = result_places(n, limit);
+        (
+            ResultLists {
+                starts: grown(&mut self.starts, n + 1),
+                rows: grown(&mut self.rows, places),
+                values: grown(&mut self.whole_values, places),
+            },
+            grown(&mut self.scratch, scratch_words(n)),
+            grown(&mut self.work, places),
+        )
+    }
+
     /// Scratch for a chain, and its rows and columns, which take the places of a result's rows and starts.
     pub(crate) fn lend_chain(&mut self, n: usize) -> (&mut [u32], &mut [u32], &mut [u32]) {
         (
@@ -70,11 +89,21 @@ impl Workspace {
     }
 
     /// The filled part of the result lists, copied.
-    pub(crate) fn filled(&self, n: usize, pairs: usize) -> (Vec<u32>, Vec<u32>, Vec<f64>) {
-        (
-            self.starts[..n + 1].to_vec(),
-            self.rows[..pairs].to_vec(),
-            self.values[..pairs].to_vec(),
-        )
+    pub(crate) fn filled(&self, n: usize, pairs: usize) -> Columns<f64> {
+        self.columns(n, pairs, &self.values)
+    }
+
+    /// The same in whole numbers.
+    pub(crate) fn filled_whole(&self, n: usize, pairs: usize) -> Columns<i64> {
+        self.columns(n, pairs, &self.whole_values)
+    }
+
+    fn columns<V: Clone>(&self, n: usize, pairs: usize, values: &[V]) -> Columns<V> {
+        Columns {
+            n,
+            starts: self.starts[..n + 1].to_vec(),
+            rows: self.rows[..pairs].to_vec(),
+            values: values[..pairs].to_vec(),
+        }
     }
 }

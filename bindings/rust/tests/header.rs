@@ -71,6 +71,7 @@ fn kind_of(kind: &str) -> &str {
     match kind {
         "uint8_t" => "u8",
         "uint32_t" => "u32",
+        "int64_t" => "i64",
         "size_t" => "usize",
         "double" => "f64",
         other => other,
@@ -151,13 +152,13 @@ fn sys_numbers() -> BTreeSet<String> {
 #[test]
 fn functions() {
     assert_eq!(sys_functions(), header_functions());
-    assert_eq!(sys_functions().len(), 22);
+    assert_eq!(sys_functions().len(), 26);
 }
 
 #[test]
 fn structs() {
     assert_eq!(sys_structs(), header_structs());
-    assert_eq!(sys_structs().len(), 7);
+    assert_eq!(sys_structs().len(), 8);
 }
 
 #[test]

@@ -2,6 +2,7 @@
 -- Assumes nothing.
 use Prim.Native.Nat.{ℕ}
 use mathlib.Core.Path.{_≡_}
+use lib.IntN.{ℤ, pos}
 use lib.Ieee.{Float}
 use Rattle.refusal.specs.Steps.{Reply, refused, answered}
 use Rattle.columns.specs.Kept.{f0}
@@ -13,6 +14,7 @@ use Rattle.least.specs.declared.CountAndLeast.{CountAndLeast}
 use Rattle.c_replies.specs.declared.SelectedNumbers.{SelectedNumbers}
 use Rattle.c_replies.specs.declared.EntryNumbers.{EntryNumbers}
 use Rattle.c_replies.specs.declared.CountedNumbers.{CountedNumbers}
+use Rattle.c_replies.specs.declared.WholeEntryNumbers.{WholeEntryNumbers}
 use Rattle.c_replies.specs.declared.PairNumbers.{PairNumbers}
 use Rattle.c_replies.specs.declared.RequestsNumbers.{RequestsNumbers}
 use Rattle.c_replies.specs.declared.FloorNumbers.{FloorNumbers}
@@ -52,6 +54,11 @@ entryNumbers (refused k) = record { refusal = k; value = f0 }
 -- a lookup that counts the places it looks at
 abbrev pub countedNumbers : Reply Float → ℕ → CountedNumbers
 countedNumbers reply looks = record { refusal = entryNumbers reply .refusal; value = entryNumbers reply .value; looks = looks }
+
+-- a lookup in a result of whole numbers
+abbrev pub wholeEntryNumbers : Reply ℤ → WholeEntryNumbers
+wholeEntryNumbers (answered z) = record { refusal = 0; value = z }
+wholeEntryNumbers (refused k) = record { refusal = k; value = pos 0 }
 
 -- a pattern list: how many pairs were listed
 abbrev pub pairNumbers : Reply ℕ → PairNumbers

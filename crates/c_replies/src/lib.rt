@@ -1,12 +1,12 @@
 // Answers as structs of numbers, laid out as in C: the number of a refusal, 0 for none, beside what the call tells, 0 where it is refused.
 ghost use mathlib.Core.Path.{_≡_};
 ghost use Rattle.diagnostics.specs.Selected.{selectedReplyOf};
-ghost use Rattle.lookup.specs.Reply.{entryReply};
+ghost use Rattle.lookup.specs.Reply.{entryReply, wholeReply};
 ghost use Rattle.pattern_lists.specs.ListedMarks.{listReply};
 ghost use Rattle.dependency_chain.specs.Reply.{chainReply};
 ghost use Rattle.floor.specs.Floor.{stabilizedReply};
 ghost use Rattle.requests_reader.specs.Reader.{readReply};
-ghost use Rattle.c_replies.specs.Numbers.{statusNumber, selectedNumbers, entryNumbers, countedNumbers, pairNumbers, requestsNumbers, floorNumbers, leastNumbers};
+ghost use Rattle.c_replies.specs.Numbers.{statusNumber, selectedNumbers, entryNumbers, countedNumbers, wholeEntryNumbers, pairNumbers, requestsNumbers, floorNumbers, leastNumbers};
 use dependency_chain::ChainPairs;
 use diagnostics::Selected;
 use diagnostics::SelectedInverseStatus;
@@ -14,6 +14,7 @@ use floor::Stabilized;
 use least::CountAndLeast;
 use lookup::ordered::CountedEntry;
 use lookup::ordered::Entry;
+use lookup::whole::WholeEntry;
 use pattern_lists::listed::PatternPairs;
 use requests_reader::ReadRequests;
 use verdicts::refusal_number;
@@ -43,6 +44,13 @@ pub struct CountedNumbers {
     pub refusal: u32,
     pub value: f64,
     pub looks: usize,
+}
+
+// The answer of a lookup in a result of whole numbers.
+#[repr(C)]
+pub struct WholeEntryNumbers {
+    pub refusal: u32,
+    pub value: i64,
 }
 
 // The answer of a pattern list, or of a chain.
@@ -137,6 +145,21 @@ pub fn counted_numbers(found: CountedEntry) -> CountedNumbers
         refusal: numbers.refusal,
         value: numbers.value,
         looks: found.looks,
+    }
+}
+
+pub fn whole_entry_numbers(entry: WholeEntry) -> WholeEntryNumbers
+    ensures { λ r. ⌜ r ≡ wholeEntryNumbers (wholeReply entry) ⌝ }
+{
+    match entry {
+        WholeEntry::Value(z) => WholeEntryNumbers {
+            refusal: 0,
+            value: z,
+        },
+        WholeEntry::Refused(why) => WholeEntryNumbers {
+            refusal: refusal_number(why),
+            value: 0,
+        },
     }
 }
 

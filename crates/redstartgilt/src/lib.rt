@@ -8,3 +8,4 @@ pub mod patterns;
 pub mod permutations;
 pub mod results;
 pub mod selected_entries;
+pub mod wholes;

@@ -6,7 +6,7 @@ ghost use lib.ListN.{length};
 ghost use Rattle.refusal.specs.Bounds.{maxDimension};
 ghost use Rattle.refusal.specs.Steps.{verdict};
 ghost use Rattle.refusal.specs.Refusal.{replyOf};
-ghost use Rattle.columns.specs.Columns.{factorLists};
+ghost use Rattle.columns.specs.Columns.{factorLists, boundSteps, columnSteps};
 ghost use Rattle.columns.specs.Factor.{Factor};
 ghost use Rattle.selection.specs.Selection.{room, roomSteps};
 ghost use Rattle.whole_selection.specs.Call.{wholeCall, wholeRoom, workSteps, diagonalChecks, checkSteps};
@@ -43,6 +43,16 @@ fn check_lent(
     let lists = check_room(n, limit, result_starts, result_rows, result_values, scratch);
     let places = check_output(smaller(limit, pair_total(n)), work);
     first_of(diagonals, first_of(lists, places))
+}
+
+// 1, 2 and 3 of a factor alone; `values` is the number of values.
+pub fn check_whole_factor(n: usize, starts: &[u32], rows: &[u32], values: usize) -> Checked
+    ensures { λ r. ⌜ replyOf r ≡ verdict (boundSteps n (length (now (rows .entry))) ++ columnSteps n (now (starts .entry)) (now (rows .entry)) values) ⌝ }
+{
+    match check_bounds(n, rows.len()) {
+        Checked::Refused(why) => Checked::Refused(why),
+        Checked::Accepted => check_columns(n, starts, rows, values),
+    }
 }
 
 // Steps 1 to 5, 19, 6 and 7.

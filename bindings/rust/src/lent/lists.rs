@@ -2,9 +2,21 @@
 
 use crate::Error;
 
+/// The numbers of a factor or of a result: `f64`, and `i64` for the calls in whole numbers. No other type has it.
+pub trait Number: Copy + Default + PartialEq + sealed::EightBytes {}
+
+impl Number for f64 {}
+impl Number for i64 {}
+
+mod sealed {
+    pub trait EightBytes {}
+    impl EightBytes for f64 {}
+    impl EightBytes for i64 {}
+}
+
 /// A factor of dimension n in compressed columns: n + 1 starts, then each column's row indices, ascending, and values.
 #[derive(Debug, Clone, Copy)]
-pub struct FactorLists<'a> {
+pub struct FactorLists<'a, V = f64> {
     /// The dimension.
     pub n: usize,
     /// Where each column starts in `rows`, and last their number.
@@ -12,20 +24,22 @@ pub struct FactorLists<'a> {
     /// Row indices, column by column, ascending.
     pub rows: &'a [u32],
     /// The value of each row.
-    pub values: &'a [f64],
+    pub values: &'a [V],
 }
 
-impl<'a> FactorLists<'a> {
+impl<'a, V: Number + 'a> FactorLists<'a, V> {
     /// The entries (row, column, value) that are kept, by column then row, of lists that pass 2 and 3.
-    pub(crate) fn kept(self) -> impl Iterator<Item = (usize, usize, f64)> + 'a {
+    pub(crate) fn kept(self) -> impl Iterator<Item = (usize, usize, V)> + 'a {
         let columns = self.starts.windows(2).enumerate();
         let entries = columns.flat_map(move |(column, ends)| {
             let places = ends[0] as usize..ends[1] as usize;
             places.map(move |place| (self.rows[place] as usize, column, self.values[place]))
         });
-        entries.filter(|(row, column, value)| row >= column && *value != 0.0)
+        entries.filter(|(row, column, value)| row >= column && *value != V::default())
     }
+}
 
+impl FactorLists<'_> {
     /// The refusal of a call that was lent this factor, with the entry that 18 is about. It is looked for here, after
     /// the refusal, which says that the lists pass 2 and 3.
     pub(super) fn refused(self, error: Error) -> Error {
@@ -53,22 +67,22 @@ pub struct OperatorLists<'a> {
 
 /// The lists that entries are written to, in the layout of a factor.
 #[derive(Debug)]
-pub struct ResultLists<'a> {
+pub struct ResultLists<'a, V = f64> {
     /// At least n + 1 places.
     pub starts: &'a mut [u32],
     /// At least [`result_places`](super::result_places) places.
     pub rows: &'a mut [u32],
     /// At least [`result_places`](super::result_places) places.
-    pub values: &'a mut [f64],
+    pub values: &'a mut [V],
 }
 
 /// Entries to be read. The dimension is the number of starts less one, so lend only the filled starts.
 #[derive(Debug, Clone, Copy)]
-pub struct EntryLists<'a> {
+pub struct EntryLists<'a, V = f64> {
     /// Where each column starts in `rows`, and last their number.
     pub starts: &'a [u32],
     /// Row indices, column by column, ascending.
     pub rows: &'a [u32],
     /// The value of each row.
-    pub values: &'a [f64],
+    pub values: &'a [V],
 }

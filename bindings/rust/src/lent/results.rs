@@ -1,6 +1,6 @@
 //! A result: lookups, its check, its diagonal list.
 
-use super::EntryLists;
+use super::{EntryLists, Number};
 use crate::{sys, Error};
 
 /// What a lookup found, and how many places of the column its search looked at.
@@ -50,9 +50,12 @@ pub fn get_counted(entries: EntryLists<'_>, row: usize, column: usize) -> Counte
 
 /// Whether entries are well formed, as [`get_well_formed`] presumes.
 ///
-/// Refuses with 2 and 3, column by column.
-pub fn check_result(entries: EntryLists<'_>) -> Result<(), Error> {
-    Error::check(lend!(redstartgilt_check_result: entries(entries)))
+/// Refuses with 2 and 3, column by column. It serves floats and whole numbers, as it reads no value.
+pub fn check_result<V: Number>(entries: EntryLists<'_, V>) -> Result<(), Error> {
+    let values = entries.values;
+    // SAFETY: a `Number` has size and alignment of f64, for which all bits are values.
+    let values = unsafe { std::slice::from_raw_parts(values.as_ptr().cast::<f64>(), values.len()) };
+    Error::check(lend!(redstartgilt_check_result: [entries.starts] [entries.rows] [values]))
 }
 
 /// The entry at (row, column), which may be exchanged, of entries that are known to be well formed: [`check_result`] has

@@ -38,11 +38,11 @@ pub const REDSTARTGILT_MALFORMED_FILE: u32 = 16;
 pub const REDSTARTGILT_FILE_INDEX_OUTSIDE: u32 = 17;
 /// A kept entry of a factor that is NaN or infinite.
 pub const REDSTARTGILT_NOT_FINITE_ENTRY: u32 = 18;
-/// A kept diagonal other than 1 of a factor of whole numbers; no call gives it yet, nor those below.
+/// A kept diagonal other than 1 of a factor of whole numbers.
 pub const REDSTARTGILT_DIAGONAL_NOT_ONE: u32 = 19;
-/// A number beyond the size that the call computes with exactly.
+/// A number beyond 2^53 in size, in the calls in whole numbers.
 pub const REDSTARTGILT_NUMBER_TOO_LARGE: u32 = 20;
-/// Weights within ranges: low above high, too large, or too many terms.
+/// Weights within ranges: low above high, too large, or too many terms; no call gives it yet, nor those below.
 pub const REDSTARTGILT_BAD_WEIGHTS: u32 = 21;
 /// A width of 0, above 1,024 or above the track's length.
 pub const REDSTARTGILT_BAD_WIDTH: u32 = 22;

@@ -24,6 +24,20 @@ fn the_demo() {
     assert!(covariance > 0.0);
     assert_eq!(value("difference of the two volumes"), west + east - 2.0 * covariance);
     assert!(table.contains("\n0 of 266 cells not computed\n"));
+    // The calibration basin, whose floats are the exact entries.
+    let basin = "\
+A calibration basin of 4 cells, its factor in whole numbers: the inverse, exact and as floats.
+Complete: 10 pairs requested, 10 computed, 8 in the factor, limit 80
+Exact: computed in whole numbers, and nothing was rounded.
+10 of 10 floats are equal to the exact entry.
+row column        exact  float
+";
+    assert!(table.contains(basin), "{table}");
+    assert_eq!(
+        table.lines().last(),
+        Some("  4      4            1  1.0"),
+        "the basin is last"
+    );
     let csv = folder.prints(&["--demo", "--csv", "--svg", "map.svg"]);
     let variances = csv
         .lines()

@@ -8,6 +8,7 @@ mod pictures;
 mod requests;
 mod usage;
 mod variances;
+mod wholes;
 mod why;
 
 use std::path::{Path, PathBuf};

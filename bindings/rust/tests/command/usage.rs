@@ -44,6 +44,14 @@ fn bad_usage() {
             &["f2.mtx", "--operator=a.mtx", "--why=1,2"],
             "--operator does not go with --why",
         ),
+        (&["f2.mtx", "--whole=yes"], "--whole takes no value"),
+        (&["f2.mtx", "--whole", "--whole"], "--whole is given twice"),
+        (&["f2.mtx", "--whole", "--why=1,2"], "--why does not go with --whole"),
+        (&["--demo", "--whole"], "--demo does not go with --whole"),
+        (
+            &["f2.mtx", "--whole", "--operator=a.mtx"],
+            "--operator does not go with --whole",
+        ),
         (&["f2.mtx", "--csv=yes"], "--csv takes no value"),
         (&["f2.mtx", "--csv", "--csv"], "--csv is given twice"),
         (
@@ -113,6 +121,7 @@ fn help_and_version() {
         "--pairs",
         "--limit",
         "--entries",
+        "--whole",
         "--why",
         "--csv",
         "--svg",
@@ -125,7 +134,7 @@ fn help_and_version() {
     }
     for error in redstartgilt::Error::ALL {
         let listed = help.contains(&format!("  {}  {error}\n", 10 + error.number()));
-        assert_eq!(listed, error.number() <= 18, "{error}");
+        assert_eq!(listed, error.number() <= 20, "{error}");
     }
     assert!(help.contains(&format!("\n  {HEADER}\n")));
     assert_eq!(

@@ -1,5 +1,6 @@
 //! A small harbour: a depth field with soundings of different density.
 
+use crate::calibration::Calibration;
 use crate::failure::{written, Failure};
 use crate::grid::Grid;
 use crate::map::{Cell, Map, Placed};
@@ -328,7 +329,7 @@ pub fn run(output: &mut impl Write, options: &Options) -> Result<(), Failure> {
     let refused = |error| Failure::refused_at(PLACE, error);
     let harbour = Harbour::new();
     let factor = harbour.factor().map_err(refused)?;
-    let requested = requested(&factor, options)?;
+    let requested = requested(&factor.permutation(), options)?;
     let why = options.why.map(|pair| Why::find(PLACE, &factor, &requested, pair));
     let why = why.transpose()?;
     let found = find(PLACE, &factor, &requested, options)?;
@@ -352,7 +353,9 @@ pub fn run(output: &mut impl Write, options: &Options) -> Result<(), Failure> {
     } else {
         let basin_mean = harbour.basin_mean(&factor).map_err(refused)?;
         let volumes = harbour.volumes(&factor).map_err(refused)?;
-        harbour.table(output, &found, basin_mean, &volumes)
+        let calibration = Calibration::new().map_err(refused)?;
+        let tables = harbour.table(output, &found, basin_mean, &volumes);
+        tables.and_then(|()| calibration.table(output))
     })
 }
 

@@ -1,5 +1,6 @@
 //! Variances from a factor in a file, and a picture of them. `--help` says how it is used.
 
+mod calibration;
 mod cell_lists;
 mod demo;
 mod failure;
@@ -15,6 +16,7 @@ mod report;
 mod scale;
 mod svg;
 mod trail;
+mod wholes;
 mod why;
 
 use failure::{written, Failure};
@@ -22,8 +24,10 @@ use map::{Cell, Map, Placed};
 use options::{Command, Options};
 use redstartgilt::{
     selected_inverse_diag_with_diagnostics, selected_inverse_entries, selected_inverse_entries_with_limit,
-    CholeskyFactor, Error, Permutation, SelectedInverseDiagnostics, SparseSelectedInverse, SparseSymmetricPattern,
+    CholeskyFactor, Error, Permutation, SelectedInverseDiagnostics, SparseSymmetricPattern,
 };
+use report::Value;
+use std::borrow::Cow;
 use std::fmt::Display;
 use std::io::{self, BufWriter, Write};
 use std::path::Path;
@@ -56,21 +60,30 @@ fn run(output: &mut impl Write, command: Command) -> Result<(), Failure> {
 }
 
 /// The variance of each cell that has one, in the order of the cells; and the entries, where they are asked for.
-struct Found {
+struct Found<V = f64> {
     diagnostics: SelectedInverseDiagnostics,
-    variances: Vec<Option<f64>>,
-    entries: Vec<(usize, usize, f64)>,
+    variances: Vec<Option<V>>,
+    entries: Vec<(usize, usize, V)>,
+}
+
+/// That a grid, where one is given, has a cell for each of the factor's n.
+fn check_grid(options: &Options, n: usize) -> Result<(), Failure> {
+    match options.grid.filter(|grid| grid.cells() != Some(n)) {
+        Some(grid) => Err(Failure::usage(format!(
+            "--grid {}x{} does not have the factor's {n} cells",
+            grid.width, grid.height
+        ))),
+        None => Ok(()),
+    }
 }
 
 fn run_factor(output: &mut impl Write, file: &Path, options: &Options) -> Result<(), Failure> {
+    if options.whole {
+        return wholes::run(output, file, options);
+    }
     let factor = matrix_market::factor(file)?;
     let n = factor.dimension();
-    if let Some(grid) = options.grid.filter(|grid| grid.cells() != Some(n)) {
-        return Err(Failure::usage(format!(
-            "--grid {}x{} does not have the factor's {n} cells",
-            grid.width, grid.height
-        )));
-    }
+    check_grid(options, n)?;
     let factor = match &options.permutation {
         Some(list) => factor
             .with_permutation(cell_lists::permutation(list, n)?)
@@ -80,7 +93,7 @@ fn run_factor(output: &mut impl Write, file: &Path, options: &Options) -> Result
     if let Some(operator) = &options.operator {
         return operators::run(output, file, &factor, operator, options);
     }
-    let requested = requested(&factor, options)?;
+    let requested = requested(&factor.permutation(), options)?;
     let cells = (0..n).collect::<Vec<_>>();
     let why = options
         .why
@@ -92,10 +105,9 @@ fn run_factor(output: &mut impl Write, file: &Path, options: &Options) -> Result
     }
     let found = find(file.display(), &factor, &requested, options)?;
     if let Some(placed) = &placed {
-        let name = file.file_name().unwrap_or(file.as_os_str());
         let cells = found.variances.iter().map(|variance| cell_of(*variance));
         let map = Map {
-            title: &format!("Variances of {}", name.to_string_lossy()),
+            title: &format!("Variances of {}", name_of(file)),
             unit: None,
             cells: &cells.collect::<Vec<_>>(),
             placed,
@@ -104,9 +116,20 @@ fn run_factor(output: &mut impl Write, file: &Path, options: &Options) -> Result
         };
         write_map(options, &map)?;
     }
-    written(if let Some(why) = &why {
-        report::why(output, options.csv, why, placed.as_ref())
-    } else if options.entries {
+    match &why {
+        Some(why) => written(report::why(output, options.csv, why, placed.as_ref())),
+        None => print(output, options, found),
+    }
+}
+
+/// A file's name without its folder.
+fn name_of(file: &Path) -> Cow<'_, str> {
+    file.file_name().unwrap_or(file.as_os_str()).to_string_lossy()
+}
+
+/// Prints the variances, or the entries where they are asked for.
+fn print<V: Value>(output: &mut impl Write, options: &Options, found: Found<V>) -> Result<(), Failure> {
+    written(if options.entries {
         report::entries(output, options.csv, &found.diagnostics, found.entries.into_iter())
     } else {
         report::variances(output, options.csv, &found.diagnostics, &found.variances)
@@ -131,10 +154,10 @@ fn write_map(options: &Options, map: &Map<'_>) -> Result<(), Failure> {
 }
 
 /// The pairs that the options ask for, in the factor's order.
-fn requested(factor: &CholeskyFactor, options: &Options) -> Result<SparseSymmetricPattern, Failure> {
-    let n = factor.dimension();
+fn requested(permutation: &Permutation, options: &Options) -> Result<SparseSymmetricPattern, Failure> {
+    let n = permutation.dimension();
     match &options.requests {
-        Some(file) => cell_lists::requests(file, n, &factor.permutation()),
+        Some(file) => cell_lists::requests(file, n, permutation),
         None => Ok(SparseSymmetricPattern::diagonal(n)),
     }
 }
@@ -164,7 +187,7 @@ fn find(
             .permute_factor_to_original_marked(&inverse.diag())
             .map_err(refused)?,
         entries: if options.entries {
-            entries_of_cells(&inverse, &factor.permutation())
+            entries_of_cells(inverse.entries(), &factor.permutation())
         } else {
             Vec::new()
         },
@@ -181,10 +204,12 @@ fn all_variances(factor: &CholeskyFactor) -> Result<Found, Error> {
 }
 
 /// The entries in the order of the cells, row ≥ column, by column then row.
-fn entries_of_cells(inverse: &SparseSelectedInverse, permutation: &Permutation) -> Vec<(usize, usize, f64)> {
+fn entries_of_cells<V>(
+    entries: impl Iterator<Item = (usize, usize, V)>,
+    permutation: &Permutation,
+) -> Vec<(usize, usize, V)> {
     let cell = |place: usize| permutation.perm_to_orig[place];
-    let mut entries = inverse
-        .entries()
+    let mut entries = entries
         .map(|(row, column, value)| {
             let (one, other) = (cell(row), cell(column));
             (one.max(other), one.min(other), value)

@@ -2,7 +2,7 @@
 
 use crate::failure::Failure;
 use crate::lines::Lines;
-use redstartgilt::{CholeskyFactor, Error, SparseRowOperator, MAX_DIMENSION};
+use redstartgilt::{CholeskyFactor, Error, SparseRowOperator, WholeFactor, MAX_DIMENSION};
 use std::path::Path;
 
 /// What a file's matrix is to be.
@@ -10,38 +10,53 @@ use std::path::Path;
 enum Kind {
     /// Square.
     Factor,
+    /// Square, of whole numbers.
+    WholeFactor,
     /// General, of any size.
     Operator,
 }
 
 /// A file's matrix, its entries counted from 0, by column then row, none twice.
 #[derive(Debug, Clone, PartialEq)]
-struct Matrix {
+struct Matrix<V> {
     rows: usize,
     columns: usize,
-    entries: Vec<Entry>,
+    entries: Vec<Entry<V>>,
+}
+
+impl<V: Copy> Matrix<V> {
+    /// The entries (row, column, value).
+    fn triplets(&self) -> Vec<(usize, usize, V)> {
+        let entries = self.entries.iter();
+        entries.map(|entry| (entry.row, entry.column, entry.value)).collect()
+    }
 }
 
 /// An entry, with its line in the file.
 #[derive(Debug, Clone, PartialEq)]
-struct Entry {
-    column: usize,
-    row: usize,
-    value: f64,
-    line: usize,
+pub struct Entry<V> {
+    pub column: usize,
+    pub row: usize,
+    pub value: V,
+    pub line: usize,
 }
 
 /// The factor of a file.
 pub fn factor(file: &Path) -> Result<CholeskyFactor, Failure> {
     let matrix = read(file, Kind::Factor)?;
-    let entries = matrix.entries.iter();
-    let triplets = entries.map(|entry| (entry.row, entry.column, entry.value));
-    CholeskyFactor::from_triplets(matrix.rows, &triplets.collect::<Vec<_>>())
-        .map_err(|error| refused_factor(file, &matrix, error))
+    CholeskyFactor::from_triplets(matrix.rows, &matrix.triplets()).map_err(|error| refused_factor(file, &matrix, error))
+}
+
+/// The factor of whole numbers of a file, and its entries with their lines.
+pub fn whole_factor(file: &Path) -> Result<(WholeFactor, Vec<Entry<i64>>), Failure> {
+    let matrix = read(file, Kind::WholeFactor)?;
+    let factor = WholeFactor::from_triplets(matrix.rows, &matrix.triplets())
+        .map_err(|error| Failure::refused_at(file.display(), error))?;
+    Ok((factor, matrix.entries))
 }
 
 /// The refusal of a factor; that of an entry which is not finite with its line, and counted from 1.
-fn refused_factor(file: &Path, matrix: &Matrix, error: Error) -> Failure {
+fn refused_factor(file: &Path, matrix: &Matrix<f64>, error: Error) -> Failure {
     let at_fault = match error {
         Error::NotFiniteEntry(place) => {
             let mut entries = matrix.entries.iter();
@@ -61,7 +76,7 @@ fn refused_factor(file: &Path, matrix: &Matrix, error: Error) -> Failure {
 
 /// The operator of a file, for a factor of so many cells: the terms of each row by cell.
 pub fn operator(file: &Path, cells: usize) -> Result<SparseRowOperator, Failure> {
-    let matrix = read(file, Kind::Operator)?;
+    let matrix = read::<f64>(file, Kind::Operator)?;
     if matrix.rows <= MAX_DIMENSION && matrix.columns != cells {
         return Err(Failure::refused_because(
             file.display(),
@@ -85,13 +100,44 @@ struct Header {
     lower_only: bool,
 }
 
-fn read(file: &Path, kind: Kind) -> Result<Matrix, Failure> {
+/// A value as it is written, or why it is none.
+trait Value: Copy {
+    fn read(word: &str, kind: Kind, header: &Header) -> Result<Self, String>;
+}
+
+impl Value for f64 {
+    fn read(word: &str, kind: Kind, header: &Header) -> Result<Self, String> {
+        if header.whole_numbers {
+            let whole = i64::read(word, kind, header)?;
+            return if whole as f64 as i128 == i128::from(whole) {
+                Ok(whole as f64)
+            } else {
+                Err(format!("value {word} has too many digits for a 64-bit float"))
+            };
+        }
+        match word.parse::<f64>() {
+            // Of a factor the library decides, which drops what is above the diagonal.
+            Ok(number) if number.is_finite() || kind == Kind::Factor => Ok(number),
+            Ok(_) => Err(format!("value {word} is not finite")),
+            Err(_) => Err(format!("value {word} is not a number")),
+        }
+    }
+}
+
+impl Value for i64 {
+    fn read(word: &str, _: Kind, _: &Header) -> Result<Self, String> {
+        word.parse()
+            .map_err(|_| format!("value {word} is not a whole number of 64 bits"))
+    }
+}
+
+fn read<V: Value>(file: &Path, kind: Kind) -> Result<Matrix<V>, Failure> {
     let text = std::fs::read(file).map_err(|error| Failure::in_file(file, error))?;
     parse(file, &text, kind)
 }
 
 /// The matrix of a text; `file` is for messages.
-fn parse(file: &Path, text: &[u8], kind: Kind) -> Result<Matrix, Failure> {
+fn parse<V: Value>(file: &Path, text: &[u8], kind: Kind) -> Result<Matrix<V>, Failure> {
     let mut lines = Lines::new(file, text);
     let Some((number, line)) = lines.next()? else {
         return Err(Failure::in_file(file, "the file is empty"));
@@ -158,6 +204,9 @@ fn header(file: &Path, number: usize, line: &str, kind: Kind) -> Result<Header, 
         ));
     }
     let whole_numbers = match field {
+        "real" if kind == Kind::WholeFactor => {
+            return fail("with --whole values must be integer, not real".to_string());
+        }
         "real" => false,
         "integer" => true,
         _ => return fail(format!("values must be real or integer, not {field}")),
@@ -181,7 +230,7 @@ fn sizes(file: &Path, number: usize, line: &str, kind: Kind) -> Result<(usize, u
         .map(|word| word.parse().ok())
         .collect::<Option<Vec<usize>>>();
     match numbers.as_deref() {
-        Some([rows, columns, _]) if kind == Kind::Factor && rows != columns => Err(Failure::at_line(
+        Some([rows, columns, _]) if kind != Kind::Operator && rows != columns => Err(Failure::at_line(
             file,
             number,
             format!("a factor is square, but this has {rows} rows and {columns} columns"),
@@ -195,14 +244,14 @@ fn sizes(file: &Path, number: usize, line: &str, kind: Kind) -> Result<(usize, u
     }
 }
 
-fn entry(
+fn entry<V: Value>(
     file: &Path,
     number: usize,
     line: &str,
     kind: Kind,
     header: &Header,
     sizes: [usize; 2],
-) -> Result<Entry, Failure> {
+) -> Result<Entry<V>, Failure> {
     let fail = |reason: String| Err(Failure::at_line(file, number, reason));
     let words = line.split_whitespace().collect::<Vec<_>>();
     let [row, column, value] = words[..] else {
@@ -227,16 +276,9 @@ fn entry(
             column + 1
         ));
     }
-    let value = match (header.whole_numbers, value.parse::<f64>()) {
-        // Of a factor the library decides, which drops what is above the diagonal.
-        (false, Ok(number)) if number.is_finite() || kind == Kind::Factor => number,
-        (false, Ok(_)) => return fail(format!("value {value} is not finite")),
-        (false, Err(_)) => return fail(format!("value {value} is not a number")),
-        (true, _) => match value.parse::<i64>() {
-            Ok(whole) if whole as f64 as i128 == i128::from(whole) => whole as f64,
-            Ok(_) => return fail(format!("value {value} has too many digits for a 64-bit float")),
-            Err(_) => return fail(format!("value {value} is not a whole number of 64 bits")),
-        },
+    let value = match V::read(value, kind, header) {
+        Ok(value) => value,
+        Err(reason) => return fail(reason),
     };
     Ok(Entry {
         column,

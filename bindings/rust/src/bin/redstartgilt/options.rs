@@ -10,6 +10,7 @@ redstartgilt: variances from a sparse Cholesky factor, by a proved selected inve
 
 Usage:
   redstartgilt [OPTIONS] FACTOR
+  redstartgilt --whole [--requests FILE] [--permutation FILE] [--limit N] [--entries] [--csv] [--grid WxH ..] FACTOR
   redstartgilt --operator FILE [--with FILE [--pairs FILE]] [--permutation FILE] [--csv] FACTOR
   redstartgilt --demo [--requests FILE] [--why R,C] [--csv] [--svg FILE] [--html FILE]
 
@@ -31,6 +32,13 @@ Options:
                       without it 10 times the stored entries
   --entries           print row, column and value of every entry that was computed, by column then row, and not the
                       variances
+  --whole             compute in whole numbers: FACTOR is an integer file, and its diagonal is 1. What is printed is exact
+                      and says so: in text a line, with --csv the names exact_variance and exact_value, on maps the
+                      title. A diagonal other than 1 is refused with 19, a number beyond 2^53 in size with 20. The
+                      message of 20 has the line of an entry of the file that is beyond it. Otherwise it has the last
+                      column of the factor among whose products, sums and entries one is beyond it, which is where the
+                      recurrence, going from the last column to the first, comes upon it; not so where more than
+                      1,048,576 pairs are to be computed
   --why R,C           print why the pair of the cells R and C is computed, and not the variances: a chain of pairs from
                       one that was requested to this one, each needed for the one before and none shorter, with the
                       entry of the factor that leads to each; or that the pair is not in the set. A chain has no limit,
@@ -71,12 +79,12 @@ Exit status:
       file of requests is 25 to 27, one of another dimension 14
   2   bad usage
   3   ClosureTooLarge: the requests, or the rows of operators, need more pairs than the limit; for the variances of all
-      cells without --limit and --entries it is 18
+      cells without --limit, --entries and --whole it is 18
   10 + N  the library refuses with number N:
 ";
 
 /// The last refusal that the help lists: no call gives a later one yet.
-const LAST_REFUSAL: u32 = redstartgilt::sys::REDSTARTGILT_NOT_FINITE_ENTRY;
+const LAST_REFUSAL: u32 = redstartgilt::sys::REDSTARTGILT_NUMBER_TOO_LARGE;
 
 /// The help with the list of refusals.
 pub fn help() -> String {
@@ -100,6 +108,7 @@ pub struct Options {
     pub pairs: Option<PathBuf>,
     pub limit: Option<usize>,
     pub entries: bool,
+    pub whole: bool,
     /// Two cells, counted from 0.
     pub why: Option<(usize, usize)>,
     pub csv: bool,
@@ -126,6 +135,7 @@ pub fn read(words: impl IntoIterator<Item = OsString>) -> Result<Command, Failur
         pairs: None,
         limit: None,
         entries: false,
+        whole: false,
         why: None,
         csv: false,
         svg: None,
@@ -180,6 +190,7 @@ pub fn read(words: impl IntoIterator<Item = OsString>) -> Result<Command, Failur
             "--html" => options.html.replace(value.into()).is_some(),
             "--grid" => options.grid.replace(grid(&value)?).is_some(),
             "--entries" => std::mem::replace(&mut options.entries, true),
+            "--whole" => std::mem::replace(&mut options.whole, true),
             "--csv" => std::mem::replace(&mut options.csv, true),
             "--demo" => std::mem::replace(&mut demo, true),
             "--" => std::mem::replace(&mut names_only, true),
@@ -202,6 +213,7 @@ fn checked(options: Options, demo: bool) -> Result<Command, Failure> {
             ("--operator", options.operator.is_some()),
             ("--limit", options.limit.is_some()),
             ("--entries", options.entries),
+            ("--whole", options.whole),
             ("--grid", options.grid.is_some()),
         ];
         if let Some((name, _)) = other.iter().find(|(_, given)| *given) {
@@ -225,12 +237,16 @@ fn checked(options: Options, demo: bool) -> Result<Command, Failure> {
             ("--requests", options.requests.is_some()),
             ("--limit", options.limit.is_some()),
             ("--entries", options.entries),
+            ("--whole", options.whole),
             ("--why", options.why.is_some()),
             ("--grid", options.grid.is_some()),
         ];
         if let Some((name, _)) = other.iter().find(|(_, given)| *given) {
             return Err(Failure::usage(format!("--operator does not go with {name}")));
         }
+    }
+    if options.why.is_some() && options.whole {
+        return Err(Failure::usage("--why does not go with --whole"));
     }
     if options.why.is_some() && options.entries {
         return Err(Failure::usage("--why does not go with --entries"));

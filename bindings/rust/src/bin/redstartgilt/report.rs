@@ -3,7 +3,37 @@
 use crate::map::Placed;
 use crate::why::Why;
 use redstartgilt::{count_and_least, SelectedInverseDiagnostics};
+use std::fmt::Debug;
 use std::io::{self, Write};
+
+/// Values that are printed: floats, with all digits that are needed to read them back, or whole numbers, which are exact.
+pub trait Value: Copy + Debug {
+    /// What stands before the word for a value, in a line of names.
+    const EXACT: &'static str;
+
+    /// What is said of a summary's values as a whole; there is at least one.
+    fn summary(values: &[Self]) -> String;
+}
+
+impl Value for f64 {
+    const EXACT: &'static str = "";
+
+    fn summary(values: &[Self]) -> String {
+        let counted = count_and_least(values);
+        format!(
+            "{} of them negative, the least {:?}",
+            counted.num_negative, counted.min_value
+        )
+    }
+}
+
+impl Value for i64 {
+    const EXACT: &'static str = "exact_";
+
+    fn summary(values: &[Self]) -> String {
+        format!("the least {}", values.iter().min().expect("there is one"))
+    }
+}
 
 /// Status and counts, in one line.
 pub fn counts(output: &mut impl Write, diagnostics: &SelectedInverseDiagnostics) -> io::Result<()> {
@@ -18,18 +48,25 @@ pub fn counts(output: &mut impl Write, diagnostics: &SelectedInverseDiagnostics)
     )
 }
 
+/// Status and counts, and whether the values are exact.
+fn counts_of<V: Value>(output: &mut impl Write, diagnostics: &SelectedInverseDiagnostics) -> io::Result<()> {
+    counts(output, diagnostics)?;
+    if V::EXACT.is_empty() {
+        return Ok(());
+    }
+    writeln!(output, "{EXACT}")
+}
+
+/// The words that say that values are exact.
+pub const EXACT: &str = "Exact: computed in whole numbers, and nothing was rounded.";
+
 /// How many cells were computed, in two lines.
-pub fn coverage(output: &mut impl Write, variances: &[Option<f64>]) -> io::Result<()> {
+pub fn coverage<V: Value>(output: &mut impl Write, variances: &[Option<V>]) -> io::Result<()> {
     let cells = variances.len();
     let computed = variances.iter().flatten().copied().collect::<Vec<_>>();
-    let counted = count_and_least(&computed);
     write!(output, "{} of {cells} cells computed", computed.len())?;
     if !computed.is_empty() {
-        write!(
-            output,
-            ", {} of them negative, the least {:?}",
-            counted.num_negative, counted.min_value
-        )?;
+        write!(output, ", {}", V::summary(&computed))?;
     }
     writeln!(output, "\n{} of {cells} cells not computed", cells - computed.len())
 }
@@ -37,9 +74,8 @@ pub fn coverage(output: &mut impl Write, variances: &[Option<f64>]) -> io::Resul
 /// The words in the place of a variance that was not computed.
 pub const NOT_COMPUTED: &str = "not computed";
 
-/// The variance of a cell with all digits that are needed to read it back, and whether it was computed, as the last two
-/// fields of a line.
-pub fn csv_fields(variance: Option<f64>) -> String {
+/// The variance of a cell, and whether it was computed, as the last two fields of a line.
+pub fn csv_fields<V: Value>(variance: Option<V>) -> String {
     match variance {
         Some(variance) => format!("{variance:?},yes"),
         None => ",no".to_string(),
@@ -47,16 +83,16 @@ pub fn csv_fields(variance: Option<f64>) -> String {
 }
 
 /// Every cell, counted from 1, with its variance or that it was not computed.
-pub fn variances(
+pub fn variances<V: Value>(
     output: &mut impl Write,
     csv: bool,
     diagnostics: &SelectedInverseDiagnostics,
-    variances: &[Option<f64>],
+    variances: &[Option<V>],
 ) -> io::Result<()> {
     if csv {
-        writeln!(output, "cell,variance,covered")?;
+        writeln!(output, "cell,{}variance,covered", V::EXACT)?;
     } else {
-        counts(output, diagnostics)?;
+        counts_of::<V>(output, diagnostics)?;
         coverage(output, variances)?;
         writeln!(output, "cell variance")?;
     }
@@ -109,17 +145,17 @@ pub fn covariances(
 }
 
 /// Every entry (row, column, value).
-pub fn entries(
+pub fn entries<V: Value>(
     output: &mut impl Write,
     csv: bool,
     diagnostics: &SelectedInverseDiagnostics,
-    entries: impl Iterator<Item = (usize, usize, f64)>,
+    entries: impl Iterator<Item = (usize, usize, V)>,
 ) -> io::Result<()> {
+    let (gap, exact) = if csv { (',', V::EXACT) } else { (' ', "") };
     if !csv {
-        counts(output, diagnostics)?;
+        counts_of::<V>(output, diagnostics)?;
     }
-    let gap = if csv { ',' } else { ' ' };
-    writeln!(output, "row{gap}column{gap}value")?;
+    writeln!(output, "row{gap}column{gap}{exact}value")?;
     for (row, column, value) in entries {
         writeln!(output, "{}{gap}{}{gap}{value:?}", row + 1, column + 1)?;
     }

@@ -1,0 +1,160 @@
+//! Variances and entries in whole numbers, and what a refusal of them is about.
+
+use crate::failure::Failure;
+use crate::map::{Map, Placed};
+use crate::matrix_market::{self, Entry};
+use crate::options::Options;
+use crate::{cell_lists, cell_of, check_grid, entries_of_cells, name_of, print, requested, write_map, Found};
+use redstartgilt::lent::default_limit;
+use redstartgilt::{
+    selected_inverse_entries_whole_with_limit, selected_inverse_entries_with_limit, CholeskyFactor, Error, Permutation,
+    SparseSymmetricPattern, WholeFactor, MAX_ENTRIES,
+};
+use std::io::Write;
+use std::path::Path;
+
+/// The largest size that numbers may have.
+const LARGEST: u64 = 1 << 53;
+
+/// Prints, and draws where that is asked for, what the options ask of a factor of whole numbers.
+pub fn run(output: &mut impl Write, file: &Path, options: &Options) -> Result<(), Failure> {
+    let (factor, entries) = matrix_market::whole_factor(file)?;
+    let n = factor.dimension();
+    check_grid(options, n)?;
+    let permutation = match &options.permutation {
+        Some(list) => cell_lists::permutation(list, n)?,
+        None => Permutation::identity(n),
+    };
+    let requested = requested(&permutation, options)?;
+    let limit = options.limit.unwrap_or(default_limit(factor.nnz()));
+    let selected = selected_inverse_entries_whole_with_limit(&factor, &requested, limit)
+        .map_err(|error| refused(file, &factor, &entries, &requested, limit, error))?;
+    let Some(inverse) = selected.inverse else {
+        return Err(Failure::too_many_pairs(limit));
+    };
+    let diagonal = inverse.diag();
+    let places = permutation.orig_to_perm.iter();
+    let variances = places.map(|place| diagonal[*place]).collect::<Vec<_>>();
+    if let Some(grid) = options.grid {
+        // Up to 2^53 a float is the whole number itself.
+        let cells = variances
+            .iter()
+            .map(|variance| cell_of(variance.map(|whole| whole as f64)));
+        let map = Map {
+            title: &format!("Exact variances of {}", name_of(file)),
+            unit: None,
+            cells: &cells.collect::<Vec<_>>(),
+            placed: &Placed {
+                grid,
+                cells: &(0..n).collect::<Vec<_>>(),
+            },
+            why: None,
+            diagnostics: &selected.diagnostics,
+        };
+        write_map(options, &map)?;
+    }
+    let found = Found {
+        diagnostics: selected.diagnostics,
+        variances,
+        entries: if options.entries {
+            entries_of_cells(inverse.entries(), &permutation)
+        } else {
+            Vec::new()
+        },
+    };
+    print(output, options, found)
+}
+
+/// The refusal of a call in whole numbers, with what it is about; entries and columns are counted from 1.
+fn refused(
+    file: &Path,
+    factor: &WholeFactor,
+    entries: &[Entry<i64>],
+    requested: &SparseSymmetricPattern,
+    limit: usize,
+    error: Error,
+) -> Failure {
+    let mut kept = entries
+        .iter()
+        .filter(|entry| entry.row >= entry.column && entry.value != 0);
+    let at = |entry: &Entry<i64>, what: &str| {
+        Failure::refused_because(
+            format_args!("{}:{}", file.display(), entry.line),
+            error,
+            format_args!(
+                "entry ({}, {}) of the factor is {}, {what}",
+                entry.row + 1,
+                entry.column + 1,
+                entry.value
+            ),
+        )
+    };
+    match error {
+        Error::DiagonalNotOne => {
+            if let Some(entry) = kept.find(|entry| entry.row == entry.column && entry.value != 1) {
+                return at(entry, "and a diagonal must be 1");
+            }
+        }
+        Error::NonPositiveDefinite => {
+            let diagonals = kept.filter(|entry| entry.row == entry.column).map(|entry| entry.column);
+            // By column, so those before the first that is missing are each in its place.
+            let column = diagonals.zip(0..).take_while(|(column, place)| column == place).count();
+            let reason = format_args!("column {} of the factor has no diagonal entry", column + 1);
+            return Failure::refused_because(file.display(), error, reason);
+        }
+        Error::NumberTooLarge => {
+            if let Some(entry) = kept.find(|entry| entry.value.unsigned_abs() > LARGEST) {
+                return at(entry, "which is beyond 2^53 in size");
+            }
+            if let Some(column) = column_beyond(factor, requested, limit) {
+                let reason = format_args!(
+                    "a product, a running sum or an entry of column {} is beyond 2^53 in size; those of later columns are \
+                     not",
+                    column + 1
+                );
+                return Failure::refused_because(file.display(), error, reason);
+            }
+        }
+        _ => {}
+    }
+    Failure::refused_at(file.display(), error)
+}
+
+/// The last column with a number of the recurrence over the closed set that is beyond 2^53, of a factor whose entries are
+/// not; `None` where the set has more pairs than can be requested.
+///
+/// What a pair needs stands in its column or a later one, so the pairs from a column on are a closed set. Whether their
+/// numbers are within 2^53 is what the call answers, for fewer columns if it does for more.
+fn column_beyond(factor: &WholeFactor, requested: &SparseSymmetricPattern, limit: usize) -> Option<usize> {
+    let n = factor.dimension();
+    // The set is that of the same factor as floats.
+    let triplets = factor.lower_triplets().into_iter();
+    let floats = triplets.map(|(row, column, value)| (row, column, value as f64));
+    let floats = CholeskyFactor::from_triplets(n, &floats.collect::<Vec<_>>()).ok()?;
+    let set = selected_inverse_entries_with_limit(&floats, requested, limit)
+        .ok()?
+        .inverse?;
+    if set.len() > MAX_ENTRIES {
+        return None;
+    }
+    let is_beyond = |first: usize| {
+        let pairs = set.entries().map(|(row, column, _)| (row, column));
+        let requested = SparseSymmetricPattern {
+            dimension: n,
+            pairs: pairs.filter(|(_, column)| *column >= first).collect(),
+        };
+        let answer = selected_inverse_entries_whole_with_limit(factor, &requested, limit);
+        answer == Err(Error::NumberTooLarge)
+    };
+    // Beyond from `low` on, not from `high` on.
+    let (mut low, mut high) = (0, n);
+    while high - low > 1 {
+        let middle = low + (high - low) / 2;
+        if is_beyond(middle) {
+            low = middle;
+        } else {
+            high = middle;
+        }
+    }
+    Some(low)
+}
