@@ -112,8 +112,8 @@ fn numbers_beyond() {
     // Its square is of column 1, and column 2 has no number beyond it.
     assert_eq!(
         folder.fails(&words, 30),
-        "w.mtx: refusal 20: a product, a running sum or an entry of column 1 is beyond 2^53 in size; those of later columns \
-         are not"
+        "w.mtx: refusal 20: in column 1 of the factor a product, a running sum or an entry of the recurrence is beyond 2^53 in \
+         size; in later columns none is"
     );
     // An entry counts wherever it is, also where nothing that is asked for needs it; so does one that is negative.
     for value in ["9007199254740993", "-9007199254740993", "-9223372036854775808"] {
@@ -129,15 +129,15 @@ fn numbers_beyond() {
     write("1 1 1\n2 1 2\n2 2 1\n3 2 134217728\n3 3 1\n");
     assert_eq!(
         folder.fails(&words, 30),
-        "w.mtx: refusal 20: a product, a running sum or an entry of column 2 is beyond 2^53 in size; those of later columns \
-         are not"
+        "w.mtx: refusal 20: in column 2 of the factor a product, a running sum or an entry of the recurrence is beyond 2^53 in \
+         size; in later columns none is"
     );
     folder.prints(&last);
     write("1 1 1\n2 1 2\n2 2 1\n3 2 67108864\n3 3 1\n");
     assert_eq!(
         folder.fails(&words, 30),
-        "w.mtx: refusal 20: a product, a running sum or an entry of column 1 is beyond 2^53 in size; those of later columns \
-         are not"
+        "w.mtx: refusal 20: in column 1 of the factor a product, a running sum or an entry of the recurrence is beyond 2^53 in \
+         size; in later columns none is"
     );
 }
 

@@ -32,13 +32,12 @@ Options:
                       without it 10 times the stored entries
   --entries           print row, column and value of every entry that was computed, by column then row, and not the
                       variances
-  --whole             compute in whole numbers: FACTOR is an integer file, and its diagonal is 1. What is printed is exact
-                      and says so: in text a line, with --csv the names exact_variance and exact_value, on maps the
-                      title. A diagonal other than 1 is refused with 19, a number beyond 2^53 in size with 20. The
-                      message of 20 has the line of an entry of the file that is beyond it. Otherwise it has the last
-                      column of the factor among whose products, sums and entries one is beyond it, which is where the
-                      recurrence, going from the last column to the first, comes upon it; not so where more than
-                      1,048,576 pairs are to be computed
+  --whole             compute in whole numbers, exactly: FACTOR is an integer file with 1 on its diagonal. The answer
+                      says that it is exact: in text by a line, with --csv by the names exact_variance and exact_value,
+                      on maps by the title. Another diagonal is refused with 19, a number beyond 2^53 in size with 20.
+                      The message of 20 has the line of an entry of the file that is beyond it; or else, where no more
+                      than 1,048,576 pairs are to be computed, the column of the factor in which the recurrence, which
+                      goes from the last column to the first, comes upon such a number
   --why R,C           print why the pair of the cells R and C is computed, and not the variances: a chain of pairs from
                       one that was requested to this one, each needed for the one before and none shorter, with the
                       entry of the factor that leads to each; or that the pair is not in the set. A chain has no limit,

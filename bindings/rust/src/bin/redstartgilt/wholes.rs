@@ -108,8 +108,8 @@ fn refused(
             }
             if let Some(column) = column_beyond(factor, requested, limit) {
                 let reason = format_args!(
-                    "a product, a running sum or an entry of column {} is beyond 2^53 in size; those of later columns are \
-                     not",
+                    "in column {} of the factor a product, a running sum or an entry of the recurrence is beyond 2^53 in \
+                     size; in later columns none is",
                     column + 1
                 );
                 return Failure::refused_because(file.display(), error, reason);
@@ -157,4 +157,87 @@ fn column_beyond(factor: &WholeFactor, requested: &SparseSymmetricPattern, limit
         }
     }
     Some(low)
+}
+
+#[cfg(test)]
+mod tests {
+    use super::{column_beyond, LARGEST};
+    use redstartgilt::{
+        selected_inverse_entries_whole_with_limit, selected_inverse_entries_with_limit, CholeskyFactor, Error,
+        SparseSymmetricPattern, WholeFactor,
+    };
+
+    /// The last column with a number beyond 2^53 over these pairs, by the recurrence in 128-bit numbers.
+    fn last_beyond(n: usize, lower: &[i128], pairs: &[(usize, usize)]) -> Option<usize> {
+        let mut inverse = vec![0i128; n * n];
+        for column in (0..n).rev() {
+            let mut beyond = false;
+            for row in (column..n).rev().filter(|row| pairs.contains(&(*row, column))) {
+                let mut sum = 0;
+                for k in column + 1..n {
+                    let product = lower[k * n + column] * inverse[row.max(k) * n + row.min(k)];
+                    sum += product;
+                    beyond |= product.unsigned_abs().max(sum.unsigned_abs()) > u128::from(LARGEST);
+                }
+                let entry = i128::from(row == column) - sum;
+                beyond |= entry.unsigned_abs() > u128::from(LARGEST);
+                inverse[row * n + column] = entry;
+            }
+            if beyond {
+                return Some(column);
+            }
+        }
+        None
+    }
+
+    #[test]
+    fn the_column_is_the_last_one_with_such_a_number() {
+        let mut state = 8u64;
+        let mut below = |bound: u64| {
+            state = state
+                .wrapping_mul(6_364_136_223_846_793_005)
+                .wrapping_add(1_442_695_040_888_963_407);
+            (state >> 33) % bound
+        };
+        let mut columns = [0; 9];
+        for _ in 0..1_500 {
+            let n = 2 + below(7) as usize;
+            let mut lower = vec![0i128; n * n];
+            let mut triplets = (0..n).map(|cell| (cell, cell, 1)).collect::<Vec<_>>();
+            for column in 0..n {
+                for row in column + 1..n {
+                    if below(2) == 0 {
+                        let value = below(40_000) as i64 - 20_000;
+                        triplets.push((row, column, value));
+                        lower[row * n + column] = i128::from(value);
+                    }
+                }
+            }
+            let mut requested = SparseSymmetricPattern::new(n);
+            for _ in 0..1 + below(3) {
+                let mut index = || below(n as u64) as usize;
+                requested.insert(index(), index()).unwrap();
+            }
+            let floats = triplets
+                .iter()
+                .map(|(row, column, value)| (*row, *column, *value as f64));
+            let floats = CholeskyFactor::from_triplets(n, &floats.collect::<Vec<_>>()).unwrap();
+            let set = selected_inverse_entries_with_limit(&floats, &requested, usize::MAX).unwrap();
+            let set = set.inverse.unwrap();
+            let pairs = set.entries().map(|(row, column, _)| (row, column));
+            let expected = last_beyond(n, &lower, &pairs.collect::<Vec<_>>());
+            let factor = WholeFactor::from_triplets(n, &triplets).unwrap();
+            match selected_inverse_entries_whole_with_limit(&factor, &requested, set.len()) {
+                Err(error) => {
+                    assert_eq!(error, Error::NumberTooLarge);
+                    let told = column_beyond(&factor, &requested, set.len());
+                    assert_eq!(told, expected);
+                    columns[told.unwrap()] += 1;
+                }
+                Ok(_) => assert_eq!(expected, None),
+            }
+        }
+        // Columns of every part come up.
+        assert!(columns[0] > 50 && columns[1] > 50 && columns[3] > 5, "{columns:?}");
+    }
 }
