@@ -19,6 +19,7 @@ use crate::reading;
 use crate::rules;
 use crate::subjects::{FactorLists, OperatorLists, PermutationLists, RequestLists, RowPairLists};
 use crate::text::{Block, Blocks};
+use crate::whole_rows;
 use std::fs::File;
 use std::io::{self, BufRead, BufReader, Write};
 use std::path::Path;
@@ -31,7 +32,7 @@ const CLOSURE_TARGET: f64 = 0.1;
 const CHAIN_TARGET: f64 = 10.0;
 
 /// How often the two are timed in turn.
-const ROUNDS: usize = 5;
+pub const ROUNDS: usize = 5;
 
 extern "C" {
     fn clock_gettime(clock: i32, time: *mut [i64; 2]) -> i32;
@@ -45,7 +46,7 @@ pub fn processor_ms() -> f64 {
     time[0] as f64 * 1e3 + time[1] as f64 * 1e-6
 }
 
-fn median(mut times: Vec<f64>) -> f64 {
+pub fn median(mut times: Vec<f64>) -> f64 {
     times.sort_by(f64::total_cmp);
     times[times.len() / 2]
 }
@@ -62,19 +63,24 @@ fn median_of(runs: usize, mut work: impl FnMut()) -> f64 {
 }
 
 /// The median time of a call that has been lent its lists.
-fn median_ms(call: &mut Call, runs: usize) -> f64 {
+pub fn median_ms(call: &mut Call, runs: usize) -> f64 {
     median_of(runs, || {
         std::hint::black_box(call.make());
     })
 }
 
-/// The median time of setting to 0 the scratch words that every answer leaves 0: no call can take less.
-fn clearing_ms(call: &mut Call, runs: usize) -> f64 {
+/// The median time of setting to 0 what every answer leaves 0, the scratch words and the places of the work list: no call
+/// can take less.
+pub fn cleared_ms(call: &mut Call, runs: usize) -> f64 {
     let used = rules::cleared_words(call.function, call.dimension());
-    median_of(runs, || std::hint::black_box(&mut call.scratch[..used]).fill(0))
+    let places = if call.function.selects_wholes() { rules::most_entries(call) } else { 0 };
+    median_of(runs, || {
+        std::hint::black_box(&mut call.scratch[..used]).fill(0);
+        std::hint::black_box(&mut call.work[..places]).fill(0);
+    })
 }
 
-fn lent(mut call: Call) -> Call {
+pub fn lent(mut call: Call) -> Call {
     lend(&mut call, &mut Random::new(0), |_, need| need);
     call
 }
@@ -99,7 +105,7 @@ struct Row {
 }
 
 /// The Rust's answer to a case, which the library's does not differ from.
-fn answer(folder: &Path, case: &Block) -> io::Result<Block> {
+pub fn answer(folder: &Path, case: &Block) -> io::Result<Block> {
     let answer = Blocks::new(BufReader::new(&oracle(folder, &[], &case.text())?[..])).next()?;
     let answer = answer.ok_or_else(|| io::Error::other("the oracle has no answer"))?;
     if differences(case, &answer) > 0 {
@@ -115,18 +121,23 @@ fn row(folder: &Path, case: &Block, call: &Call, runs: usize) -> io::Result<Row>
     Ok(Row { route, closure, ..timed(folder, case, call, runs)? })
 }
 
+/// The median time of a case by the Rust.
+pub fn rust_ms(folder: &Path, case: &Block, runs: usize) -> io::Result<f64> {
+    // the case's name, and the median
+    let timed = oracle(folder, &["time", &runs.to_string()], &case.text())?;
+    let timed = String::from_utf8_lossy(&timed);
+    let time = timed.trim_end().rsplit(' ').next().and_then(|x| x.parse().ok());
+    time.ok_or_else(|| io::Error::other(format!("{}: no time in {timed}", case.name)))
+}
+
 /// The times alone: the call by the library, the case by the Rust, in turn.
 fn timed(folder: &Path, case: &Block, call: &Call, runs: usize) -> io::Result<Row> {
-    let text = case.text();
     let (mut ours, mut clearing, mut rust) = (Vec::new(), Vec::new(), Vec::new());
     for _ in 0..ROUNDS {
-        // the case's name, and the median
-        let timed = String::from_utf8_lossy(&oracle(folder, &["time", &runs.to_string()], &text)?).into_owned();
-        let time = timed.trim_end().rsplit(' ').next().and_then(|x| x.parse().ok());
-        rust.push(time.ok_or_else(|| io::Error::other(format!("{}: no time in {timed}", case.name)))?);
+        rust.push(rust_ms(folder, case, runs)?);
         let mut call = lent(call.clone());
         ours.push(median_ms(&mut call, runs));
-        clearing.push(clearing_ms(&mut call, runs));
+        clearing.push(cleared_ms(&mut call, runs));
     }
     let part = |times: &[f64]| median(times.iter().zip(&rust).map(|(time, rust)| time / rust).collect());
     let (ratio, least) = (part(&ours), part(&clearing));
@@ -140,14 +151,27 @@ pub fn benchmark(folder: &Path, runs: usize) -> io::Result<()> {
     rows_of_covariances(folder, runs)?;
     rows_of_chains(folder, runs)?;
     rows_of_patterns(folder, runs)?;
+    whole_rows::rows_of_wholes(folder, runs)?;
     growth(folder, runs)?;
     split(runs);
     lookups::rows_of_lookups(runs)?;
     reading::rows_of_files(runs)
 }
 
-/// Makes the call of one case of the timing set alone, for a profiler.
+/// Makes the call of one case of the timing set alone, or of a row of the whole-number engine, for a profiler.
 pub fn profile(folder: &Path, name: &str, runs: usize) -> io::Result<()> {
+    let call = match whole_rows::profiled(name) {
+        Some(call) => call,
+        None => call_of(&timing_case(folder, name)?),
+    };
+    let mut call = lent(call);
+    for _ in 0..runs {
+        std::hint::black_box(call.make());
+    }
+    Ok(())
+}
+
+fn timing_case(folder: &Path, name: &str) -> io::Result<Block> {
     let mut generate = Command::new(folder.join("generate")).arg("timing").stdout(Stdio::piped()).spawn()?;
     let mut cases = Blocks::new(BufReader::new(generate.stdout.take().expect("piped")));
     let mut found = None;
@@ -157,12 +181,7 @@ pub fn profile(folder: &Path, name: &str, runs: usize) -> io::Result<()> {
         }
     }
     generate.wait()?;
-    let case = found.ok_or_else(|| io::Error::other(format!("no case {name}")))?;
-    let mut call = lent(call_of(&case));
-    for _ in 0..runs {
-        std::hint::black_box(call.make());
-    }
-    Ok(())
+    found.ok_or_else(|| io::Error::other(format!("no case {name}")))
 }
 
 pub fn machine() -> String {

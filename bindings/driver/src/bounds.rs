@@ -76,8 +76,19 @@ pub fn bounds() -> Vec<Call> {
             (call.factor.rows, call.factor.values) = (long(count), zeros(count));
             calls.push(call);
         }
+        for function in [Function::WholeEntriesWithLimit, Function::WholeEntries, Function::CheckWholeFactor] {
+            let mut call = sound(function, 3, &mut random);
+            (call.whole_factor.rows, call.whole_factor.values) = (long(count), List::made(count, |_| 0));
+            calls.push(call);
+        }
         // requests: of so many one pair is distinct
-        for function in [Function::EntriesWithLimit, Function::Entries, Function::DependencyChain] {
+        for function in [
+            Function::EntriesWithLimit,
+            Function::Entries,
+            Function::WholeEntriesWithLimit,
+            Function::WholeEntries,
+            Function::DependencyChain,
+        ] {
             let mut call = sound(function, 3, &mut random);
             (call.requests.rows, call.requests.columns) = (long(count), long(count));
             calls.push(call);
@@ -117,10 +128,21 @@ pub fn bounds() -> Vec<Call> {
     assert_eq!(rows.len(), MOST_ENTRIES);
     let values = List::made(rows.len(), |at| 1.0 + rows[at] as f64 / 4096.0);
     let factor = FactorLists { n, starts: List::new(&starts), rows: List::new(&rows), values };
+    // the same in ones, whose inverse has the entries 0, 1, -1 and 2 alone
+    let ones = List::made(rows.len(), |_| 1);
+    let whole_factor = FactorLists { n, starts: List::new(&starts), rows: List::new(&rows), values: ones };
     let request = List::new(&[(n - n / 4) as u32]);
-    for function in [Function::CheckFactor, Function::FactorPattern, Function::Entries, Function::DependencyChain] {
+    for function in [
+        Function::CheckFactor,
+        Function::FactorPattern,
+        Function::Entries,
+        Function::CheckWholeFactor,
+        Function::WholeEntries,
+        Function::DependencyChain,
+    ] {
         calls.push(Call {
             factor: factor.clone(),
+            whole_factor: whole_factor.clone(),
             requests: RequestLists { dimension: n, rows: request.clone(), columns: request.clone() },
             pair: Pair { row: n - 1, column: n - 1 },
             ..sound(function, 0, &mut random)

@@ -14,6 +14,7 @@ use redstartgilt::sys;
 pub struct Call {
     pub function: Function,
     pub factor: FactorLists,
+    pub whole_factor: FactorLists<i64>,
     pub requests: RequestLists,
     pub limit: usize,
     pub pair: Pair,
@@ -23,12 +24,16 @@ pub struct Call {
     pub other: OperatorLists,
     pub row_pairs: RowPairLists,
     pub entries: EntryLists,
+    pub whole_entries: EntryLists<i64>,
     pub permutation: PermutationLists,
     pub values: ValueLists,
     /// A file's bytes.
     pub text: List<u8>,
     pub result: ResultLists,
+    pub whole_result: ResultLists<i64>,
     pub scratch: List<u32>,
+    /// The whole numbers that the whole-number engine computes in.
+    pub work: List<i64>,
     pub pairs: PairLists,
     pub output: OutputLists,
 }
@@ -75,10 +80,19 @@ macro_rules! c_call {
 impl Call {
     /// The dimension of the pairs that it asks for or lists: the factor's, or of an operator's pattern its columns.
     pub fn dimension(&self) -> usize {
-        if self.function == Function::OperatorPattern {
-            self.operator.ncols
+        match self.function {
+            Function::OperatorPattern => self.operator.ncols,
+            function if function.takes_whole_factor() => self.whole_factor.n,
+            _ => self.factor.n,
+        }
+    }
+
+    /// How many entries its factor stores.
+    pub fn stored(&self) -> usize {
+        if self.function.takes_whole_factor() {
+            self.whole_factor.rows.len()
         } else {
-            self.factor.n
+            self.factor.rows.len()
         }
     }
 
@@ -86,8 +100,8 @@ impl Call {
     #[rustfmt::skip]
     pub fn make(&mut self) -> Reply {
         let Call {
-            function, factor, requests, limit, pair, operator, other, row_pairs, entries, permutation, values, text,
-            result, scratch, pairs, output,
+            function, factor, whole_factor, requests, limit, pair, operator, other, row_pairs, entries, whole_entries,
+            permutation, values, text, result, whole_result, scratch, work, pairs, output,
         } = self;
         match function {
             Function::EntriesWithLimit => c_call!(redstartgilt_selected_inverse_entries_with_limit:
@@ -95,10 +109,16 @@ impl Call {
             Function::Entries => c_call!(redstartgilt_selected_inverse_entries:
                 factor(factor) requests(requests) result(result) {scratch}),
             Function::CheckFactor => c_call!(redstartgilt_check_factor: factor(factor)),
+            Function::WholeEntriesWithLimit => c_call!(redstartgilt_selected_inverse_entries_whole_with_limit:
+                factor(whole_factor) requests(requests) (*limit) result(whole_result) {scratch} {work}),
+            Function::WholeEntries => c_call!(redstartgilt_selected_inverse_entries_whole:
+                factor(whole_factor) requests(requests) result(whole_result) {scratch} {work}),
+            Function::CheckWholeFactor => c_call!(redstartgilt_check_whole_factor: factor(whole_factor)),
             Function::Get => c_call!(redstartgilt_get: entries(entries) pair(pair)),
             Function::GetCounted => c_call!(redstartgilt_get_counted: entries(entries) pair(pair)),
             Function::CheckResult => c_call!(redstartgilt_check_result: entries(entries)),
             Function::GetWellFormed => c_call!(redstartgilt_get_well_formed: entries(entries) pair(pair)),
+            Function::GetWhole => c_call!(redstartgilt_get_whole: entries(whole_entries) pair(pair)),
             Function::Diag => c_call!(redstartgilt_diag: entries(entries) {output.values} {output.marks}),
             Function::OriginalDiag => c_call!(redstartgilt_selected_inverse_diag_with_diagnostics:
                 factor(factor) [permutation.orig_to_perm] result(result) {scratch} {output.values}),
@@ -132,6 +152,7 @@ impl Call {
         let Call {
             function: _,
             factor,
+            whole_factor,
             requests,
             limit,
             pair,
@@ -139,16 +160,20 @@ impl Call {
             other,
             row_pairs,
             entries,
+            whole_entries,
             permutation,
             values,
             text,
             result,
+            whole_result,
             scratch,
+            work,
             pairs,
             output,
         } = self;
         let subjects = [
             ("factor", factor.parts()),
+            ("whole_factor", whole_factor.parts()),
             ("requests", requests.parts()),
             ("limit", vec![("", Part::from(limit))]),
             ("pair", pair.parts()),
@@ -156,11 +181,14 @@ impl Call {
             ("other", other.parts()),
             ("row_pairs", row_pairs.parts()),
             ("entries", entries.parts()),
+            ("whole_entries", whole_entries.parts()),
             ("permutation", permutation.parts()),
             ("values", values.parts()),
             ("text", vec![("", Part::from(text))]),
             ("result", result.parts()),
+            ("whole_result", whole_result.parts()),
             ("scratch", vec![("", Part::from(scratch))]),
+            ("work", vec![("", Part::from(work))]),
             ("pairs", pairs.parts()),
             ("output", output.parts()),
         ];
@@ -180,6 +208,7 @@ impl Call {
                     format!("{}: {}", list.len(), list[..list.len().min(4000)].escape_ascii())
                 }
                 Part::Words(list) if !list.is_empty() => told_list(list),
+                Part::Wholes(list) if !list.is_empty() => told_list(list),
                 Part::Floats(list) if !list.is_empty() => told_list(list),
                 _ => return None,
             };

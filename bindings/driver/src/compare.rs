@@ -3,10 +3,11 @@
 //! Program `generate` of the oracle's folder writes the cases twice, once into program `oracle`, once to here, so that
 //! nothing is held but one case and its answer. What the library must reply and leave is the Rust's answer; where
 //! document 01 refuses, or document 02 a factor that is not finite, it is that refusal, and how the Rust differs is
-//! counted.
+//! counted. The set `whole` is the driver's own: calls of the whole-number engine, which the Rust answers as floats.
 
 use crate::call::Call;
 use crate::chains::{chosen, Chains};
+use crate::engines::{compare_engines, compare_whole_cases, whole_call, Made};
 use crate::expected::Expected;
 use crate::function::{Function, LOOKUPS};
 use crate::lend::lend;
@@ -19,6 +20,7 @@ use crate::subjects::{
     EntryLists, FactorLists, OperatorLists, Pair, PermutationLists, RequestLists, ResultLists, RowPairLists, ValueLists,
 };
 use crate::text::{value, Block, Blocks};
+use crate::whole::Kind;
 use redstartgilt::sys;
 use std::collections::BTreeMap;
 use std::io::{self, BufReader};
@@ -60,6 +62,7 @@ pub fn compare(folder: &Path, seeds: &[u64], huge: bool) -> io::Result<usize> {
             for set in SETS {
                 compare_set(folder, set, seed, &mut tally)?;
             }
+            compare_whole_cases(folder, seed, &mut tally)?;
         }
     }
     tally.report();
@@ -67,7 +70,7 @@ pub fn compare(folder: &Path, seeds: &[u64], huge: bool) -> io::Result<usize> {
 }
 
 #[derive(Default)]
-struct Tally {
+pub struct Tally {
     /// cases and calls by set and kind
     counts: BTreeMap<(String, String), (usize, usize)>,
     /// replies by kind
@@ -75,13 +78,15 @@ struct Tally {
     /// chains compared, those among several as short, those held against every chain, and the most pairs of one
     chains: [usize; 3],
     longest: usize,
+    /// of calls of the whole-number engine that look at sizes: the kinds of numbers that pass 2^53, how often
+    sizes: BTreeMap<Vec<Kind>, usize>,
     /// how the Rust differs where a document says otherwise: how often, and a case
     intended: BTreeMap<String, (usize, String)>,
-    unexpected: usize,
+    pub unexpected: usize,
 }
 
 impl Tally {
-    fn differs(&mut self, what: &[String], case: &Block, call: &Call) {
+    pub fn differs(&mut self, what: &[String], case: &Block, call: &Call) {
         if what.is_empty() {
             return;
         }
@@ -106,6 +111,17 @@ impl Tally {
         *self.replies.entry((call.function.name().to_string(), what)).or_insert(0) += 1;
     }
 
+    /// Counts the calls of a case.
+    pub fn compared(&mut self, set: &str, case: &Block, calls: usize) {
+        let entry = self.counts.entry((set.to_string(), case.kind.clone())).or_default();
+        *entry = (entry.0 + 1, entry.1 + calls);
+    }
+
+    /// Counts the kinds of numbers that pass 2^53.
+    pub fn sizes(&mut self, kinds: &[Kind]) {
+        *self.sizes.entry(kinds.to_vec()).or_default() += 1;
+    }
+
     fn report(&self) {
         println!("\nset kind: cases, calls");
         for ((set, kind), (cases, calls)) in &self.counts {
@@ -118,6 +134,10 @@ impl Tally {
         let [chains, several, every] = self.chains;
         println!("\n{chains} chains of up to {} pairs, {several} among several as short;", self.longest);
         println!("{every} answers held against every chain that there is");
+        println!("\nnumbers past 2^53, cases of the set whole");
+        for (kinds, count) in &self.sizes {
+            println!("  {kinds:?}: {count}");
+        }
         println!("\nwhere a document says otherwise than the Rust");
         for (what, (count, example)) in &self.intended {
             println!("  {what}: {count}, as {example}");
@@ -143,9 +163,8 @@ fn compare_set(folder: &Path, set: &str, seed: u64, tally: &mut Tally) -> io::Re
     while let Some(case) = cases.next()? {
         let answer = answers.next()?.filter(|a| a.name == case.name && a.kind == case.kind);
         let answer = answer.ok_or_else(|| io::Error::other(format!("the oracle has no answer to {}", case.name)))?;
-        let calls = compare_case(&case, &answer, seed, &mut random, tally);
-        let entry = tally.counts.entry((set.to_string(), case.kind.clone())).or_default();
-        *entry = (entry.0 + 1, entry.1 + calls);
+        let calls = compare_case(&case, &answer, None, seed, &mut random, tally);
+        tally.compared(set, &case, calls);
         count += 1;
     }
     for child in [&mut asked, &mut given, &mut oracle] {
@@ -160,7 +179,7 @@ fn compare_set(folder: &Path, set: &str, seed: u64, tally: &mut Tally) -> io::Re
 /// How many unexpected differences a case has.
 pub fn differences(case: &Block, answer: &Block) -> usize {
     let mut tally = Tally::default();
-    compare_case(case, answer, SEEDS[0], &mut Random::new(0), &mut tally);
+    compare_case(case, answer, None, SEEDS[0], &mut Random::new(0), &mut tally);
     tally.unexpected
 }
 
@@ -221,7 +240,7 @@ pub fn call_of(case: &Block) -> Call {
 }
 
 /// What is needed, in four cases of ten a few places more.
-fn some_more(random: &mut Random, need: usize) -> usize {
+pub fn some_more(random: &mut Random, need: usize) -> usize {
     if random.chance(40) {
         need + 1 + random.below(8)
     } else {
@@ -229,8 +248,16 @@ fn some_more(random: &mut Random, need: usize) -> usize {
     }
 }
 
-/// Makes the calls of a case and compares them; how many there were.
-fn compare_case(case: &Block, answer: &Block, seed: u64, random: &mut Random, tally: &mut Tally) -> usize {
+/// Makes the calls of a case and compares them; how many there were. Selected entries are asked for in whole numbers too,
+/// by the call given, or where the factor is of such.
+pub fn compare_case(
+    case: &Block,
+    answer: &Block,
+    whole: Option<&Call>,
+    seed: u64,
+    random: &mut Random,
+    tally: &mut Tally,
+) -> usize {
     let mut call = call_of(case);
     if case.kind == "get" {
         return compare_lookups(call, case, answer, seed, tally);
@@ -284,6 +311,9 @@ fn compare_case(case: &Block, answer: &Block, seed: u64, random: &mut Random, ta
     }
     let asked = matches!(call.function, Function::EntriesWithLimit | Function::Entries) && case.kind == "entries";
     let chains = if asked { compare_chains(&call, answer, case, random, tally) } else { 0 };
+    let whole = if asked { whole.cloned().or_else(|| whole_call(&call)) } else { None };
+    let floats = Made { reply: &reply, call: &made };
+    let wholes = whole.map_or(0, |whole| compare_engines(&whole, &floats, case, answer, random, tally));
     let more = match call.function {
         Function::Reorder => compare_marked(call, &expected, case, random, tally),
         Function::OperatorVariances => compare_covariances(call, expected, case, random, tally),
@@ -296,7 +326,7 @@ fn compare_case(case: &Block, answer: &Block, seed: u64, random: &mut Random, ta
         }
         _ => 0,
     };
-    1 + checks + chains + more
+    1 + checks + chains + wholes + more
 }
 
 /// The refusal that the Rust's answer stands for, 0 where it accepts.
@@ -388,12 +418,13 @@ fn answered(case: &Block, answer: &Block, mut call: Call, by_rules: Option<&Expe
     Expected { reply, after: call, values_filled, output_filled }
 }
 
-/// Makes a call; its reply, and what differs from what is expected, told.
-fn compare_call(call: Call, expected: &Expected, case: &Block, tally: &mut Tally) {
+/// Makes a call and tells what differs from what is expected; its reply, and the call with its lists as they are then.
+pub fn compare_call(call: Call, expected: &Expected, case: &Block, tally: &mut Tally) -> (Reply, Call) {
     let mut made = call.clone();
     let reply = made.make();
     tally.replied(&call, &reply);
     tally.differs(&expected.differences(&reply, &made), case, &call);
+    (reply, made)
 }
 
 /// The check of a call's factor: it must refuse with 2, 3 and 18 exactly where the call is refused so, and with 1 only
@@ -502,7 +533,7 @@ fn compare_chains(call: &Call, answer: &Block, case: &Block, random: &mut Random
     2
 }
 
-fn pairs(case: &Block) -> Vec<(usize, usize)> {
+pub fn pairs(case: &Block) -> Vec<(usize, usize)> {
     let columns = case.numbers("pcols");
     case.numbers("prows").into_iter().zip(columns).map(|(r, c)| (r as usize, c as usize)).collect()
 }
@@ -517,7 +548,7 @@ fn got(word: &str) -> Reply {
 }
 
 /// Makes a call, which must do as the driver's own rules say; the reply that they give.
-fn compare_by_rules(call: Call, case: &Block, tally: &mut Tally) -> Reply {
+pub fn compare_by_rules(call: Call, case: &Block, tally: &mut Tally) -> Reply {
     let expected = rules::expected(call.clone());
     compare_call(call, &expected, case, tally);
     expected.reply

@@ -37,6 +37,7 @@ impl Expected {
                 (Part::Count(_), Part::Count(_)) | (Part::Float(_), Part::Float(_)) => {}
                 (Part::Bytes(list), Part::Bytes(expected)) => compare(&name, list, expected, filled, &mut found),
                 (Part::Words(list), Part::Words(expected)) => compare(&name, list, expected, filled, &mut found),
+                (Part::Wholes(list), Part::Wholes(expected)) => compare(&name, list, expected, filled, &mut found),
                 (Part::Floats(list), Part::Floats(expected)) => compare(&name, list, expected, filled, &mut found),
                 _ => unreachable!("the parts of a call are of the same types in every call"),
             }

@@ -5,11 +5,15 @@ pub enum Function {
     EntriesWithLimit,
     Entries,
     CheckFactor,
+    WholeEntriesWithLimit,
+    WholeEntries,
+    CheckWholeFactor,
     #[default]
     Get,
     GetCounted,
     CheckResult,
     GetWellFormed,
+    GetWhole,
     Diag,
     OriginalDiag,
     OperatorVariances,
@@ -27,14 +31,18 @@ pub enum Function {
     ReadRequests,
 }
 
-pub const FUNCTIONS: [Function; 22] = [
+pub const FUNCTIONS: [Function; 26] = [
     Function::EntriesWithLimit,
     Function::Entries,
     Function::CheckFactor,
+    Function::WholeEntriesWithLimit,
+    Function::WholeEntries,
+    Function::CheckWholeFactor,
     Function::Get,
     Function::GetCounted,
     Function::CheckResult,
     Function::GetWellFormed,
+    Function::GetWhole,
     Function::Diag,
     Function::OriginalDiag,
     Function::OperatorVariances,
@@ -52,7 +60,7 @@ pub const FUNCTIONS: [Function; 22] = [
     Function::ReadRequests,
 ];
 
-/// The functions that look up a pair.
+/// The functions that look up a pair in a result of floats.
 pub const LOOKUPS: [Function; 3] = [Function::Get, Function::GetCounted, Function::GetWellFormed];
 
 impl Function {
@@ -62,10 +70,14 @@ impl Function {
             Function::EntriesWithLimit => "selected_inverse_entries_with_limit",
             Function::Entries => "selected_inverse_entries",
             Function::CheckFactor => "check_factor",
+            Function::WholeEntriesWithLimit => "selected_inverse_entries_whole_with_limit",
+            Function::WholeEntries => "selected_inverse_entries_whole",
+            Function::CheckWholeFactor => "check_whole_factor",
             Function::Get => "get",
             Function::GetCounted => "get_counted",
             Function::CheckResult => "check_result",
             Function::GetWellFormed => "get_well_formed",
+            Function::GetWhole => "get_whole",
             Function::Diag => "diag",
             Function::OriginalDiag => "selected_inverse_diag_with_diagnostics",
             Function::OperatorVariances => "selected_inverse_transformed_diag",
@@ -84,8 +96,13 @@ impl Function {
         }
     }
 
-    /// Whether it selects entries: its reply has a status, and it is lent result lists and scratch.
-    pub fn selects(self) -> bool {
+    /// Whether it selects entries of a factor of whole numbers.
+    pub fn selects_wholes(self) -> bool {
+        matches!(self, Function::WholeEntriesWithLimit | Function::WholeEntries)
+    }
+
+    /// Whether it selects entries of a factor of floats: it is lent result lists of these.
+    pub fn selects_floats(self) -> bool {
         matches!(
             self,
             Function::EntriesWithLimit
@@ -96,14 +113,25 @@ impl Function {
         )
     }
 
-    /// Whether it is given a factor.
+    /// Whether it selects entries: its reply has a status, and it is lent result lists and scratch.
+    pub fn selects(self) -> bool {
+        self.selects_floats() || self.selects_wholes()
+    }
+
+    /// Whether it is given a factor of floats.
     pub fn takes_factor(self) -> bool {
         let others = [Function::CheckFactor, Function::DependencyChain, Function::FactorPattern];
-        self.selects() || others.contains(&self)
+        self.selects_floats() || others.contains(&self)
+    }
+
+    /// Whether it is given a factor of whole numbers.
+    pub fn takes_whole_factor(self) -> bool {
+        self.selects_wholes() || self == Function::CheckWholeFactor
     }
 
     /// Whether it reads a result.
     pub fn reads_result(self) -> bool {
-        self == Function::Diag || self == Function::CheckResult || LOOKUPS.contains(&self)
+        let others = [Function::Diag, Function::CheckResult, Function::GetWhole];
+        others.contains(&self) || LOOKUPS.contains(&self)
     }
 }

@@ -57,9 +57,13 @@ pub fn lend(call: &mut Call, random: &mut Random, mut length: impl FnMut(&mut Ra
         List::made(length, |_| random.bits() as u32)
     };
     if call.function.selects() {
-        call.result.starts = words(random, needs.starts);
-        call.result.rows = words(random, needs.entries);
+        let (starts, rows) = (words(random, needs.starts), words(random, needs.entries));
         call.scratch = words(random, needs.scratch);
+        if call.function.selects_wholes() {
+            (call.whole_result.starts, call.whole_result.rows) = (starts, rows);
+        } else {
+            (call.result.starts, call.result.rows) = (starts, rows);
+        }
     }
     match call.function {
         Function::FactorPattern | Function::OperatorPattern | Function::DependencyChain => {
@@ -78,7 +82,7 @@ pub fn lend(call: &mut Call, random: &mut Random, mut length: impl FnMut(&mut Ra
         let length = length(random, need);
         List::made(length, |_| random.any_value())
     };
-    if call.function.selects() {
+    if call.function.selects_floats() {
         call.result.values = values(random, needs.entries);
     }
     match call.function {
@@ -91,6 +95,14 @@ pub fn lend(call: &mut Call, random: &mut Random, mut length: impl FnMut(&mut Ra
         | Function::FloorZero
         | Function::FloorMean => call.output.values = values(random, needs.output),
         _ => {}
+    }
+    if call.function.selects_wholes() {
+        let mut wholes = |random: &mut Random| {
+            let length = length(random, needs.entries);
+            List::made(length, |_| random.any_whole())
+        };
+        call.whole_result.values = wholes(random);
+        call.work = wholes(random);
     }
     if matches!(call.function, Function::Diag | Function::ReorderMarked) {
         let length = length(random, needs.output);

@@ -1,5 +1,6 @@
 //! Lists with guard words around them.
 
+use crate::subjects::Part;
 use std::ops::{Deref, DerefMut};
 use std::sync::atomic::{AtomicBool, Ordering};
 
@@ -13,12 +14,14 @@ pub fn leave_out_guards() {
     BARE.store(true, Ordering::Relaxed);
 }
 
-pub trait Item: Copy + Default {
+pub trait Item: Copy + Default + PartialEq {
     const GUARD: Self;
     fn bits(self) -> u64;
     fn is_nan(self) -> bool;
     /// As it is written out.
     fn shown(self) -> String;
+    /// A list of such items as a part of a call.
+    fn part(list: &List<Self>) -> Part<'_>;
 }
 
 impl Item for u8 {
@@ -31,6 +34,9 @@ impl Item for u8 {
     }
     fn shown(self) -> String {
         self.to_string()
+    }
+    fn part(list: &List<u8>) -> Part<'_> {
+        Part::Bytes(list)
     }
 }
 
@@ -45,6 +51,25 @@ impl Item for u32 {
     fn shown(self) -> String {
         self.to_string()
     }
+    fn part(list: &List<u32>) -> Part<'_> {
+        Part::Words(list)
+    }
+}
+
+impl Item for i64 {
+    const GUARD: i64 = 0x25c3_96e1_a55a_3c0f;
+    fn bits(self) -> u64 {
+        self as u64
+    }
+    fn is_nan(self) -> bool {
+        false
+    }
+    fn shown(self) -> String {
+        self.to_string()
+    }
+    fn part(list: &List<i64>) -> Part<'_> {
+        Part::Wholes(list)
+    }
 }
 
 impl Item for f64 {
@@ -57,6 +82,9 @@ impl Item for f64 {
     }
     fn shown(self) -> String {
         format!("{:016x}", self.to_bits())
+    }
+    fn part(list: &List<f64>) -> Part<'_> {
+        Part::Floats(list)
     }
 }
 

@@ -5,6 +5,7 @@ mod bounds;
 mod call;
 mod chains;
 mod compare;
+mod engines;
 mod expected;
 mod files;
 mod function;
@@ -23,6 +24,10 @@ mod sound;
 mod spoil;
 mod subjects;
 mod text;
+mod whole;
+mod whole_cases;
+mod whole_factors;
+mod whole_rows;
 
 use function::FUNCTIONS;
 use std::path::Path;
@@ -40,9 +45,11 @@ const USAGE: &str = "usage:
                                                    the part of it that has covariances
   driver benchmark-chains ORACLE_FOLDER [RUNS]     the part of it that has chains
   driver benchmark-patterns ORACLE_FOLDER [RUNS]   the part of it that has pattern lists
+  driver benchmark-wholes ORACLE_FOLDER [RUNS]     the part of it that has the whole-number engine
   driver benchmark-lookups [RUNS]                  the part of it that looks up entries, which needs no oracle
   driver benchmark-files [RUNS]                    the part of it that reads files, which needs no oracle
-  driver profile ORACLE_FOLDER CASE RUNS           one case of the benchmark alone, for a profiler
+  driver profile ORACLE_FOLDER CASE RUNS           one case of the benchmark alone, for a profiler; of the whole-number
+                                                   engine's rows whole:ROW, and float:ROW for the same in floats
 ORACLE_FOLDER has the programs `generate` and `oracle` of bindings/oracle.";
 
 fn main() -> ExitCode {
@@ -64,8 +71,13 @@ fn main() -> ExitCode {
 
 /// The number of differences; None where the arguments are not understood.
 fn run(words: &[&str]) -> Option<std::io::Result<usize>> {
-    if let ["compare" | "benchmark" | "benchmark-covariances" | "benchmark-chains" | "benchmark-patterns" | "profile", folder, ..] =
-        words
+    if let ["compare"
+    | "benchmark"
+    | "benchmark-covariances"
+    | "benchmark-chains"
+    | "benchmark-patterns"
+    | "benchmark-wholes"
+    | "profile", folder, ..] = words
     {
         if let Err(error) = compare::oracle_is_there(Path::new(folder)) {
             return Some(Err(error));
@@ -93,6 +105,9 @@ fn run(words: &[&str]) -> Option<std::io::Result<usize>> {
         }
         ["benchmark-patterns", folder, runs @ ..] if runs.len() < 2 => {
             Some(benchmark::rows_of_patterns(Path::new(folder), runs_of(runs)?).map(|()| 0))
+        }
+        ["benchmark-wholes", folder, runs @ ..] if runs.len() < 2 => {
+            Some(whole_rows::rows_of_wholes(Path::new(folder), runs_of(runs)?).map(|()| 0))
         }
         ["benchmark-lookups", runs @ ..] if runs.len() < 2 => {
             Some(lookups::benchmark_lookups(runs_of(runs)?).map(|()| 0))

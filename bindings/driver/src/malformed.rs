@@ -2,8 +2,8 @@
 //!
 //! A call is made from its seed and number alone: sound lists first, then some of them are spoilt, then lists of any
 //! length and contents are lent. Reply, every list and every guard word afterwards must be what document 01, or of files,
-//! covariances, chains, counted lookups and factors that are not finite document 02, gives; of lookups in well-formed
-//! results, what the header says.
+//! covariances, chains, counted lookups, whole numbers and factors that are not finite document 02, gives; of lookups in
+//! well-formed results, what the header says.
 
 use crate::bounds::bounds;
 use crate::call::Call;
@@ -88,11 +88,11 @@ impl Tally {
 
     fn report(&self) {
         let numbers: String = (1..=LAST_REFUSAL).map(|k| format!("{k:>7}")).collect();
-        println!("{:<40} {:>8} {:>8} {numbers}", "function", "accepted", "limit");
+        println!("{:<42} {:>8} {:>8} {numbers}", "function", "accepted", "limit");
         let called = |counts: &[usize]| counts.iter().any(|&count| count > 0);
         for (function, counts) in FUNCTIONS.iter().zip(&self.replies).filter(|(_, counts)| called(&counts[..])) {
             let numbers: String = counts[2..].iter().map(|k| format!("{k:>7}")).collect();
-            println!("{:<40} {:>8} {:>8} {numbers}", function.name(), counts[0], counts[1]);
+            println!("{:<42} {:>8} {:>8} {numbers}", function.name(), counts[0], counts[1]);
         }
         println!("accepted: or Complete; limit: ClosureTooLarge; then the refusals by number");
         println!("{} calls, {} different", self.calls, self.different);

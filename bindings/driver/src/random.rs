@@ -38,6 +38,11 @@ impl Random {
         f64::from_bits(self.bits())
     }
 
+    /// A whole number of any bits.
+    pub fn any_whole(&mut self) -> i64 {
+        self.bits() as i64
+    }
+
     pub fn shuffle<T>(&mut self, items: &mut [T]) {
         for i in (1..items.len()).rev() {
             items.swap(i, self.below(i + 1));

@@ -3,9 +3,13 @@
 use crate::call::Call;
 use crate::chains::Chains;
 use crate::function::Function;
+use crate::list::Item;
 use crate::matrix_market;
-use crate::rules::{self, triangle, Factor};
-use crate::subjects::{EntryLists, FactorLists, OperatorLists, Pair, PermutationLists, ValueLists};
+use crate::rules::{self, Factor};
+use crate::subjects::{
+    EntryLists, FactorLists, OperatorLists, Pair, PermutationLists, RequestLists, ResultLists, ValueLists,
+};
+use crate::whole::exact;
 
 pub const MOST_COLUMNS: usize = 2_048;
 pub const MOST_ENTRIES: usize = 1_048_576;
@@ -17,7 +21,10 @@ pub fn refusal(call: &Call) -> u32 {
     let steps = match call.function {
         Function::EntriesWithLimit | Function::Entries => entries(call),
         Function::CheckFactor => factor_bounds(&call.factor).and_then(|()| factor(&call.factor)),
+        Function::WholeEntriesWithLimit | Function::WholeEntries => whole_entries(call),
+        Function::CheckWholeFactor => factor_bounds(&call.whole_factor).and_then(|()| columns(&call.whole_factor)),
         Function::Get | Function::GetCounted => lookup(&call.entries, &call.pair),
+        Function::GetWhole => lookup(&call.whole_entries, &call.pair),
         Function::CheckResult => result(&call.entries),
         Function::GetWellFormed => refuse(8, rules::searched(&call.entries, &call.pair).is_none()),
         Function::Diag => diagonal_list(call),
@@ -52,24 +59,36 @@ fn outside(list: &[u32], end: usize) -> bool {
 }
 
 /// The steps before 7 where a factor and requests are given.
-fn requests(call: &Call) -> Steps {
-    let (n, requests) = (call.factor.n, &call.requests);
+fn factor_and_requests(call: &Call) -> Steps {
     factor_bounds(&call.factor)?;
-    refuse(1, requests.rows.len() > MOST_ENTRIES)?;
+    request_bound(&call.requests)?;
     factor(&call.factor)?;
-    refuse(4, requests.dimension != n || requests.rows.len() != requests.columns.len())?;
-    refuse(5, outside(&requests.rows, n) || outside(&requests.columns, n))?;
+    requests(&call.requests, call.factor.n)?;
     diagonals(&call.factor)
 }
 
 fn entries(call: &Call) -> Steps {
-    requests(call)?;
-    room(call)
+    factor_and_requests(call)?;
+    room(call, &call.result)
+}
+
+fn whole_entries(call: &Call) -> Steps {
+    factor_bounds(&call.whole_factor)?;
+    request_bound(&call.requests)?;
+    columns(&call.whole_factor)?;
+    requests(&call.requests, call.whole_factor.n)?;
+    let factor = Factor::kept(&call.whole_factor);
+    refuse(19, factor.diagonals.iter().flatten().any(|&d| d != 1))?;
+    refuse(6, factor.diagonals.iter().any(Option::is_none))?;
+    room(call, &call.whole_result)?;
+    refuse(7, call.work.len() < rules::most_entries(call))?;
+    let set = rules::requested(call).closed(&factor);
+    refuse(20, set.count() <= rules::limit(call) && exact(&factor, &set).passes())
 }
 
 fn dependency_chain(call: &Call) -> Steps {
     let n = call.factor.n;
-    requests(call)?;
+    factor_and_requests(call)?;
     refuse(7, call.scratch.len() < rules::chain_words(n))?;
     refuse(5, call.pair.row >= n || call.pair.column >= n)?;
     pair_room(call, Chains::of(call).length(call.pair.ordered()))
@@ -82,7 +101,7 @@ fn original_diagonal(call: &Call) -> Steps {
     refuse(4, call.permutation.orig_to_perm.len() != n)?;
     permutation(&call.permutation.orig_to_perm, None)?;
     diagonals(&call.factor)?;
-    room(call)?;
+    room(call, &call.result)?;
     refuse(7, call.output.values.len() < n)?;
     let size = rules::requested(call).closed(&Factor::kept(&call.factor)).count();
     refuse(8, size > rules::limit(call))
@@ -96,7 +115,7 @@ fn operator_variances(call: &Call) -> Steps {
     refuse(4, call.operator.ncols != n)?;
     operator(&call.operator, n)?;
     diagonals(&call.factor)?;
-    room(call)?;
+    room(call, &call.result)?;
     refuse(7, call.output.values.len() < call.operator.rows())
 }
 
@@ -113,7 +132,7 @@ fn covariances(call: &Call) -> Steps {
     operator(b, n)?;
     refuse(9, outside(a_rows, a.rows()) || outside(b_rows, b.rows()))?;
     diagonals(&call.factor)?;
-    room(call)?;
+    room(call, &call.result)?;
     refuse(7, call.output.values.len() < a_rows.len())
 }
 
@@ -141,7 +160,7 @@ fn pair_room(call: &Call, pairs: usize) -> Steps {
 }
 
 /// The lookup's steps before it searches its column.
-pub fn before_search(entries: &EntryLists, pair: &Pair) -> Steps {
+pub fn before_search<V: Item>(entries: &EntryLists<V>, pair: &Pair) -> Steps {
     let (row, column) = pair.ordered();
     refuse(2, entries.starts.is_empty())?;
     refuse(8, column >= entries.dimension())?;
@@ -149,7 +168,7 @@ pub fn before_search(entries: &EntryLists, pair: &Pair) -> Steps {
     refuse(8, row >= entries.dimension())
 }
 
-fn lookup(entries: &EntryLists, pair: &Pair) -> Steps {
+fn lookup<V: Item>(entries: &EntryLists<V>, pair: &Pair) -> Steps {
     let (row, column) = pair.ordered();
     before_search(entries, pair)?;
     refuse(8, rules::found(entries, row, column).is_none())
@@ -211,7 +230,7 @@ fn file(call: &Call) -> Steps {
 }
 
 /// What 2 says of starts but for their number, and 9 of row starts.
-fn broken(starts: &[u32], indices: &[u32], values: &[f64]) -> bool {
+fn broken<V>(starts: &[u32], indices: &[u32], values: &[V]) -> bool {
     starts.first() != Some(&0)
         || starts.windows(2).any(|s| s[0] > s[1])
         || starts.last().is_some_and(|&s| s as usize != indices.len())
@@ -223,17 +242,33 @@ fn rising(rows: &[u32]) -> bool {
 }
 
 /// 1 of a factor.
-fn factor_bounds(factor: &FactorLists) -> Steps {
+fn factor_bounds<V: Item>(factor: &FactorLists<V>) -> Steps {
     refuse(1, factor.n > MOST_COLUMNS || factor.rows.len() > MOST_ENTRIES)
 }
 
-/// 2, 3 and 18 of a factor whose n is within bounds.
-fn factor(factor: &FactorLists) -> Steps {
+/// 2 and 3 of a factor whose n is within bounds.
+fn columns<V: Item>(factor: &FactorLists<V>) -> Steps {
     let FactorLists { n, starts, rows, values } = factor;
     refuse(2, starts.len() != n + 1 || broken(starts, rows, values))?;
     refuse(3, outside(rows, *n))?;
-    refuse(3, starts.windows(2).any(|s| !rising(&rows[s[0] as usize..s[1] as usize])))?;
+    refuse(3, starts.windows(2).any(|s| !rising(&rows[s[0] as usize..s[1] as usize])))
+}
+
+/// 2, 3 and 18 of a factor of floats whose n is within bounds.
+fn factor(factor: &FactorLists) -> Steps {
+    columns(factor)?;
     refuse(18, Factor::kept(factor).values().any(|x| !x.is_finite()))
+}
+
+/// 1 of requests.
+fn request_bound(requests: &RequestLists) -> Steps {
+    refuse(1, requests.rows.len() > MOST_ENTRIES)
+}
+
+/// 4 and 5 of requests for a factor of dimension n.
+fn requests(requests: &RequestLists, n: usize) -> Steps {
+    refuse(4, requests.dimension != n || requests.rows.len() != requests.columns.len())?;
+    refuse(5, outside(&requests.rows, n) || outside(&requests.columns, n))
 }
 
 /// 1 of an operator.
@@ -247,21 +282,20 @@ fn operator(operator: &OperatorLists, columns: usize) -> Steps {
     refuse(9, outside(&operator.columns, columns))
 }
 
-/// 6.
+/// 6 of a factor of floats.
 fn diagonals(factor: &FactorLists) -> Steps {
     refuse(6, Factor::kept(factor).diagonals.iter().any(|d| d.is_none_or(|d| d <= 0.0)))
 }
 
-/// 7 of the lists that selecting entries fills.
-fn room(call: &Call) -> Steps {
-    let (n, result) = (call.factor.n, &call.result);
-    let entries = rules::limit(call).min(triangle(n));
+/// 7 of the lists that selecting entries fills, and of the scratch.
+fn room<V: Item>(call: &Call, result: &ResultLists<V>) -> Steps {
+    let (n, entries) = (call.dimension(), rules::most_entries(call));
     refuse(7, result.starts.len() < n + 1 || result.rows.len() < entries || result.values.len() < entries)?;
     refuse(7, call.scratch.len() < rules::scratch_words(n))
 }
 
 /// The lookup's 2 and 3 of a column.
-fn result_column(entries: &EntryLists, column: usize) -> Steps {
+fn result_column<V: Item>(entries: &EntryLists<V>, column: usize) -> Steps {
     let places = entries.column(column);
     let end = places.end;
     refuse(2, end < places.start || end > entries.rows.len() || end > entries.values.len())?;

@@ -13,6 +13,7 @@ pub struct Reply {
     pub limit: usize,
     pub ratio: f64,
     pub value: f64,
+    pub whole: i64,
     pub looks: usize,
     pub pairs: usize,
     pub floor: f64,
@@ -36,7 +37,7 @@ impl Reply {
     pub fn same(&self, other: &Self) -> bool {
         let numbers = |r: &Self| {
             let counts = [r.requested, r.closure, r.factor, r.limit, r.pairs, r.hits, r.negative];
-            (r.refusal, r.status, counts, [r.dimension, r.requests, r.looks])
+            (r.refusal, r.status, counts, [r.dimension, r.requests, r.looks], r.whole)
         };
         let values = |r: &Self| {
             [r.ratio, r.value, r.floor, r.least].map(|x| if x.is_nan() { f64::NAN.to_bits() } else { x.to_bits() })
@@ -94,6 +95,12 @@ impl From<sys::redstartgilt_least> for Reply {
 impl From<sys::redstartgilt_entry> for Reply {
     fn from(r: sys::redstartgilt_entry) -> Self {
         Reply { refusal: r.refusal, value: r.value, ..Reply::default() }
+    }
+}
+
+impl From<sys::redstartgilt_whole_entry> for Reply {
+    fn from(r: sys::redstartgilt_whole_entry) -> Self {
+        Reply { refusal: r.refusal, whole: r.value, ..Reply::default() }
     }
 }
 

@@ -5,10 +5,12 @@ use crate::call::Call;
 use crate::chains::Chains;
 use crate::expected::Expected;
 use crate::function::Function;
+use crate::list::Item;
 use crate::matrix_market;
 use crate::refusals::{before_search, refusal};
 use crate::reply::Reply;
-use crate::subjects::{EntryLists, FactorLists, OperatorLists, Pair};
+use crate::subjects::{EntryLists, FactorLists, OperatorLists, Pair, ResultLists};
+use crate::whole::exact;
 use redstartgilt::sys;
 use std::cmp::Ordering::{Equal, Greater, Less};
 use std::ops::Range;
@@ -39,34 +41,45 @@ pub fn cleared_words(function: Function, n: usize) -> usize {
     }
 }
 
+/// Sets to 0 the scratch and, of the whole-number engine, the work list, as far as they are needed.
 fn clear(call: &mut Call) {
     let words = cleared_words(call.function, call.dimension());
     call.scratch[..words].fill(0);
+    if call.function.selects_wholes() {
+        let places = most_entries(call);
+        call.work[..places].fill(0);
+    }
 }
 
 /// The limit that applies: 10 times the stored entries where none is given.
 pub fn limit(call: &Call) -> usize {
-    if call.function == Function::EntriesWithLimit {
+    if matches!(call.function, Function::EntriesWithLimit | Function::WholeEntriesWithLimit) {
         call.limit
     } else {
-        10 * call.factor.rows.len()
+        10 * call.stored()
     }
 }
 
-/// The kept entries of a factor that passes 1, 2 and 3.
-pub struct Factor {
-    pub diagonals: Vec<Option<f64>>,
-    /// The descendants of each column with their values, ascending.
-    pub below: Vec<Vec<(usize, f64)>>,
+/// So many entries the lists of a result must have room for, and the work list.
+pub fn most_entries(call: &Call) -> usize {
+    limit(call).min(triangle(call.dimension()))
 }
 
-impl Factor {
-    pub fn kept(lists: &FactorLists) -> Self {
+/// The kept entries of a factor that passes 1, 2 and 3.
+pub struct Factor<V = f64> {
+    pub diagonals: Vec<Option<V>>,
+    /// The descendants of each column with their values, ascending.
+    pub below: Vec<Vec<(usize, V)>>,
+}
+
+impl<V: Item> Factor<V> {
+    pub fn kept(lists: &FactorLists<V>) -> Self {
         let FactorLists { n, starts, rows, values } = lists;
         let (mut diagonals, mut below) = (Vec::new(), Vec::new());
         for column in 0..*n {
             let places = starts[column] as usize..starts[column + 1] as usize;
-            let entries = places.map(|p| (rows[p] as usize, values[p])).filter(|e| e.0 >= column && e.1 != 0.0);
+            let entries =
+                places.map(|p| (rows[p] as usize, values[p])).filter(|e| e.0 >= column && e.1 != V::default());
             let (diagonal, rest): (Vec<_>, Vec<_>) = entries.partition(|e| e.0 == column);
             diagonals.push(diagonal.first().map(|e| e.1));
             below.push(rest);
@@ -74,7 +87,7 @@ impl Factor {
         Factor { diagonals, below }
     }
 
-    pub fn values(&self) -> impl Iterator<Item = f64> + '_ {
+    pub fn values(&self) -> impl Iterator<Item = V> + '_ {
         self.diagonals.iter().flatten().copied().chain(self.below.iter().flatten().map(|e| e.1))
     }
 
@@ -102,6 +115,15 @@ impl Pairs {
         self.marks[place(row, column)] = true;
     }
 
+    pub fn dimension(&self) -> usize {
+        self.n
+    }
+
+    /// The number of places, one for each pair that there is.
+    pub fn places(&self) -> usize {
+        self.marks.len()
+    }
+
     pub fn has(&self, row: usize, column: usize) -> bool {
         self.marks[place(row, column)]
     }
@@ -116,7 +138,7 @@ impl Pairs {
     }
 
     /// The least closed set that holds these. A pair depends on pairs of later columns, or of later rows of its own.
-    pub fn closed(mut self, factor: &Factor) -> Self {
+    pub fn closed<V: Item>(mut self, factor: &Factor<V>) -> Self {
         for column in 0..self.n {
             for row in column..self.n {
                 if self.has(row, column) {
@@ -199,7 +221,7 @@ fn recurrence(factor: &Factor, set: &Pairs) -> Vec<f64> {
 }
 
 /// The value of a row of a result's column that passes the lookup's checks.
-pub fn found(entries: &EntryLists, row: usize, column: usize) -> Option<f64> {
+pub fn found<V: Item>(entries: &EntryLists<V>, row: usize, column: usize) -> Option<V> {
     entries.column(column).find(|&p| entries.rows[p] as usize == row).map(|p| entries.values[p])
 }
 
@@ -274,12 +296,12 @@ pub fn expected(call: Call) -> Expected {
 }
 
 /// What a refused call leaves: of a scratch that is long enough the marks end 0 in pattern lists, and all words where the
-/// chain list is short, and after 8.
+/// chain list is short, and after 8; after 20 scratch and work list.
 pub fn refused(number: u32, mut call: Call) -> Expected {
     let late = match call.function {
         Function::FactorPattern | Function::OperatorPattern | Function::DependencyChain => number == 7,
         Function::OriginalDiag => number == 8,
-        _ => false,
+        function => function.selects_wholes() && number == 20,
     };
     if late && call.scratch.len() >= cleared_words(call.function, call.dimension()) {
         clear(&mut call);
@@ -289,7 +311,8 @@ pub fn refused(number: u32, mut call: Call) -> Expected {
 
 fn accepted(mut call: Call) -> Expected {
     match call.function {
-        function if function.selects() => selected(call),
+        function if function.selects_floats() => selected(call),
+        function if function.selects_wholes() => whole_selected(call),
         Function::Get | Function::GetCounted => {
             let (row, column) = call.pair.ordered();
             let value = found(&call.entries, row, column).expect("not refused");
@@ -298,6 +321,11 @@ fn accepted(mut call: Call) -> Expected {
         Function::GetWellFormed => {
             let value = searched(&call.entries, &call.pair).expect("not refused");
             Expected::untouched(Reply { value, ..Reply::default() }, call)
+        }
+        Function::GetWhole => {
+            let (row, column) = call.pair.ordered();
+            let whole = found(&call.whole_entries, row, column).expect("not refused");
+            Expected::untouched(Reply { whole, ..Reply::default() }, call)
         }
         Function::Diag => {
             let n = call.entries.dimension();
@@ -361,34 +389,56 @@ fn accepted(mut call: Call) -> Expected {
     }
 }
 
-fn selected(mut call: Call) -> Expected {
-    let (n, limit, factor) = (call.factor.n, limit(&call), Factor::kept(&call.factor));
-    let set = requested(&call);
+/// The closed set of a call's requests, and its reply: the status and the counts.
+fn diagnosed<V: Item>(call: &Call, factor: &Factor<V>) -> (Pairs, Reply) {
+    let set = requested(call);
     let requested = set.count();
-    let set = set.closed(&factor);
-    let (size, pairs) = (set.count(), factor.pairs());
+    let set = set.closed(factor);
+    let (limit, size, pairs) = (limit(call), set.count(), factor.pairs());
     let complete = size <= limit;
     let closure = if complete { size } else { limit + 1 };
     let status = if complete { sys::REDSTARTGILT_COMPLETE } else { sys::REDSTARTGILT_CLOSURE_TOO_LARGE };
     let ratio = closure as f64 / pairs.max(1) as f64;
-    let reply = Reply { status, requested, closure, factor: pairs, limit, ratio, ..Reply::default() };
+    (set, Reply { status, requested, closure, factor: pairs, limit, ratio, ..Reply::default() })
+}
+
+/// Fills a result's lists with the pairs of a set, by column then row, and the value at each pair's place.
+fn fill<V: Item>(result: &mut ResultLists<V>, set: &Pairs, value: impl Fn(usize) -> V) {
+    let mut at = 0;
+    result.starts[0] = 0;
+    for column in 0..set.n {
+        for row in (column..set.n).filter(|&row| set.has(row, column)) {
+            result.rows[at] = row as u32;
+            result.values[at] = value(place(row, column));
+            at += 1;
+        }
+        result.starts[column + 1] = at as u32;
+    }
+}
+
+fn selected(mut call: Call) -> Expected {
+    let factor = Factor::kept(&call.factor);
+    let (set, reply) = diagnosed(&call, &factor);
     clear(&mut call);
-    if !complete {
+    if !reply.complete() {
         return Expected::untouched(reply, call);
     }
     let z = recurrence(&factor, &set);
-    let mut at = 0;
-    call.result.starts[0] = 0;
-    for column in 0..n {
-        for row in (column..n).filter(|&row| set.has(row, column)) {
-            call.result.rows[at] = row as u32;
-            call.result.values[at] = z[place(row, column)];
-            at += 1;
-        }
-        call.result.starts[column + 1] = at as u32;
-    }
+    fill(&mut call.result, &set, |place| z[place]);
     let output_filled = outputs(&mut call, &z);
-    Expected { reply, after: call, values_filled: size, output_filled }
+    Expected { reply, after: call, values_filled: reply.closure, output_filled }
+}
+
+/// The same in whole numbers, none of which passes 2^53 where the set is within the limit.
+fn whole_selected(mut call: Call) -> Expected {
+    let factor = Factor::kept(&call.whole_factor);
+    let (set, reply) = diagnosed(&call, &factor);
+    clear(&mut call);
+    if reply.complete() {
+        let z = exact(&factor, &set).entries;
+        fill(&mut call.whole_result, &set, |place| i64::try_from(z[place]).expect("within 2^53"));
+    }
+    Expected::untouched(reply, call)
 }
 
 /// The output of a diagonal in original order, of an operator or of row pairs, and its length.

@@ -3,19 +3,17 @@
 use crate::call::Call;
 use crate::files::sound_file;
 use crate::function::Function;
-use crate::list::List;
+use crate::list::{Item, List};
 use crate::random::Random;
 use crate::rules::{requested, triangle, Factor};
 use crate::subjects::{
     EntryLists, FactorLists, OperatorLists, Pair, PermutationLists, RequestLists, RowPairLists, ValueLists,
 };
-use std::cmp::Ordering::{Equal, Greater, Less};
+use crate::whole::GREATEST;
+use std::cmp::Ordering::{self, Equal, Greater, Less};
 
-struct Columns {
-    starts: Vec<u32>,
-    rows: Vec<u32>,
-    values: Vec<f64>,
-}
+/// Numbers at and past the greatest size that whole numbers may have.
+pub const LARGE: [i64; 6] = [GREATEST, -GREATEST, GREATEST + 1, -GREATEST - 1, i64::MAX, i64::MIN];
 
 fn some_value(random: &mut Random) -> f64 {
     match random.below(20) {
@@ -46,21 +44,49 @@ fn some_diagonal(random: &mut Random) -> f64 {
     }
 }
 
+/// How a factor's value is drawn, by where its row stands beside its column.
+type Drawn<'a, V> = &'a dyn Fn(&mut Random, Ordering) -> V;
+
+/// Those of a factor of floats with n columns.
+fn drawn_float(n: usize) -> impl Fn(&mut Random, Ordering) -> f64 {
+    move |random, place| match place {
+        Equal if n > 64 => 0.5 + random.unit(),
+        Equal => some_diagonal(random),
+        Greater => some_value(random),
+        Less => some_dropped(random),
+    }
+}
+
+/// Those of a factor of whole numbers: 1 on the diagonal, of a few factors other numbers too; below it up to some size, of
+/// one factor in ten large ones too; above it of any size.
+fn drawn_whole(random: &mut Random) -> impl Fn(&mut Random, Ordering) -> i64 {
+    let most = random.pick(&[1, 1, 1, 2, 3, 9, 1000, 1 << 20, 1 << 26, 1 << 27]);
+    let (faulty, large) = (random.chance(3), random.chance(10));
+    move |random, place| match place {
+        Equal if faulty && random.chance(20) => random.pick(&[0, 2, -1, i64::MIN, GREATEST]),
+        Equal => 1,
+        Greater if large && random.chance(10) => random.pick(&LARGE),
+        Greater => random.below(2 * most + 1) as i64 - most as i64,
+        Less if random.chance(50) => random.pick(&LARGE),
+        Less => random.any_whole(),
+    }
+}
+
 /// A factor of n columns: of some density, with a full first column alone, or, where n is large, of two entries a
 /// column.
-fn factor(random: &mut Random, n: usize) -> Columns {
+fn factor_lists<V: Item>(random: &mut Random, n: usize, drawn: Drawn<V>) -> FactorLists<V> {
     let percent = random.pick(&[0, 5, 20, 50, 100]);
     let upper = random.pick(&[0, 0, 10]);
     let (bare, star) = (random.chance(3), n > 32 && random.chance(60));
-    let mut columns = Columns { starts: vec![0], rows: Vec::new(), values: Vec::new() };
+    let (mut starts, mut rows, mut values) = (vec![0], Vec::new(), Vec::new());
     for c in 0..n {
         if n > 64 {
-            columns.rows.push(c as u32);
-            columns.values.push(0.5 + random.unit());
+            rows.push(c as u32);
+            values.push(drawn(random, Equal));
             let next = c + 1 + random.below(60);
             if next < n {
-                columns.rows.push(next as u32);
-                columns.values.push(some_value(random));
+                rows.push(next as u32);
+                values.push(drawn(random, Greater));
             }
         } else {
             for r in 0..n {
@@ -71,41 +97,41 @@ fn factor(random: &mut Random, n: usize) -> Columns {
                     Less => random.chance(upper),
                 };
                 if there {
-                    columns.rows.push(r as u32);
-                    columns.values.push(match r.cmp(&c) {
-                        Equal => some_diagonal(random),
-                        Greater => some_value(random),
-                        Less => some_dropped(random),
-                    });
+                    rows.push(r as u32);
+                    values.push(drawn(random, r.cmp(&c)));
                 }
             }
         }
-        columns.starts.push(columns.rows.len() as u32);
+        starts.push(rows.len() as u32);
     }
-    columns
+    FactorLists { n, starts: List::new(&starts), rows: List::new(&rows), values: List::new(&values) }
 }
 
-fn factor_lists(random: &mut Random, n: usize) -> FactorLists {
-    let Columns { starts, rows, values } = factor(random, n);
-    FactorLists { n, starts: List::new(&starts), rows: List::new(&rows), values: List::new(&values) }
+fn float_factor(random: &mut Random, n: usize) -> FactorLists {
+    factor_lists(random, n, &drawn_float(n))
+}
+
+fn whole_factor(random: &mut Random, n: usize) -> FactorLists<i64> {
+    let drawn = drawn_whole(random);
+    factor_lists(random, n, &drawn)
 }
 
 /// A result, and the column to look in: the lists of a factor; or, where n is large, one long column of some density,
 /// the others empty.
-fn result_lists(random: &mut Random, n: usize) -> (EntryLists, usize) {
+fn result_lists<V: Item>(random: &mut Random, n: usize, drawn: Drawn<V>) -> (EntryLists<V>, usize) {
     if n <= 64 || random.chance(10) {
-        let FactorLists { starts, rows, values, .. } = factor_lists(random, n);
+        let FactorLists { starts, rows, values, .. } = factor_lists(random, n, drawn);
         return (EntryLists { starts, rows, values }, random.below(n.max(1)));
     }
     let (column, percent) = (random.below(n), random.pick(&[1, 10, 50, 90, 100]));
     let rows: Vec<u32> = (column as u32..n as u32).filter(|_| random.chance(percent)).collect();
     let starts = List::made(n + 1, |at| if at > column { rows.len() as u32 } else { 0 });
-    let values = List::made(rows.len(), |_| some_value(random));
+    let values = List::made(rows.len(), |_| drawn(random, Greater));
     (EntryLists { starts, rows: List::new(&rows), values }, column)
 }
 
 /// A pair to look up: mostly one of the column, stored or not; in either order.
-fn pair_of_result(random: &mut Random, entries: &EntryLists, column: usize) -> Pair {
+fn pair_of_result<V: Item>(random: &mut Random, entries: &EntryLists<V>, column: usize) -> Pair {
     let n = entries.dimension();
     let row = random.below(n + 2);
     let column = if random.chance(80) { column } else { random.below(n + 2) };
@@ -205,12 +231,17 @@ pub fn sound(function: Function, n: usize, random: &mut Random) -> Call {
     let mut call = Call { function, ..Call::default() };
     match function {
         Function::EntriesWithLimit | Function::Entries => {
-            call.factor = factor_lists(random, n);
+            call.factor = float_factor(random, n);
+            call.requests = request_lists(random, n);
+            call.limit = some_limit(random, n);
+        }
+        Function::WholeEntriesWithLimit | Function::WholeEntries => {
+            call.whole_factor = whole_factor(random, n);
             call.requests = request_lists(random, n);
             call.limit = some_limit(random, n);
         }
         Function::DependencyChain => {
-            call.factor = factor_lists(random, n);
+            call.factor = float_factor(random, n);
             call.requests = request_lists(random, n);
             if random.chance(40) {
                 // fewer requests make longer chains
@@ -220,24 +251,31 @@ pub fn sound(function: Function, n: usize, random: &mut Random) -> Call {
             call.pair = pair_of_set(random, &call);
         }
         Function::OriginalDiag => {
-            call.factor = factor_lists(random, n);
+            call.factor = float_factor(random, n);
             call.permutation.orig_to_perm = List::new(&permutation(random, n));
         }
         Function::OperatorVariances => {
-            call.factor = factor_lists(random, n);
+            call.factor = float_factor(random, n);
             call.operator = operator_lists(random, n);
         }
         Function::Covariances => {
-            call.factor = factor_lists(random, n);
+            call.factor = float_factor(random, n);
             call.operator = operator_lists(random, n);
             put_other_operator(&mut call, random);
         }
-        Function::CheckFactor | Function::FactorPattern => call.factor = factor_lists(random, n),
+        Function::CheckFactor | Function::FactorPattern => call.factor = float_factor(random, n),
+        Function::CheckWholeFactor => call.whole_factor = whole_factor(random, n),
         Function::OperatorPattern => call.operator = operator_lists(random, n),
         Function::Get | Function::GetCounted | Function::CheckResult | Function::GetWellFormed | Function::Diag => {
-            let (entries, column) = result_lists(random, n);
+            let (entries, column) = result_lists(random, n, &drawn_float(n));
             call.pair = pair_of_result(random, &entries, column);
             call.entries = entries;
+        }
+        Function::GetWhole => {
+            let drawn = drawn_whole(random);
+            let (entries, column) = result_lists(random, n, &drawn);
+            call.pair = pair_of_result(random, &entries, column);
+            call.whole_entries = entries;
         }
         Function::Validate => {
             let list = permutation(random, n);

@@ -4,10 +4,10 @@ use crate::call::Call;
 use crate::files::damage;
 use crate::function::Function;
 use crate::lend::lend;
-use crate::list::List;
+use crate::list::{Item, List};
 use crate::random::Random;
 use crate::refusals::MOST_COLUMNS;
-use crate::sound::sound;
+use crate::sound::{sound, LARGE as LARGE_WHOLES};
 use crate::subjects::{EntryLists, FactorLists, OperatorLists, Pair, RequestLists};
 
 /// One call of so many is large.
@@ -78,6 +78,30 @@ fn spoil_values(random: &mut Random, list: &mut List<f64>) {
     });
 }
 
+/// Numbers at and past the greatest size at some places of a factor, kept or not.
+fn spoil_sizes(random: &mut Random, list: &mut List<i64>) {
+    list.edit(|list| {
+        for _ in 0..list.len().min(1 + random.below(3)) {
+            let at = random.below(list.len());
+            list[at] = random.pick(&LARGE_WHOLES);
+        }
+    });
+}
+
+fn spoil_wholes(random: &mut Random, list: &mut List<i64>) {
+    list.edit(|list| match random.below(3) {
+        0 => spoil_length(random, list, Random::any_whole),
+        _ if !list.is_empty() => {
+            let at = random.below(list.len());
+            list[at] = random.pick(&[0, 1, -1, 2, -2]);
+            if random.chance(40) {
+                list[at] = random.any_whole();
+            }
+        }
+        _ => list.push(random.any_whole()),
+    });
+}
+
 fn some_size(random: &mut Random, n: usize) -> usize {
     match random.below(12) {
         0 => usize::MAX,
@@ -101,14 +125,30 @@ const PAIR: usize = 2;
 const OPERATOR: usize = 4;
 const ENTRIES: usize = 4;
 
-fn spoil_factor(factor: &mut FactorLists, way: usize, n: usize, random: &mut Random) {
+/// A way to spoil values.
+type SpoilValues<V> = fn(&mut Random, &mut List<V>);
+
+fn spoil_columns<V: Item>(
+    factor: &mut FactorLists<V>,
+    spoil: [SpoilValues<V>; 2],
+    way: usize,
+    n: usize,
+    random: &mut Random,
+) {
     match way {
         0 => factor.n = some_size(random, n),
         1 => spoil_words(random, &mut factor.starts, n),
         2 => spoil_words(random, &mut factor.rows, n),
-        3 => spoil_values(random, &mut factor.values),
-        _ => spoil_finite(random, &mut factor.values),
+        _ => spoil[way - 3](random, &mut factor.values),
     }
+}
+
+fn spoil_factor(factor: &mut FactorLists, way: usize, n: usize, random: &mut Random) {
+    spoil_columns(factor, [spoil_values, spoil_finite], way, n, random);
+}
+
+fn spoil_whole_factor(factor: &mut FactorLists<i64>, way: usize, n: usize, random: &mut Random) {
+    spoil_columns(factor, [spoil_wholes, spoil_sizes], way, n, random);
 }
 
 fn spoil_requests(requests: &mut RequestLists, way: usize, n: usize, random: &mut Random) {
@@ -135,11 +175,17 @@ fn spoil_operator(operator: &mut OperatorLists, way: usize, n: usize, random: &m
     }
 }
 
-fn spoil_entries(entries: &mut EntryLists, way: usize, n: usize, random: &mut Random) {
+fn spoil_entries<V: Item>(
+    entries: &mut EntryLists<V>,
+    spoil: SpoilValues<V>,
+    way: usize,
+    n: usize,
+    random: &mut Random,
+) {
     match way {
         0 => spoil_words(random, &mut entries.starts, n),
         1 => spoil_words(random, &mut entries.rows, n),
-        2 => spoil_values(random, &mut entries.values),
+        2 => spoil(random, &mut entries.values),
         _ => entries.rows.edit(|rows| {
             // in any order from one place to another: the ends of a run may stay
             let (a, b) = (random.below(rows.len() + 1), random.below(rows.len() + 1));
@@ -153,6 +199,10 @@ fn spoil(call: &mut Call, n: usize, random: &mut Random) {
     match call.function {
         Function::EntriesWithLimit | Function::Entries => match random.below(FACTOR + REQUESTS) {
             way if way < FACTOR => spoil_factor(&mut call.factor, way, n, random),
+            way => spoil_requests(&mut call.requests, way - FACTOR, n, random),
+        },
+        Function::WholeEntriesWithLimit | Function::WholeEntries => match random.below(FACTOR + REQUESTS) {
+            way if way < FACTOR => spoil_whole_factor(&mut call.whole_factor, way, n, random),
             way => spoil_requests(&mut call.requests, way - FACTOR, n, random),
         },
         Function::DependencyChain => match random.below(FACTOR + REQUESTS + PAIR) {
@@ -182,16 +232,24 @@ fn spoil(call: &mut Call, n: usize, random: &mut Random) {
             let way = random.below(FACTOR);
             spoil_factor(&mut call.factor, way, n, random)
         }
+        Function::CheckWholeFactor => {
+            let way = random.below(FACTOR);
+            spoil_whole_factor(&mut call.whole_factor, way, n, random)
+        }
         Function::OperatorPattern => {
             let way = random.below(OPERATOR);
             spoil_operator(&mut call.operator, way, n, random)
         }
         Function::Get | Function::GetCounted | Function::CheckResult | Function::GetWellFormed | Function::Diag => {
             match random.below(ENTRIES + PAIR) {
-                way if way < ENTRIES => spoil_entries(&mut call.entries, way, n, random),
+                way if way < ENTRIES => spoil_entries(&mut call.entries, spoil_values, way, n, random),
                 way => spoil_pair(&mut call.pair, way - ENTRIES, n, random),
             }
         }
+        Function::GetWhole => match random.below(ENTRIES + PAIR) {
+            way if way < ENTRIES => spoil_entries(&mut call.whole_entries, spoil_wholes, way, n, random),
+            way => spoil_pair(&mut call.pair, way - ENTRIES, n, random),
+        },
         Function::Validate | Function::Inverse => {
             let first = call.function == Function::Inverse || random.chance(50);
             let lists = &mut call.permutation;

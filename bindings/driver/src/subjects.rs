@@ -1,6 +1,6 @@
 //! What a call is given, by subject: a struct for each, with its parts by name. A new kind of call adds its own.
 
-use crate::list::List;
+use crate::list::{Item, List};
 
 /// A number or a list of one of the types of the C interface.
 pub enum Part<'a> {
@@ -8,6 +8,7 @@ pub enum Part<'a> {
     Float(f64),
     Bytes(&'a List<u8>),
     Words(&'a List<u32>),
+    Wholes(&'a List<i64>),
     Floats(&'a List<f64>),
 }
 
@@ -23,34 +24,22 @@ impl From<&f64> for Part<'_> {
     }
 }
 
-impl<'a> From<&'a List<u8>> for Part<'a> {
-    fn from(list: &'a List<u8>) -> Self {
-        Part::Bytes(list)
+impl<'a, T: Item> From<&'a List<T>> for Part<'a> {
+    fn from(list: &'a List<T>) -> Self {
+        T::part(list)
     }
 }
 
-impl<'a> From<&'a List<u32>> for Part<'a> {
-    fn from(list: &'a List<u32>) -> Self {
-        Part::Words(list)
-    }
-}
-
-impl<'a> From<&'a List<f64>> for Part<'a> {
-    fn from(list: &'a List<f64>) -> Self {
-        Part::Floats(list)
-    }
-}
-
-/// The struct of a subject, and its parts by name.
+/// The struct of a subject, and its parts by name; values of type V are floats where nothing is said.
 macro_rules! subject {
-    ($(#[$about:meta])* $name:ident { $($part:ident: $kind:ty),* }) => {
+    ($(#[$about:meta])* $name:ident $(<$value:ident>)? { $($part:ident: $kind:ty),* }) => {
         $(#[$about])*
         #[derive(Clone, Default)]
-        pub struct $name {
+        pub struct $name $(<$value = f64>)? {
             $(pub $part: $kind,)*
         }
 
-        impl $name {
+        impl $(<$value: Item>)? $name $(<$value>)? {
             pub fn parts(&self) -> Vec<(&'static str, Part<'_>)> {
                 vec![$((stringify!($part), Part::from(&self.$part)),)*]
             }
@@ -60,7 +49,7 @@ macro_rules! subject {
 
 subject! {
     /// A factor of dimension n.
-    FactorLists { n: usize, starts: List<u32>, rows: List<u32>, values: List<f64> }
+    FactorLists<V> { n: usize, starts: List<u32>, rows: List<u32>, values: List<V> }
 }
 
 subject! {
@@ -80,7 +69,7 @@ subject! {
 
 subject! {
     /// A result that is read.
-    EntryLists { starts: List<u32>, rows: List<u32>, values: List<f64> }
+    EntryLists<V> { starts: List<u32>, rows: List<u32>, values: List<V> }
 }
 
 subject! {
@@ -100,7 +89,7 @@ subject! {
 
 subject! {
     /// The lists that entries are written to.
-    ResultLists { starts: List<u32>, rows: List<u32>, values: List<f64> }
+    ResultLists<V> { starts: List<u32>, rows: List<u32>, values: List<V> }
 }
 
 subject! {
@@ -125,7 +114,7 @@ impl OperatorLists {
     }
 }
 
-impl EntryLists {
+impl<V: Item> EntryLists<V> {
     /// The number of its columns.
     pub fn dimension(&self) -> usize {
         self.starts.len().saturating_sub(1)
