@@ -55,10 +55,10 @@ SETS = {
     "opvar": (80, 4000, 12),
     "covar": (56, 2000, 4),
     "chain": (60, 1500, 4),
+    "wentries": (160, 2500, 12),
+    "wget": (60, 1500, 8),
     "floor": (90, 2000, 12),
     "least": (60, 2000, 12),
-    "wentries": (120, 2500, 12),
-    "wget": (60, 1500, 8),
     "perm": (90, 2000, 12),
     "permmarked": (60, 2000, 12),
     "pattern": (70, 4000, 12),
@@ -1393,6 +1393,14 @@ def some_whole_column(chance, c, below, odd):
     return sorted(entries.items())
 
 
+def some_edge_columns(chance, n):
+    """The stored entries of columns of which the entry at the last row and column 0 is a sum of up to n - 2 products at the bound: a
+    product or a running sum may pass it alone."""
+    near = (2**53, 2**53 - 1, 2**52, 2**52 + 1, (2**53 + 1) // 3, 5, 1)
+    first = [(0, 1)] + [(k, chance.pick((1, 1, 2, 3)) * chance.pick((1, -1))) for k in range(1, n - 1)]
+    return [first] + [[(c, 1), (n - 1, chance.pick(near) * chance.pick((1, -1)))] for c in range(1, n - 1)] + [[(n - 1, 1)]]
+
+
 def spoil_whole(chance, f):
     """One fault, or something that looks like one."""
     n, which = min(f["n"], 2**32 - 2), chance.below(9)
@@ -1435,12 +1443,16 @@ def some_whole_case(chance):
     """A factor with ones on its diagonal, requests, a limit, mostly pairs; some faults; some lists lent."""
     n, odd = chance.pick((0, 1, 2, 3, 3, 4, 4, 5, 6, 8, 12, chance.below(24))), chance.pick((10**9, 10**9, 20, 6))
     columns = [some_whole_column(chance, c, below, odd) for c, below in enumerate(some_descendants(chance, n))]
+    edge = chance.one_of(8)
+    if edge:
+        n = 3 + chance.below(4)
+        columns = some_edge_columns(chance, n)
     f = {"n": n, "starts": [0, *itertools.accumulate(map(len, columns))], "rdim": n}
     f["rows"], f["wvalues"] = ([entry[k] for column in columns for entry in column] for k in (0, 1))
     count = chance.pick((0, 1, 1, 1, 2, 3, 6)) if n else 0
     f["rrows"], f["rcols"] = ([chance.below(n) for _ in range(count)] for _ in range(2))
-    if count and chance.one_of(2):
-        f["rrows"], f["rcols"] = [0], [0]
+    if edge or count and chance.one_of(2):
+        f["rrows"], f["rcols"] = [n - 1 if edge else 0], [0]
     for _ in range(chance.pick((0, 0, 0, 0, 0, 1, 1, 2))):
         spoil_whole(chance, f)
     closed = 3
