@@ -632,17 +632,17 @@ def whole_inverse(f):
     return [[sum(row[i] * row[j] for row in inverse) for j in range(n)] for i in range(n)]
 
 
-def whole_steps(f, pairs):
-    """The entries of the exact recurrence over a closed set, and its products, sums and entries."""
-    entry, numbers = {}, []
+def whole_recurrence(f, pairs):
+    """The entries of the exact recurrence over a closed set, and all its products, sums and entries."""
+    entry, met = {}, []
 
     def total(below, pair_of):
-        sum_so_far = 0
+        running = 0
         for k, l in below:
             product = l * entry[pair_of(k)]
-            sum_so_far += product
-            numbers.extend((product, sum_so_far))
-        return sum_so_far
+            running += product
+            met.extend((product, running))
+        return running
 
     for j in reversed(range(f["n"])):
         below = [(k, l) for k, l in kept(f, j) if k > j]
@@ -653,13 +653,13 @@ def whole_steps(f, pairs):
     if f["n"] <= EVERY_INVERSE:
         inverse = whole_inverse(f)
         assert all(z == inverse[i][j] for (i, j), z in entry.items()), f
-    return entry, numbers + list(entry.values())
+    return entry, met + list(entry.values())
 
 
 def exceeds(f, pairs):
     """What 20 says of a closed set."""
     stored = [l for c in range(f["n"]) for _, l in kept(f, c)]
-    return any(abs(x) > MOST_SIZE for x in stored + whole_steps(f, pairs)[1])
+    return any(abs(x) > MOST_SIZE for x in stored + whole_recurrence(f, pairs)[1])
 
 
 def wentries_refusals(f):
@@ -686,19 +686,19 @@ def whole_answer(f):
     pairs = closed_set(f, asked_pairs(f), limit)
     complete = len(pairs) <= limit
     closure, factor = len(pairs) if complete else limit + 1, sum(len(kept(f, c)) for c in range(n))
-    told = {"requested": len(asked_pairs(f)), "closure": closure, "factor": factor, "limit": limit}
+    counts = {"requested": len(asked_pairs(f)), "closure": closure, "factor": factor, "limit": limit}
     got = {"reply": ["ok"], "status": ["Complete" if complete else "ClosureTooLarge"]}
-    got.update({name: [str(count)] for name, count in told.items()})
+    got.update({name: [str(count)] for name, count in counts.items()})
     got["ratio"] = [struct.pack(">d", closure / max(factor, 1)).hex()]
     if complete:
-        entry = whole_steps(f, pairs)[0]
+        entry = whole_recurrence(f, pairs)[0]
         columns = [sorted(i for i, c in pairs if c == j) for j in range(n)]
         lists = {
             "starts": [0, *itertools.accumulate(map(len, columns))],
             "rows": [i for column in columns for i in column],
             "wvalues": [entry[i, j] for j, column in enumerate(columns) for i in column],
         }
-        got.update({name: [str(len(items))] + [str(x) for x in items] for name, items in lists.items()})
+        got.update({name: [str(len(held))] + [str(x) for x in held] for name, held in lists.items()})
         if "prows" in f:
             found = [lookup_word(x) for x in lookups({**lists, "prows": f["prows"], "pcols": f["pcols"]})]
             got["gets"] = [str(len(found))] + found
@@ -707,15 +707,12 @@ def whole_answer(f):
 
 def check_doubles(f, got, doubles):
     """Holds an accepted case to the Rust's answer for the same factor as doubles."""
-    def equal(words, digits):
-        return len(words) == len(digits) and all(
-            w == d or (w != "none" and d != "none" and int(w) == number_of(d)) for w, d in zip(words, digits)
-        )
-
     same = ("reply", *DIAGNOSIS, "starts", "rows")
     assert all(got.get(name) == doubles.get(name) for name in same), f
-    assert equal(got.get("wvalues", ["0"])[1:], doubles.get("values", ["0"])[1:]), f
-    assert equal(got.get("gets", ["0"])[1:], doubles.get("gets", ["0"])[1:]), f
+    for name, other in (("wvalues", "values"), ("gets", "gets")):
+        wholes, digits = (answer.get(x, ["0"])[1:] for answer, x in ((got, name), (doubles, other)))
+        for whole, value in zip(wholes, digits, strict=True):
+            assert value == whole if "none" in (whole, value) else int(whole) == number_of(value), f
 
 
 # ---- document 02: the search in a column
@@ -1490,7 +1487,8 @@ def some_whole_lookup(chance):
         at = 1 + chance.below(len(f["rows"]) - 1)
         f["rows"][at] = f["rows"][at - 1]
     count = chance.pick((0, 1, 3, 6, 9))
-    f["prows"], f["pcols"] = ([chance.pick((chance.below(n + 1), chance.below(n + 1), 2**32 - 1)) for _ in range(count)] for _ in range(2))
+    index = lambda: 2**32 - 1 if chance.one_of(9) else chance.below(n + 1)
+    f["prows"], f["pcols"] = ([index() for _ in range(count)] for _ in range(2))
     return f
 
 
