@@ -32,7 +32,10 @@ The Rust has no reader of Matrix Market files. The answers of kind `mmread` are 
 below, which follows document 02's text, and the files of the set `mmread` are made here too. Nor does it
 count the places that a search looks at: of kind `search` places and looks are those of `search` below,
 and the columns of the set are made here. Nor has it a chain to a pair: the answers of kind `chain` are those
-of `chain_of` below, which follows document 02's text, and the set is made here.
+of `chain_of` below, which follows document 02's text, and the set is made here. Nor does it compute in whole
+numbers: the answers of kinds `wentries` and `wget` are those of `whole_answer` and `lookups` below, with Python's
+numbers, which have no bound, and both sets are made here. Where the answer to `wentries` is Complete, the Rust is
+asked for the entries of the same factor as doubles; its entries must be equal as numbers, and the rest of its answer the same.
 """
 import collections, itertools, math, os, random, re, struct, subprocess, sys
 
@@ -52,6 +55,8 @@ SETS = {
     "opvar": (80, 4000, 12),
     "covar": (56, 2000, 4),
     "chain": (60, 1500, 4),
+    "wentries": (160, 2500, 12),
+    "wget": (60, 1500, 8),
     "floor": (90, 2000, 12),
     "least": (60, 2000, 12),
     "perm": (90, 2000, 12),
@@ -63,6 +68,7 @@ SETS = {
 # ---- the text form
 
 FACTOR = ("n", "starts", "rows", "values")
+WHOLE_FACTOR = ("n", "starts", "rows", "wvalues")
 OPERATOR = ("ncols", "ostarts", "ocols", "oweights")
 OPERATOR_A = ("ancols", "astarts", "acols", "aweights")
 OPERATOR_B = ("bncols", "bstarts", "bcols", "bweights")
@@ -73,9 +79,12 @@ OUTPUT = {"lout": ROOM}
 MARKED = {"lout": ROOM, "lmarks": ROOM}
 PATTERN = {"lscratch": ENTRIES, "lprows": ENTRIES, "lpcols": ENTRIES}
 CHAIN = {"lscratch": 67072, "lcrows": ENTRIES, "lccols": ENTRIES}
+WHOLE = {"lstarts": ROOM, "lrows": ENTRIES, "lwvalues": ENTRIES, "lscratch": 67072, "lwork": ENTRIES}
 LENT = {
     "entries": RESULT,
     "get": {},
+    "wentries": WHOLE,
+    "wget": {},
     "search": {},
     "diag": MARKED,
     "patfactor": PATTERN,
@@ -96,6 +105,8 @@ LENT = {
 READ = {
     "entries": FACTOR + ("rdim", "rrows", "rcols", "limit", "prows", "pcols"),
     "get": FACTOR[1:] + ("prows", "pcols"),
+    "wentries": WHOLE_FACTOR + ("rdim", "rrows", "rcols", "limit", "prows", "pcols"),
+    "wget": WHOLE_FACTOR[1:] + ("prows", "pcols"),
     "search": ("rows", "sought"),
     "diag": FACTOR[1:],
     "patfactor": FACTOR,
@@ -115,6 +126,7 @@ READ = {
 FIELDS = {kind: (*LENT[kind], *READ[kind]) for kind in READ}
 SCALARS = ("n", "rdim", "limit", "ncols", "ancols", "bncols", "prow", "pcol", "floor", "scale")
 VALUES = ("values", "oweights", "aweights", "bweights", "input", "lvalues", "lout")
+WHOLES = ("wvalues", "lwvalues", "lwork")
 BYTES = ("file",)
 MARKS = ("marks", "lmarks")
 # what the program has room for: ROOM items of a list, so many pairs, bytes of a case, and this dimension where it lends its own lists
@@ -196,8 +208,9 @@ def is_nan(bits):
     return bits == "nan" or int(bits, 16) % 2**63 > 0x7FF0 << 48
 
 
-def is_zero(bits):
-    return bits != "nan" and int(bits, 16) % 2**63 == 0
+def is_zero(x):
+    """Of a value's digits, zeros of either sign; of a whole number, 0."""
+    return (x != "nan" and int(x, 16) % 2**63 == 0) if is_value(x) else x == 0
 
 
 def list_line(name, held):
@@ -227,6 +240,12 @@ def value_bits(word):
     else:
         x = float(word)
     return struct.pack(">d", x).hex()
+
+
+def whole_of(word):
+    """A whole number: from its decimal, or from a power with what is added to it, such as -2^63 or 2^53+1."""
+    power = re.fullmatch(r"(-?)2\^(\d+)([+-]\d+)?", word)
+    return int(power[1] + str(2 ** int(power[2]))) + int(power[3] or 0) if power else int(word)
 
 
 def number_of(bits):
@@ -269,12 +288,13 @@ def readable_fields(lines):
         if name in BYTES:
             f[name] = byte_items(file_bytes(line[len(name) + 1 :]))
         elif name == "expect":
-            expect = [int(w) for w in words]
+            expect = [x if x == "past" else whole_of(x) for w in words for x in items(w)]
         elif name in SCALARS:
             f[name] = value_bits(words[0]) if name == "scale" else scalar(name, words[0])
         else:
             long = [x for w in words for x in items(w)]
-            f[name] = [value_bits(x) for x in long] if name in VALUES else [int(x) for x in long]
+            read = value_bits if name in VALUES else whole_of if name in WHOLES else int
+            f[name] = [read(x) for x in long]
     return f, expect
 
 
@@ -323,14 +343,24 @@ def broken(starts, indices, values):
     )
 
 
-def factor_refusals(f):
+def values_of(f):
+    """The values of a factor or a result: digits, or whole numbers."""
+    return f["wvalues"] if "wvalues" in f else f["values"]
+
+
+def factor_list_refusals(f):
     n, starts, rows = f["n"], f["starts"], f["rows"]
-    if len(starts) != n + 1 or broken(starts, rows, f["values"]):
+    if len(starts) != n + 1 or broken(starts, rows, values_of(f)):
         yield 2
     for c in range(n):
         for p in range(starts[c], starts[c + 1]):
             if rows[p] >= n or (p > starts[c] and rows[p] <= rows[p - 1]):
                 yield 3
+
+
+def factor_refusals(f):
+    n = f["n"]
+    yield from factor_list_refusals(f)
     if not all(finite(v) for c in range(n) for _, v in kept(f, c)):
         yield 18
 
@@ -343,7 +373,7 @@ def operator_refusals(f, columns, names=OPERATOR):
 
 def kept(f, c):
     """The kept entries of a column, (row, value)."""
-    entries = ((f["rows"][p], f["values"][p]) for p in range(f["starts"][c], f["starts"][c + 1]))
+    entries = ((f["rows"][p], values_of(f)[p]) for p in range(f["starts"][c], f["starts"][c + 1]))
     return [(r, v) for r, v in entries if r >= c and not is_zero(v)]
 
 
@@ -354,12 +384,12 @@ def diagonal_refusals(f):
             yield 6
 
 
-def room_refusals(kind, f, limit):
+def room_refusals(kind, f, limit, values="lvalues"):
     n, entries = f["n"], min(limit, triangle(f["n"]))
     if (
         room(kind, f, "lstarts") < n + 1
         or room(kind, f, "lrows") < entries
-        or room(kind, f, "lvalues") < entries
+        or room(kind, f, values) < entries
         or room(kind, f, "lscratch") < scratch_words(n)
     ):
         yield 7
@@ -382,8 +412,8 @@ def limit_of(f):
     return f["limit"] if f.get("limit", "default") != "default" else 10 * len(f["rows"])
 
 
-def past_limit(f, requests, limit):
-    """Whether the closed set has more pairs than the limit."""
+def closed_set(f, requests, limit):
+    """The closed set; of one that has more pairs than the limit, some, which are more too."""
     below = [[r for r, _ in kept(f, c) if r > c] for c in range(f["n"])]
     found, queue = set(requests), list(requests)
     while queue and len(found) <= limit:
@@ -393,7 +423,12 @@ def past_limit(f, requests, limit):
             if pair not in found:
                 found.add(pair)
                 queue.append(pair)
-    return len(found) > limit
+    return found
+
+
+def past_limit(f, requests, limit):
+    """Whether the closed set has more pairs than the limit."""
+    return len(closed_set(f, requests, limit)) > limit
 
 
 def factor_pattern(f):
@@ -405,16 +440,24 @@ def operator_pattern(f):
     return {(max(a, b), min(a, b)) for row in rows for a in row for b in row}
 
 
+def bound_refusals(f):
+    if f["n"] > MOST_COLUMNS or len(f["rows"]) > MOST_ENTRIES or len(f["rrows"]) > MOST_ENTRIES:
+        yield 1
+
+
+def pair_refusals(f):
+    rows, cols = f["rrows"], f["rcols"]
+    if f["rdim"] != f["n"] or len(rows) != len(cols):
+        yield 4
+    if any(i >= f["n"] for i in rows + cols):
+        yield 5
+
+
 def request_refusals(f):
     """The steps before 7 where a factor and requests are given."""
-    n, rows, cols = f["n"], f["rrows"], f["rcols"]
-    if n > MOST_COLUMNS or len(f["rows"]) > MOST_ENTRIES or len(rows) > MOST_ENTRIES:
-        yield 1
+    yield from bound_refusals(f)
     yield from factor_refusals(f)
-    if f["rdim"] != n or len(rows) != len(cols):
-        yield 4
-    if any(i >= n for i in rows + cols):
-        yield 5
+    yield from pair_refusals(f)
     yield from diagonal_refusals(f)
 
 
@@ -561,6 +604,117 @@ def floor_refusals(f):
         yield 7
 
 
+# ---- document 02: selected entries in whole numbers, here with numbers that have no bound
+
+MOST_SIZE = 2**53
+# to this dimension the entries are held to the inverse too
+EVERY_INVERSE = 12
+
+
+def ordered(row, col):
+    return max(row, col), min(row, col)
+
+
+def asked_pairs(f):
+    """The requested pairs, put in order, each once."""
+    return {ordered(*pair) for pair in zip(f["rrows"], f["rcols"], strict=True)}
+
+
+def whole_inverse(f):
+    """The inverse of L times its transpose, row by row, for ones on the diagonal: the rows of L's inverse first, by substitution."""
+    n, inverse = f["n"], []
+    columns = [dict(kept(f, c)) for c in range(f["n"])]
+    for r in range(n):
+        row = [int(c == r) for c in range(n)]
+        for k in range(r):
+            row = [x - columns[k].get(r, 0) * y for x, y in zip(row, inverse[k])]
+        inverse.append(row)
+    return [[sum(row[i] * row[j] for row in inverse) for j in range(n)] for i in range(n)]
+
+
+def whole_recurrence(f, pairs):
+    """The entries of the exact recurrence over a closed set, and all its products, sums and entries."""
+    entry, met = {}, []
+
+    def total(below, pair_of):
+        running = 0
+        for k, l in below:
+            product = l * entry[pair_of(k)]
+            running += product
+            met.extend((product, running))
+        return running
+
+    for j in reversed(range(f["n"])):
+        below = [(k, l) for k, l in kept(f, j) if k > j]
+        for i in sorted(i for i, c in pairs if c == j and i > j):
+            entry[i, j] = -total(below, lambda k, i=i: ordered(i, k))
+        if (j, j) in pairs:
+            entry[j, j] = 1 - total(below, lambda k, j=j: (k, j))
+    if f["n"] <= EVERY_INVERSE:
+        inverse = whole_inverse(f)
+        assert all(z == inverse[i][j] for (i, j), z in entry.items()), f
+    return entry, met + list(entry.values())
+
+
+def exceeds(f, pairs):
+    """What 20 says of a closed set."""
+    stored = [l for c in range(f["n"]) for _, l in kept(f, c)]
+    return any(abs(x) > MOST_SIZE for x in stored + whole_recurrence(f, pairs)[1])
+
+
+def wentries_refusals(f):
+    yield from bound_refusals(f)
+    yield from factor_list_refusals(f)
+    yield from pair_refusals(f)
+    diagonals = [dict(kept(f, c)).get(c) for c in range(f["n"])]
+    if any(d not in (None, 1) for d in diagonals):
+        yield 19
+    if None in diagonals:
+        yield 6
+    limit = limit_of(f)
+    yield from room_refusals("wentries", f, limit, "lwvalues")
+    if room("wentries", f, "lwork") < min(limit, triangle(f["n"])):
+        yield 7
+    pairs = closed_set(f, asked_pairs(f), limit)
+    if len(pairs) <= limit and exceeds(f, pairs):
+        yield 20
+
+
+def whole_answer(f):
+    """The answer to an accepted case, as the Rust tells those of other kinds."""
+    n, limit = f["n"], limit_of(f)
+    pairs = closed_set(f, asked_pairs(f), limit)
+    complete = len(pairs) <= limit
+    closure, factor = len(pairs) if complete else limit + 1, sum(len(kept(f, c)) for c in range(n))
+    counts = {"requested": len(asked_pairs(f)), "closure": closure, "factor": factor, "limit": limit}
+    got = {"reply": ["ok"], "status": ["Complete" if complete else "ClosureTooLarge"]}
+    got.update({name: [str(count)] for name, count in counts.items()})
+    got["ratio"] = [struct.pack(">d", closure / max(factor, 1)).hex()]
+    if complete:
+        entry = whole_recurrence(f, pairs)[0]
+        columns = [sorted(i for i, c in pairs if c == j) for j in range(n)]
+        lists = {
+            "starts": [0, *itertools.accumulate(map(len, columns))],
+            "rows": [i for column in columns for i in column],
+            "wvalues": [entry[i, j] for j, column in enumerate(columns) for i in column],
+        }
+        got.update({name: [str(len(held))] + [str(x) for x in held] for name, held in lists.items()})
+        if "prows" in f:
+            found = [lookup_word(x) for x in lookups({**lists, "prows": f["prows"], "pcols": f["pcols"]})]
+            got["gets"] = [str(len(found))] + found
+    return got
+
+
+def check_doubles(f, got, doubles):
+    """Holds an accepted case to the Rust's answer for the same factor as doubles."""
+    same = ("reply", *DIAGNOSIS, "starts", "rows")
+    assert all(got.get(name) == doubles.get(name) for name in same), f
+    for name, other in (("wvalues", "values"), ("gets", "gets")):
+        wholes, digits = (answer.get(x, ["0"])[1:] for answer, x in ((got, name), (doubles, other)))
+        for whole, value in zip(wholes, digits, strict=True):
+            assert value == whole if "none" in (whole, value) else int(whole) == number_of(value), f
+
+
 # ---- document 02: the search in a column
 
 
@@ -632,13 +786,9 @@ def covar_answer(f, got):
 EVERY_CHAIN = 5
 
 
-def ordered(row, col):
-    return max(row, col), min(row, col)
-
-
 def chain_ends(f):
     """The requested pairs, each once, and the pair that is asked about."""
-    return {ordered(*pair) for pair in zip(f["rrows"], f["rcols"], strict=True)}, ordered(f["prow"], f["pcol"])
+    return asked_pairs(f), ordered(f["prow"], f["pcol"])
 
 
 def dependencies(f):
@@ -763,6 +913,8 @@ def no_refusals(f):
 REFUSALS = {
     "entries": entries_refusals,
     "get": no_refusals,
+    "wentries": wentries_refusals,
+    "wget": no_refusals,
     "search": no_refusals,
     "diag": diag_refusals,
     "patfactor": patfactor_refusals,
@@ -787,25 +939,26 @@ def refusal(kind, f):
 
 
 def lookup(f, row, col):
-    """Document 01's lookup of a pair: the value's digits, or the refusal's number."""
-    starts, rows, values = f["starts"], f["rows"], f["values"]
-    r, c = max(row, col), min(row, col)
+    """Document 01's lookup of a pair: the refusal's number, 0 for none, and the value's digits or the whole number."""
+    starts, rows, values = f["starts"], f["rows"], values_of(f)
+    r, c = ordered(row, col)
     if not starts:
-        return 2
+        return 2, None
     n = len(starts) - 1
     if c >= n:
-        return 8
+        return 8, None
     fault = next(column_refusals(starts, rows, values, c), 0)
     if fault:
-        return fault
+        return fault, None
     found = [values[p] for p in range(starts[c], starts[c + 1]) if rows[p] == r]
-    return found[0] if r < n and found else 8
+    return (0, found[0]) if r < n and found else (8, None)
 
 
 def lookup_word(found):
-    if is_value(found):
-        return "nan" if is_nan(found) else found
-    return "none" if found == 8 else "refused-%d" % found
+    number, x = found
+    if number:
+        return "none" if number == 8 else "refused-%d" % number
+    return "nan" if is_value(x) and is_nan(x) else str(x)
 
 
 def lookups(f):
@@ -836,6 +989,7 @@ DIAGNOSIS = ("status", "requested", "closure", "factor", "limit", "ratio")
 # the answer's lines that the Rust gives in front of the lists
 TOLD = {
     "entries": DIAGNOSIS,
+    "wentries": DIAGNOSIS,
     "diagorig": DIAGNOSIS,
     "opvar": DIAGNOSIS,
     "covar": DIAGNOSIS,
@@ -859,7 +1013,7 @@ def cleared(kind, f, number):
     words = needed(f[READ[kind][0]])
     # the pairs alone have no room
     short = number == 7 and (pattern or kind == "chain") and room(kind, f, "lscratch") >= words
-    return words if number in (0, 8) or short else 0
+    return words if number in (0, 8, 20) or short else 0
 
 
 def filled(kind, name, got):
@@ -880,6 +1034,9 @@ def lists_after(kind, f, number, got):
         held = runs(f[field]) if field in f else [(blank, length)]
         if name == "scratch":
             held = written_over([(0, cleared(kind, f, number))], held)
+        elif name == "work":
+            places = min(limit_of(f), triangle(f["n"])) if number in (0, 20) else 0
+            held = written_over([(0, places)], held)
         elif complete and kind == "permmarked" and name == "marks":
             held = written_over(runs([f["marks"][k] for k in f["perm"]]), held)
         elif complete:
@@ -898,6 +1055,11 @@ def told(kind, f, got):
     return lines
 
 
+def gets_line(f):
+    found = [lookup_word(x) for x in lookups(f)]
+    return " ".join(["gets", str(len(found))] + found)
+
+
 def get_answer(f, got):
     """The lookups, and how the Rust's first other one differs."""
     found, difference = [lookup_word(x) for x in lookups(f)], None
@@ -907,7 +1069,7 @@ def get_answer(f, got):
         for document, rust in zip(found, got["gets"][1:], strict=True):
             if document != rust and not difference:
                 difference = "lookup: document 01 gives %s, the Rust %s" % (document, "none" if rust == "none" else "a value")
-    return ["reply ok", " ".join(["gets", str(len(found))] + found)], difference
+    return ["reply ok", gets_line(f)], difference
 
 
 def expected(kind, f, answer):
@@ -917,6 +1079,8 @@ def expected(kind, f, answer):
         return get_answer(f, got)
     if kind == "search":
         return search_answer(f), None
+    if kind == "wget":
+        return ["reply ok", gets_line(f)], None
     number, difference = refusal(kind, f), None
     if kind == "mmread" and not number:
         got = mmread_answer(f)
@@ -924,6 +1088,9 @@ def expected(kind, f, answer):
         got = covar_answer(f, got)
     if kind == "chain" and not number:
         got = chain_answer(f)
+    if kind == "wentries" and not number:
+        doubles, got = got, whole_answer(f)
+        check_doubles(f, got, doubles)
     reply = got.get("reply", [])
     said = 0 if reply == ["ok"] else error_number(kind, reply[-1]) if reply else number
     if said != number:
@@ -950,13 +1117,17 @@ def run(program, *args, text=""):
 
 
 def asked(name, kind, f):
-    """What the Rust is asked for a case: of values with marks the values alone, of covariances the entries that they need."""
+    """What the Rust is asked for a case: of values with marks the values alone, of covariances the entries that they need, of
+    whole numbers the same as doubles."""
     if kind == "permmarked":
         return name, "permapply", {x: f[x] for x in READ["permapply"]}
     if kind == "covar":
         rows, cols = ([pair[k] for pair in sorted(covar_requests(f))] for k in (0, 1))
         factor = {x: f[x] for x in FACTOR}
         return name, "entries", {**factor, "rdim": f["n"], "rrows": rows, "rcols": cols, "limit": "default"}
+    if kind == "wentries":
+        doubles = {x: f[x] for x in READ["entries"] if x in f}
+        return name, "entries", {**doubles, "values": [struct.pack(">d", x).hex() for x in f["wvalues"]]}
     return name, kind, f
 
 
@@ -989,7 +1160,9 @@ def fits(kind, f):
     for name, words in f.items():
         if name not in SCALARS and len(words) > (PAIRS if name in ("prows", "pcols") else ROOM):
             return False
-        if name not in SCALARS + VALUES + BYTES and max(words, default=0) >= 2**32:
+        if name in WHOLES:
+            assert all(-(2**63) <= x < 2**63 for x in words)
+        elif name not in SCALARS + VALUES + BYTES and max(words, default=0) >= 2**32:
             return False
     return f.get("n", f.get("ncols", 0)) <= DIMENSION or refusal(kind, f) > 0
 
@@ -1190,8 +1363,143 @@ def some_chains(seed=1):
         yield "chain-%d" % k, some_chain(chance)
 
 
+# how many cases the sets wentries and wget have
+WHOLE_CASES, WHOLE_LOOKUPS = 3000, 1000
+# sizes at and beside the bound, factors of it, and whole numbers beyond it
+EDGES = (2**53, 2**53 - 1, 2**53 + 1, 2**52, 2**27, 2**26, 2**26 + 1, 94906265, 94906266, 2**31, 2**32 + 1)
+BEYOND = (2**54, 2**62, 2**63 - 1, -(2**63), -(2**63) + 1)
+
+
+def some_whole(chance, odd):
+    """A whole number other than 0: small, now and then one that products of two or three take to the bound, at odd ones any."""
+    if chance.one_of(odd):
+        return chance.pick(EDGES) * chance.pick((1, -1)) if not chance.one_of(4) else chance.pick(BEYOND)
+    if chance.one_of(12):
+        return chance.pick((2**9, 2**13, 2**17, 2**18, 2**21)) * chance.pick((1, -1))
+    return (1 + chance.below(chance.pick((1, 3, 9, 30)))) * chance.pick((1, 1, -1))
+
+
+def some_whole_column(chance, c, below, odd):
+    """The stored entries of a column with 1 on its diagonal; now and then one of 0 or above the diagonal, which are dropped."""
+    entries = {r: some_whole(chance, odd) for r in below}
+    entries[c] = 1
+    if below and chance.one_of(8):
+        entries[chance.pick(below)] = 0
+    if c and chance.one_of(8):
+        entries[chance.below(c)] = chance.pick((1, 7, *BEYOND))
+    return sorted(entries.items())
+
+
+def some_edge_columns(chance, n):
+    """The stored entries of columns of which the entry at the last row and column 0 is a sum of up to n - 2 products at the bound: a
+    product or a running sum may pass it alone."""
+    near = (2**53, 2**53 - 1, 2**52, 2**52 + 1, (2**53 + 1) // 3, 5, 1)
+    first = [(0, 1)] + [(k, chance.pick((1, 1, 2, 3)) * chance.pick((1, -1))) for k in range(1, n - 1)]
+    return [first] + [[(c, 1), (n - 1, chance.pick(near) * chance.pick((1, -1)))] for c in range(1, n - 1)] + [[(n - 1, 1)]]
+
+
+def spoil_whole(chance, f):
+    """One fault, or something that looks like one."""
+    n, which = min(f["n"], 2**32 - 2), chance.below(9)
+    if which == 0:
+        f["rdim"] = chance.pick((n + 1, max(n - 1, 0), 2**32 + n))
+    elif which == 1:
+        name = chance.pick(("rrows", "rcols"))
+        f[name] = f[name][:-1] if f[name] and chance.one_of(2) else f[name] + [0]
+    elif which == 2:
+        name = chance.pick(("rrows", "rcols"))
+        f[name] = [*f[name][:-1], chance.pick((n, 2**32 - 1))]
+    elif which == 3:
+        f["starts"] = chance.pick((f["starts"][:-1], [1] + f["starts"][1:], f["starts"] + [0], f["starts"][::-1]))
+    elif which == 4:
+        f["rows"] = f["rows"][::-1]
+    elif which == 5:
+        f["n"] = chance.pick((2049, n + 1, 2**64 - 1))
+    elif which == 6:
+        f["wvalues"] = f["wvalues"][1:]
+    elif f["wvalues"]:
+        # mostly a diagonal: another number, or dropped
+        ones = [p for p, x in enumerate(f["wvalues"]) if x == 1]
+        at = chance.pick(ones) if ones else 0
+        f["wvalues"] = [*f["wvalues"][:at], chance.pick((0, 0, -1, 2, *BEYOND)), *f["wvalues"][at + 1 :]]
+
+
+def some_whole_lists(chance, f):
+    """The lists lent, as long as needed, a few places more, or now and then one less."""
+    n, entries = min(f["n"], 64), min(limit_of(f), triangle(min(f["n"], 64)))
+    needs = {"lstarts": n + 1, "lrows": entries, "lwvalues": entries, "lscratch": scratch_words(n), "lwork": entries}
+    lists = {}
+    for name, need in needs.items():
+        length = max(need + (-1 if chance.one_of(20) else chance.pick((0, 0, 1, 3))), 0)
+        item = chance.pick((7777, -7777, 2**63 - 1, -(2**63))) if name in WHOLES else 7777
+        lists[name] = [item] * length
+    return lists
+
+
+def some_whole_case(chance):
+    """A factor with ones on its diagonal, requests, a limit, mostly pairs; some faults; some lists lent."""
+    n, odd = chance.pick((0, 1, 2, 3, 3, 4, 4, 5, 6, 8, 12, chance.below(24))), chance.pick((10**9, 10**9, 20, 6))
+    columns = [some_whole_column(chance, c, below, odd) for c, below in enumerate(some_descendants(chance, n))]
+    edge = chance.one_of(8)
+    if edge:
+        n = 3 + chance.below(4)
+        columns = some_edge_columns(chance, n)
+    f = {"n": n, "starts": [0, *itertools.accumulate(map(len, columns))], "rdim": n}
+    f["rows"], f["wvalues"] = ([entry[k] for column in columns for entry in column] for k in (0, 1))
+    count = chance.pick((0, 1, 1, 1, 2, 3, 6)) if n else 0
+    f["rrows"], f["rcols"] = ([chance.below(n) for _ in range(count)] for _ in range(2))
+    if edge or count and chance.one_of(2):
+        f["rrows"], f["rcols"] = [n - 1 if edge else 0], [0]
+    for _ in range(chance.pick((0, 0, 0, 0, 0, 1, 1, 2))):
+        spoil_whole(chance, f)
+    closed = 3
+    if f["n"] == n and not next(factor_list_refusals(f), 0) and not next(pair_refusals(f), 0):
+        closed = len(closed_set(f, asked_pairs(f), triangle(n)))
+    f["limit"] = chance.pick(("default", closed, closed, max(closed - 1, 0), closed + 1, triangle(n), 2**64 - 1))
+    if chance.one_of(2):
+        f.update(some_whole_lists(chance, f))
+    if chance.one_of(2):
+        f["prows"], f["pcols"] = ([chance.below(n + 2) for _ in range(chance.pick((1, 3, 6)))] for _ in range(2))
+        f["pcols"] = (f["pcols"] + [0] * 6)[: len(f["prows"])]
+    return f
+
+
+def some_wholes(seed=1):
+    chance = Chance(int(seed))
+    for k in range(WHOLE_CASES):
+        yield "wentries-%d" % k, "wentries", some_whole_case(chance)
+
+
+def some_whole_lookup(chance):
+    """A result, mostly well formed, and pairs in it and beside it."""
+    n = chance.pick((0, 1, 2, 3, 4, 6))
+    columns = [sorted({chance.below(n + 1) for _ in range(chance.below(5))}) for _ in range(n)]
+    f = {"starts": [0, *itertools.accumulate(map(len, columns))], "rows": [r for column in columns for r in column]}
+    f["wvalues"] = [chance.pick((0, some_whole(chance, 3), some_whole(chance, 3))) for _ in f["rows"]]
+    which = chance.below(12)
+    if which == 0:
+        f["starts"] = chance.pick(([], f["starts"][::-1], f["starts"][:-1], f["starts"] + [2**32 - 1], f["starts"] + [0]))
+    elif which == 1:
+        f["rows"] = chance.pick((f["rows"][::-1], f["rows"][:-1], f["rows"] + [0]))
+    elif which == 2:
+        f["wvalues"] = chance.pick((f["wvalues"][:-1], f["wvalues"] + [0]))
+    elif which == 3 and len(f["rows"]) > 1:
+        at = 1 + chance.below(len(f["rows"]) - 1)
+        f["rows"][at] = f["rows"][at - 1]
+    count = chance.pick((0, 1, 3, 6, 9))
+    index = lambda: 2**32 - 1 if chance.one_of(9) else chance.below(n + 1)
+    f["prows"], f["pcols"] = ([index() for _ in range(count)] for _ in range(2))
+    return f
+
+
+def some_whole_lookups(seed=1):
+    chance = Chance(int(seed))
+    for k in range(WHOLE_LOOKUPS):
+        yield "wget-%d" % k, some_whole_lookup(chance)
+
+
 # the sets that are made here, of the kind of the same name, of which the Rust is not asked
-MADE = {"mmread": some_files, "search": some_searches, "chain": some_chains}
+MADE = {"mmread": some_files, "search": some_searches, "chain": some_chains, "wget": some_whole_lookups}
 
 
 def some_marked(programs, *seed):
@@ -1315,6 +1623,8 @@ def generated(programs, name, *seed):
         return [finished(i, name, f, None) for i, f in MADE[name](*seed) if fits(name, f)]
     if name == "covar":
         return answered(programs, [c for c in some_covar(programs, *seed) if fits(*c[1:])])
+    if name == "wentries":
+        return answered(programs, [c for c in some_wholes(*seed) if fits(*c[1:])])
     if name == "permmarked":
         cases = [c for c in some_marked(programs, *seed) if fits(*c[1:])]
         return [finished(*c, answer) for c, answer in zip(cases, answers(programs, cases))]
@@ -1342,13 +1652,18 @@ def given(programs):
         elif kind == "chain":
             number = [refusal(kind, f)]
             number += [] if number[0] else [index for pair in chain_of(f) for index in pair]
+        elif kind == "wentries":
+            number = [refusal(kind, f)]
+            if not number[0]:
+                got = whole_answer(f)
+                number = [0, *map(int, got["wvalues"][1:])] if got["status"] == ["Complete"] else ["past"]
         else:
-            number = [0 if is_value(x) else x for x in lookups(f)] if kind == "get" else [refusal(kind, f)]
+            number = [number for number, _ in lookups(f)] if kind in ("get", "wget") else [refusal(kind, f)]
         assert number == expect, "%s: expects %s, document 01 gives %s" % (name, expect, number)
         lent = [x in f for x in LENT[kind]]
         assert all(lent) or not any(lent) or kind == "diag", name
         cases.append((name, kind, f))
-        if kind not in MADE and (kind == "get" or number[0] in (0, 8)):
+        if kind not in MADE and (kind == "get" or number[0] in (0, 8, "past")):
             questioned.append((name, kind, f))
     said = {c[0]: answer for c, answer in zip(questioned, answers(programs, questioned))}
     return [finished(*c, said.get(c[0])) for c in cases]

@@ -6,6 +6,8 @@ use super::put_number;
 use super::put_value;
 use super::put_value_line;
 use super::put_values;
+use super::put_whole;
+use super::put_wholes;
 use super::put_words;
 use dependency_chain::ChainPairs;
 use diagnostics::Selected;
@@ -13,6 +15,7 @@ use diagnostics::SelectedInverseDiagnostics;
 use diagnostics::SelectedInverseStatus;
 use floor::Stabilized;
 use lookup::ordered::Entry;
+use lookup::whole::WholeEntry;
 use pattern_lists::listed::PatternPairs;
 use refusal::Checked;
 use refusal::Refusal;
@@ -53,6 +56,17 @@ pub fn put_entry(entry: Entry) {
             put_value(z);
         }
         Entry::Refused(why) => put_no_value(refusal_number(why) as usize),
+    }
+}
+
+// What a lookup among whole numbers finds.
+pub fn put_whole_entry(entry: WholeEntry) {
+    match entry {
+        WholeEntry::Value(z) => {
+            put(b" ");
+            put_whole(z);
+        }
+        WholeEntry::Refused(why) => put_no_value(refusal_number(why) as usize),
     }
 }
 
@@ -180,6 +194,21 @@ pub fn put_result(starts: &[u32], rows: &[u32], values: &[f64], scratch: &[u32])
     put_words(b"rows ", rows);
     put_values(b"values ", values);
     put_scratch(scratch);
+}
+
+// The same with values that are whole numbers, and the work list.
+pub fn put_whole_result(
+    starts: &[u32],
+    rows: &[u32],
+    values: &[i64],
+    scratch: &[u32],
+    work: &[i64],
+) {
+    put_words(b"starts ", starts);
+    put_words(b"rows ", rows);
+    put_wholes(b"wvalues ", values);
+    put_scratch(scratch);
+    put_wholes(b"work ", work);
 }
 
 fn put_variance(floor: f64, hits: usize) {

@@ -1,8 +1,10 @@
-// Writing an answer: lines of a label and numbers, words or values.
+// Writing an answer: lines of a label and numbers, words, values or whole numbers.
 pub mod answers;
 
 ghost use Prim.Native.Nat.{_≤_, _<_, _-_};
 ghost use lib.ListN.{length};
+use whole_steps::size;
+use whole_steps::whole_at;
 
 pub fn put(text: &[u8]) {
     io::write_all(1, text);
@@ -39,6 +41,18 @@ pub fn put_value_line(label: &[u8], x: f64) {
     put_line_end();
 }
 
+fn put_sign(x: i64) {
+    if x < 0 {
+        put(b"-");
+    }
+}
+
+// A whole number.
+pub fn put_whole(x: i64) {
+    put_sign(x);
+    put_count(size(x));
+}
+
 // How often the item before it stood, where more than once.
 fn put_times(k: usize) {
     if k > 1 {
@@ -60,6 +74,12 @@ fn put_byte(x: u8, k: usize) {
 fn put_spaced_value(x: f64, k: usize) {
     put(b" ");
     put_value(x);
+    put_times(k);
+}
+
+fn put_spaced_whole(x: i64, k: usize) {
+    put(b" ");
+    put_whole(x);
     put_times(k);
 }
 
@@ -112,6 +132,21 @@ fn alike_values(list: &[f64], i: usize) -> usize
     k
 }
 
+// The same of a whole number.
+fn alike_wholes(list: &[i64], i: usize) -> usize
+    requires { ⌜ i < length (now list) ⌝ }
+    ensures { λ r. ⌜ (0 < r) × (r ≤ length (now (list .entry)) - i) ⌝ }
+{
+    let mut k = 1;
+    while k < list.len() - i {
+        if whole_at(list, i + k) != whole_at(list, i) {
+            return k;
+        }
+        k += 1;
+    }
+    k
+}
+
 // A line of a label, a list's length and its words; a word that stands k times in a row is written once, as word*k.
 pub fn put_words(label: &[u8], list: &[u32]) {
     put(label);
@@ -146,6 +181,19 @@ pub fn put_values(label: &[u8], list: &[f64]) {
     while i < list.len() {
         let k = alike_values(list, i);
         put_spaced_value(list[i], k);
+        i += k;
+    }
+    put_line_end();
+}
+
+// The same with whole numbers.
+pub fn put_wholes(label: &[u8], list: &[i64]) {
+    put(label);
+    put_count(list.len());
+    let mut i = 0;
+    while i < list.len() {
+        let k = alike_wholes(list, i);
+        put_spaced_whole(whole_at(list, i), k);
         i += k;
     }
     put_line_end();

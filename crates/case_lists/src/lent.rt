@@ -1,6 +1,7 @@
 // The lists that a case lends for writing: what stands in it is put to the front of the caller's list, and the reply is that front; where the case gives none, the whole list as it is.
 use case_text::items::read_bytes;
 use case_text::items::read_values;
+use case_text::items::read_wholes;
 use case_text::items::read_words;
 use case_text::skip_to;
 
@@ -19,6 +20,13 @@ fn front_bytes(list: &mut [u8], count: usize) -> &mut [u8] {
 }
 
 fn front_values(list: &mut [f64], count: usize) -> &mut [f64] {
+    if count < list.len() {
+        return &mut list[0..count];
+    }
+    list
+}
+
+fn front_wholes(list: &mut [i64], count: usize) -> &mut [i64] {
     if count < list.len() {
         return &mut list[0..count];
     }
@@ -55,6 +63,16 @@ pub fn lent_values<'a>(text: &[u8], label: &[u8], list: &'a mut [f64]) -> &'a mu
     list
 }
 
+// The whole numbers after the label.
+pub fn lent_wholes<'a>(text: &[u8], label: &[u8], list: &'a mut [i64]) -> &'a mut [i64] {
+    let p = skip_to(text, 0, label);
+    if p < text.len() {
+        let count = read_wholes(text, p, list);
+        return front_wholes(list, count);
+    }
+    list
+}
+
 // The lists of a result.
 pub fn lent_starts<'a>(text: &[u8], list: &'a mut [u32]) -> &'a mut [u32] {
     lent_words(text, b"\nlstarts ", list)
@@ -68,8 +86,16 @@ pub fn lent_result_values<'a>(text: &[u8], list: &'a mut [f64]) -> &'a mut [f64]
     lent_values(text, b"\nlvalues ", list)
 }
 
+pub fn lent_whole_values<'a>(text: &[u8], list: &'a mut [i64]) -> &'a mut [i64] {
+    lent_wholes(text, b"\nlwvalues ", list)
+}
+
 pub fn lent_scratch<'a>(text: &[u8], list: &'a mut [u32]) -> &'a mut [u32] {
     lent_words(text, b"\nlscratch ", list)
+}
+
+pub fn lent_work<'a>(text: &[u8], list: &'a mut [i64]) -> &'a mut [i64] {
+    lent_wholes(text, b"\nlwork ", list)
 }
 
 pub fn lent_output<'a>(text: &[u8], list: &'a mut [f64]) -> &'a mut [f64] {

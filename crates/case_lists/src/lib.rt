@@ -1,10 +1,12 @@
 // The lists of a case under their names. Those that the case gives are put into a list of the caller's, and the reply is its front; items past its room are dropped.
 // Fields of one meaning have names that differ in the first letter, `of`: r of the requests, p of the pairs looked up, o of the operator, a and b of two operators.
 pub mod lent;
+pub mod limits;
 
 use case_text::fields::byte_field;
 use case_text::fields::number_field;
 use case_text::fields::value_field;
+use case_text::fields::whole_field;
 use case_text::fields::word_field;
 
 // The places of each list that a case is read into.
@@ -25,6 +27,13 @@ fn front_bytes(list: &[u8], count: usize) -> &[u8] {
 }
 
 fn front_values(list: &[f64], count: usize) -> &[f64] {
+    if count < list.len() {
+        return &list[0..count];
+    }
+    list
+}
+
+fn front_wholes(list: &[i64], count: usize) -> &[i64] {
     if count < list.len() {
         return &list[0..count];
     }
@@ -52,7 +61,14 @@ pub fn values_of<'a>(text: &[u8], label: &[u8], list: &'a mut [f64]) -> &'a [f64
     front_values(all, count)
 }
 
-// A factor: its dimension and its lists; a result has the same lists.
+// The whole numbers after the label.
+pub fn wholes_of<'a>(text: &[u8], label: &[u8], list: &'a mut [i64]) -> &'a [i64] {
+    let count = whole_field(text, label, list);
+    let all = &list[..];
+    front_wholes(all, count)
+}
+
+// A factor: its dimension and its lists; a result has the same lists. Its values may be whole numbers.
 pub fn dimension(text: &[u8]) -> usize {
     number_field(text, b"\nn ")
 }
@@ -67,6 +83,10 @@ pub fn rows<'a>(text: &[u8], list: &'a mut [u32]) -> &'a [u32] {
 
 pub fn values<'a>(text: &[u8], list: &'a mut [f64]) -> &'a [f64] {
     values_of(text, b"\nvalues ", list)
+}
+
+pub fn whole_values<'a>(text: &[u8], list: &'a mut [i64]) -> &'a [i64] {
+    wholes_of(text, b"\nwvalues ", list)
 }
 
 // Requests, pairs looked up, or the rows of row pairs.

@@ -1,9 +1,10 @@
--- What stands in a text of cases from a place on: blanks, words, numbers, a label.
+-- What stands in a text of cases from a place on: blanks, words, numbers, a label, whole numbers.
 -- Assumes nothing.
-use Prim.Native.Nat.{ℕ, zero, suc, _+_, _-_, _*_}
+use Prim.Native.Nat.{ℕ, zero, suc, _+_, _-_, _*_, min}
 use mathlib.Core.Bool.{Bool, cond, not, _&&_}
-use mathlib.Core.List.{List}
+use mathlib.Core.List.{List, [], _∷_}
 use lib.Dec.{ltb, leb, eqb}
+use lib.IntN.{ℤ, pos, negℤ}
 use lib.ListN.{length, getD}
 use Rattle.lists.specs.Test.{any}
 
@@ -53,6 +54,21 @@ differs text p label i = not (eqb (getD text (p + i) 0) (getD label i 0))
 -- the bytes of the label stand from p on
 unfoldable pub begins : List ℕ → ℕ → List ℕ → Bool
 begins text p label = leb (p + length label) (length text) && not (any (differs text p label) (length label))
+
+-- the whole numbers x and -x, where they are signed 64-bit numbers; else the nearest one
+abbrev pub notBelow : ℕ → ℤ
+notBelow x = pos (min x 9223372036854775807)
+
+abbrev pub negated : ℕ → ℤ
+negated x = negℤ (pos (min x 9223372036854775808))
+
+-- the byte - stands at p
+abbrev pub minusAt : List ℕ → ℕ → Bool
+minusAt text p = begins text p (45 ∷ [])
+
+-- the whole number at p: digits, with the byte - before them where it is below 0
+abbrev pub wholeNumberAt : List ℕ → ℕ → ℤ
+wholeNumberAt text p = cond (minusAt text p) (negated (numberAt 10 text (p + 1))) (notBelow (numberAt 10 text p))
 
 -- the place after the label where it stands first from p on, of k places at most
 unfoldable pub firstFrom : List ℕ → List ℕ → ℕ → ℕ → ℕ

@@ -1,10 +1,11 @@
 // The fields of a case, each found by its label, which starts with the line end before it. A field that the case lacks is read as 0, or as an empty list.
 ghost use mathlib.Core.Path.{_≡_};
-ghost use Rattle.case_text.specs.Items.{wordAt, byteAt, floatAt, Listing};
+ghost use Rattle.case_text.specs.Items.{wordAt, byteAt, floatAt, wholeAt, Listing};
 ghost use Rattle.case_text.specs.Fields.{fieldAt, numberField};
 use super::decimal;
 use super::items::read_bytes;
 use super::items::read_values;
+use super::items::read_wholes;
 use super::items::read_words;
 use super::skip_blanks;
 use super::skip_to;
@@ -35,4 +36,11 @@ pub fn value_field(text: &[u8], label: &[u8], list: &mut [f64]) -> usize
     ensures { λ r. ⌜ Listing floatAt (now (text .entry)) (fieldAt (now (text .entry)) (now (label .entry))) (now (list .entry)) r (now (list .exit)) ⌝ }
 {
     read_values(text, skip_to(text, 0, label), list)
+}
+
+// The same with whole numbers.
+pub fn whole_field(text: &[u8], label: &[u8], list: &mut [i64]) -> usize
+    ensures { λ r. ⌜ Listing wholeAt (now (text .entry)) (fieldAt (now (text .entry)) (now (label .entry))) (now (list .entry)) r (now (list .exit)) ⌝ }
+{
+    read_wholes(text, skip_to(text, 0, label), list)
 }

@@ -3,12 +3,13 @@ ghost use mathlib.Core.Path.{_≡_};
 ghost use Prim.Native.Nat.{_≤_, min};
 ghost use lib.ListN.{length};
 ghost use Rattle.lists.specs.Overwrite.{filled};
-ghost use Rattle.case_text.specs.Items.{wordAt, byteAt, floatAt, Listing};
+ghost use Rattle.case_text.specs.Items.{wordAt, byteAt, floatAt, wholeAt, Listing};
 use super::decimal;
 use super::float_value;
 use super::number_of;
 use super::skip_blanks;
 use super::skip_word;
+use super::whole_number;
 use words::order::smaller;
 
 fn narrow(x: u64) -> u32
@@ -74,6 +75,22 @@ fn put_values(text: &[u8], p: usize, count: usize, list: &mut [f64])
     }
 }
 
+// The same with whole numbers.
+fn put_wholes(text: &[u8], p: usize, count: usize, list: &mut [i64])
+    requires { ⌜ count ≤ length (now list) ⌝ }
+    ensures { λ _. ⌜ now (list .exit) ≡ filled (wholeAt (now (text .entry)) p) count (now (list .entry)) ⌝ }
+{
+    let mut q = p;
+    let mut i = 0;
+    while i < count {
+        q = skip_blanks(text, q);
+        let z = whole_number(text, q);
+        list[i] = z;
+        q = skip_word(text, q);
+        i += 1;
+    }
+}
+
 // Reads a counted list of words.
 pub fn read_words(text: &[u8], p: usize, list: &mut [u32]) -> usize
     ensures { λ r. ⌜ Listing wordAt (now (text .entry)) p (now (list .entry)) r (now (list .exit)) ⌝ }
@@ -104,5 +121,16 @@ pub fn read_values(text: &[u8], p: usize, list: &mut [f64]) -> usize
     let items = decimal(text, at) as usize;
     let count = smaller(items, list.len());
     put_values(text, skip_word(text, at), count, list);
+    count
+}
+
+// Reads a counted list of whole numbers.
+pub fn read_wholes(text: &[u8], p: usize, list: &mut [i64]) -> usize
+    ensures { λ r. ⌜ Listing wholeAt (now (text .entry)) p (now (list .entry)) r (now (list .exit)) ⌝ }
+{
+    let at = skip_blanks(text, p);
+    let items = decimal(text, at) as usize;
+    let count = smaller(items, list.len());
+    put_wholes(text, skip_word(text, at), count, list);
     count
 }

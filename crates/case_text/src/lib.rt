@@ -6,7 +6,8 @@ ghost use mathlib.Core.Path.{_≡_};
 ghost use mathlib.Core.Bool.{cond};
 ghost use Prim.Native.Nat.{_+_, _*_, _≤_, _<_};
 ghost use lib.Ieee.{binary64, ofBits};
-ghost use Rattle.case_text.specs.Text.{pastBlanks, pastWord, digitOf, digitMore, numberAt, pastFirst, begins as Text·begins};
+ghost use Rattle.case_text.specs.Text.{pastBlanks, pastWord, digitOf, digitMore, numberAt, pastFirst, wholeNumberAt, notBelow, negated as Text·negated, begins as Text·begins};
+use whole_steps::minus;
 
 fn wide(b: u8) -> u64
     ensures { λ r. ⌜ r ≡ b ⌝ }
@@ -167,4 +168,34 @@ pub fn skip_to(text: &[u8], p: usize, label: &[u8]) -> usize
         i += 1;
     }
     i
+}
+
+// x; the largest signed number where x is above it.
+fn not_below(x: u64) -> i64
+    ensures { λ r. ⌜ r ≡ notBelow x ⌝ }
+{
+    if x < 9223372036854775807 {
+        return x as i64;
+    }
+    9223372036854775807
+}
+
+// -x; the least signed number, which has no negative, where x is its size or above.
+fn negated(x: u64) -> i64
+    ensures { λ r. ⌜ r ≡ Text·negated x ⌝ }
+{
+    if x < 9223372036854775808 {
+        return minus(0, not_below(x));
+    }
+    -9223372036854775808
+}
+
+// The whole number at p.
+pub fn whole_number(text: &[u8], p: usize) -> i64
+    ensures { λ r. ⌜ r ≡ wholeNumberAt (now (text .entry)) p ⌝ }
+{
+    if begins(text, p, b"-") {
+        return negated(decimal(text, p + 1));
+    }
+    not_below(decimal(text, p))
 }

@@ -14,10 +14,14 @@ use replay_entries::of_entries;
 use replay_lookups::of_lookups;
 use replay_patterns::of_patterns;
 use replay_variances::of_variances;
+use replay_whole::of_whole;
 
 // The call of the kind that is named at `name`, and its answer.
 fn call(text: &[u8], name: usize) {
     if of_entries(text, name) {
+        return;
+    }
+    if of_whole(text, name) {
         return;
     }
     if of_variances(text, name) {

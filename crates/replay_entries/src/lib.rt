@@ -8,31 +8,17 @@ use case_lists::lent::lent_result_values;
 use case_lists::lent::lent_rows;
 use case_lists::lent::lent_scratch;
 use case_lists::lent::lent_starts;
+use case_lists::limits::Limit;
+use case_lists::limits::limit_of;
 use case_lists::request_dimension;
 use case_lists::rows;
 use case_lists::rows_of;
 use case_lists::starts;
 use case_lists::values;
 use case_text::begins;
-use case_text::decimal;
-use case_text::skip_to;
 use replay_lookups::pairs::gets;
 use selected::selected_inverse_entries;
 use selected::selected_inverse_entries_with_limit;
-
-enum Limit {
-    Default,
-    Given(usize),
-}
-
-// The limit of the case.
-fn limit_of(text: &[u8]) -> Limit {
-    let p = skip_to(text, 0, b"\nlimit ");
-    if begins(text, p, b"default") {
-        return Limit::Default;
-    }
-    Limit::Given(decimal(text, p) as usize)
-}
 
 // The call with the default limit, and its reply; true where the result lists are filled.
 fn by_default(
