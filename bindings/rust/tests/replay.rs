@@ -56,6 +56,10 @@ impl<'a> Case<'a> {
         self.items(name).iter().map(|word| value(word)).collect()
     }
 
+    fn wholes(&self, name: &str) -> Vec<i64> {
+        self.items(name).iter().map(|word| word.parse().unwrap()).collect()
+    }
+
     /// A list lent for writing, or one of 7777s.
     fn lent_words(&self, name: &str, length: usize) -> Vec<u32> {
         if self.has(name) {
@@ -70,6 +74,14 @@ impl<'a> Case<'a> {
             self.values(name)
         } else {
             vec![7777.0; length]
+        }
+    }
+
+    fn lent_wholes(&self, name: &str, length: usize) -> Vec<i64> {
+        if self.has(name) {
+            self.wholes(name)
+        } else {
+            vec![7777; length]
         }
     }
 
@@ -129,6 +141,10 @@ fn put_values(answer: &mut String, name: &str, list: &[f64]) {
     put_items(answer, name, list, |a, b| a == b && *a != 0.0, |value| shown(*value));
 }
 
+fn put_wholes(answer: &mut String, name: &str, list: &[i64]) {
+    put_items(answer, name, list, i64::eq, i64::to_string);
+}
+
 fn put_reply(answer: &mut String, refusal: u32) -> bool {
     let _ = match refusal {
         0 => writeln!(answer, "reply ok"),
@@ -169,32 +185,130 @@ fn put_selected(answer: &mut String, reply: &sys::redstartgilt_selected) {
     }
 }
 
-fn put_gets(answer: &mut String, starts: &[u32], rows: &[u32], values: &[f64], case: &Case<'_>) {
-    let items = case
-        .words("prows")
-        .into_iter()
-        .zip(case.words("pcols"))
-        .map(|(row, column)| {
-            let reply = unsafe {
-                sys::redstartgilt_get(
-                    starts.as_ptr(),
-                    starts.len(),
-                    rows.as_ptr(),
-                    rows.len(),
-                    values.as_ptr(),
-                    values.len(),
-                    row as usize,
-                    column as usize,
-                )
-            };
-            match reply.refusal {
-                0 => shown(reply.value),
-                8 => "none".to_string(),
-                number => format!("refused-{number}"),
-            }
+/// A lookup for each pair of the case; `get` gives the refusal and the value as it is written.
+fn put_gets(answer: &mut String, case: &Case<'_>, get: impl Fn(usize, usize) -> (u32, String)) {
+    let pairs = case.words("prows").into_iter().zip(case.words("pcols"));
+    let items = pairs
+        .map(|(row, column)| match get(row as usize, column as usize) {
+            (0, value) => value,
+            (8, _) => "none".to_string(),
+            (number, _) => format!("refused-{number}"),
         })
         .collect::<Vec<_>>();
     put_items(answer, "gets", &items, |_, _| false, String::clone);
+}
+
+fn put_value_gets(answer: &mut String, starts: &[u32], rows: &[u32], values: &[f64], case: &Case<'_>) {
+    put_gets(answer, case, |row, column| {
+        let reply = unsafe {
+            sys::redstartgilt_get(
+                starts.as_ptr(),
+                starts.len(),
+                rows.as_ptr(),
+                rows.len(),
+                values.as_ptr(),
+                values.len(),
+                row,
+                column,
+            )
+        };
+        (reply.refusal, shown(reply.value))
+    });
+}
+
+fn put_whole_gets(answer: &mut String, starts: &[u32], rows: &[u32], values: &[i64], case: &Case<'_>) {
+    put_gets(answer, case, |row, column| {
+        let reply = unsafe {
+            sys::redstartgilt_get_whole(
+                starts.as_ptr(),
+                starts.len(),
+                rows.as_ptr(),
+                rows.len(),
+                values.as_ptr(),
+                values.len(),
+                row,
+                column,
+            )
+        };
+        (reply.refusal, reply.value.to_string())
+    });
+}
+
+/// Selected entries in whole numbers.
+fn wholes(answer: &mut String, case: &Case<'_>) {
+    let n = case.number("n");
+    let (starts, rows, values) = (case.words("starts"), case.words("rows"), case.wholes("wvalues"));
+    let (request_rows, request_columns) = (case.words("rrows"), case.words("rcols"));
+    let dimension = case.number("rdim");
+    let mut result_starts = case.lent_words("lstarts", 4_608);
+    let mut result_rows = case.lent_words("lrows", 33_024);
+    let mut result_values = case.lent_wholes("lwvalues", 33_024);
+    let mut scratch = case.lent_words("lscratch", 67_072);
+    let mut work = case.lent_wholes("lwork", 33_024);
+    let reply = match case.word("limit") {
+        "default" => unsafe {
+            sys::redstartgilt_selected_inverse_entries_whole(
+                n,
+                starts.as_ptr(),
+                starts.len(),
+                rows.as_ptr(),
+                rows.len(),
+                values.as_ptr(),
+                values.len(),
+                dimension,
+                request_rows.as_ptr(),
+                request_rows.len(),
+                request_columns.as_ptr(),
+                request_columns.len(),
+                result_starts.as_mut_ptr(),
+                result_starts.len(),
+                result_rows.as_mut_ptr(),
+                result_rows.len(),
+                result_values.as_mut_ptr(),
+                result_values.len(),
+                scratch.as_mut_ptr(),
+                scratch.len(),
+                work.as_mut_ptr(),
+                work.len(),
+            )
+        },
+        limit => unsafe {
+            sys::redstartgilt_selected_inverse_entries_whole_with_limit(
+                n,
+                starts.as_ptr(),
+                starts.len(),
+                rows.as_ptr(),
+                rows.len(),
+                values.as_ptr(),
+                values.len(),
+                dimension,
+                request_rows.as_ptr(),
+                request_rows.len(),
+                request_columns.as_ptr(),
+                request_columns.len(),
+                limit.parse().unwrap(),
+                result_starts.as_mut_ptr(),
+                result_starts.len(),
+                result_rows.as_mut_ptr(),
+                result_rows.len(),
+                result_values.as_mut_ptr(),
+                result_values.len(),
+                scratch.as_mut_ptr(),
+                scratch.len(),
+                work.as_mut_ptr(),
+                work.len(),
+            )
+        },
+    };
+    put_selected(answer, &reply);
+    put_words(answer, "starts", &result_starts);
+    put_words(answer, "rows", &result_rows);
+    put_wholes(answer, "wvalues", &result_values);
+    put_words(answer, "scratch", &scratch);
+    put_wholes(answer, "work", &work);
+    if (reply.refusal, reply.status) == (0, sys::REDSTARTGILT_COMPLETE) && case.has("prows") {
+        put_whole_gets(answer, &result_starts[..n + 1], &result_rows, &result_values, case);
+    }
 }
 
 /// Entries, the diagonal in original order, operator variances and covariances: all take a factor and fill result lists.
@@ -374,7 +488,7 @@ fn selected(answer: &mut String, case: &Case<'_>) {
     if case.kind != "entries" {
         put_values(answer, "out", &output);
     } else if (reply.refusal, reply.status) == (0, sys::REDSTARTGILT_COMPLETE) && case.has("prows") {
-        put_gets(answer, &result_starts[..n + 1], &result_rows, &result_values, case);
+        put_value_gets(answer, &result_starts[..n + 1], &result_rows, &result_values, case);
     }
 }
 
@@ -649,7 +763,13 @@ fn answer(case: &Case<'_>) -> String {
         "get" => {
             answer.push_str("reply ok\n");
             let (starts, rows, values) = (case.words("starts"), case.words("rows"), case.values("values"));
-            put_gets(&mut answer, &starts, &rows, &values, case);
+            put_value_gets(&mut answer, &starts, &rows, &values, case);
+        }
+        "wentries" => wholes(&mut answer, case),
+        "wget" => {
+            answer.push_str("reply ok\n");
+            let (starts, rows, values) = (case.words("starts"), case.words("rows"), case.wholes("wvalues"));
+            put_whole_gets(&mut answer, &starts, &rows, &values, case);
         }
         "search" => searches(&mut answer, case),
         "diag" => diagonals(&mut answer, case),
@@ -690,7 +810,7 @@ fn every_answer_is_that_of_the_proved_program() {
     let (stdin, stdout) = (text("stdin"), text("stdout"));
     let (cases, expected) = (cases(&stdin), cases(&stdout));
     assert_eq!(cases.len(), expected.len());
-    assert!(cases.len() >= 2_737);
+    assert!(cases.len() >= 3_169);
     for (lines, expected) in cases.iter().zip(expected) {
         let fields = lines[1..lines.len() - 1].iter().map(|line| {
             let mut words = line.split_whitespace();
