@@ -1,5 +1,6 @@
 pub mod SumLaws
 pub mod ColumnSumLaws
+pub mod RunLaws
 pub mod PairLaws
 pub mod FitLaws
 pub mod EntryLaws
