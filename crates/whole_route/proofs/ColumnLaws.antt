@@ -7,7 +7,7 @@ use mathlib.Core.Path.{_≡_, refl, sym, ap, ap₂, subst, _∙_}
 use mathlib.Core.Bool.{Bool, true, false, _&&_, true≢false}
 use mathlib.Core.List.{List}
 use lib.ListN.{length, getD}
-use lib.IntN.{ℤ, pos}
+use lib.IntN.{ℤ, pos, natAbs}
 use Rattle.lists.specs.Test.{anyIn, any-all, any-hit, anyIn-all, not-so}
 use Rattle.lists.specs.Select.{select, tally, tally-most}
 use Rattle.lists.specs.Overwrite.{splice-at}
@@ -16,9 +16,10 @@ use Rattle.columns.specs.Columns.{start}
 use Rattle.columns.specs.WholeFactor.{wholeDesc}
 use Rattle.exact.specs.Exceeds.{entryExceeds, setExceeds}
 use Rattle.entries.specs.Entries.{columnCount, position}
-use Rattle.entries.specs.Position.{select-tally, columnCount-next, columnCount-none, position-found, position-in, position-below, entryValues-overwrite}
+use Rattle.entries.specs.Position.{select-tally, columnCount-next, columnCount-none, columnCount-mono, position-found, position-in, position-below, entryValues-overwrite}
 use Rattle.entries.specs.WholeTable.{wholeTable}
 use Rattle.layout.specs.ColumnRows.{columnTest, ListColumnInput, ColumnListed}
+use Rattle.whole_route.specs.ColumnSums.{MostFrom, SizesWithin}
 use Rattle.whole_route.specs.Route.{WholesFrom, RowsInput, RowsDone, WholeColumnInput, WholeRouteInput, RouteDone}
 
 module _ {n j first : ℕ} {listed₀ starts rows : List ℕ} {values : List ℤ} {scratch : List ℕ} {work : List ℤ}
@@ -127,21 +128,34 @@ module _ {n : ℕ} {starts rows : List ℕ} {values : List ℤ} {firsts scratch 
       later = L .solved;
     }
 
+    -- the column's positions are the set's
+    in-set : columnCount n S′ (j + 1) ≤ setSize n S′
+    in-set = columnCount-mono n S′ (j + 1) n (omega arith)
+
     pub column-exceeds : {first : ℕ} {work′ : List ℤ} → RowsDone n j first starts rows values scratch work work′ true
         → RouteDone n starts rows values scratch work₀ work′ true
     unfolding setExceeds
     column-exceeds D = record {
       tells = sym (any-hit (columnExceeds n starts rows values scratch) n j h (sym (D .tells)));
       long = D .long ∙ L .long;
-      rest = λ p l. D .rest p l ∙ L .rest p l;
+      rest = λ p l. D .rest p (omega (arith, in-set)) ∙ L .rest p l;
       entries = λ e. absurd (true≢false e);
     }
+
+    -- the greatest size, with the column's
+    pub most-more : {first next most most′ : ℕ} {work′ : List ℤ} → next ≡ columnCount n S′ (j + 1) → MostFrom next most (setSize n S′) work
+        → RowsDone n j first starts rows values scratch work work′ false → SizesWithin first next most most′ work′ → MostFrom first most′ (setSize n S′) work′
+    most-more {first} {next} {most} {most′} {work′} e M D W p lo hi = elim (decLt p next) [
+      | yes l ↦ W .sizes p lo l
+      | no l ↦
+          subst (λ (y : ℤ). natAbs y ≤ most′) (sym (D .rest p (omega (arith, e)))) (omega (arith, M p (omega arith) hi, W .least))
+    ]
 
     pub column-solved : {first : ℕ} {work′ : List ℤ} → first ≡ getD firsts j 0 → RowsDone n j first starts rows values scratch work work′ false
         → ColumnsLeft n j starts rows values scratch work₀ work′
     column-solved e D = record {
       long = D .long ∙ L .long;
-      rest = λ p l. D .rest p l ∙ L .rest p l;
+      rest = λ p l. D .rest p (omega (arith, in-set)) ∙ L .rest p l;
       solved = λ r c o l t k. D .solved refl r c o l t (omega (arith, e, I .starts-are j h));
       none = λ c o l. elim (decLt j c) [
         | yes m ↦ L .none c (omega arith) l

@@ -32,6 +32,7 @@ use Rattle.entries.specs.Entries.{position}
 use Rattle.entries.specs.Position.{columnCount-mono, position-in, position-below, position-rises}
 use Rattle.entries.specs.WholeTable.{wholeTable, wholeDesc-ascend}
 use Rattle.whole_route.specs.Sums.{wholeAt, wholeSum, WholeSumInput}
+use Rattle.whole_route.proofs.PairLaws.{Kept, row-below, column, row-inside, pair-member, read-place}
 use Rattle.whole_route.specs.Route.{lastStep, EntryInput}
 
 -- ---- one entry
@@ -52,30 +53,14 @@ module _ {n i j q s e : ℕ} {starts rows : List ℕ} {values : List ℤ} {scrat
   jn : j < n
   jn = omega (arith, E .ordered, E .inside)
 
-  column : Column rows (length values) (start starts j) (start starts (j + 1))
-  column = factor-column F j jn
+  -- its place is there
+  pub entry-place : q < length work
+  entry-place = omega (arith, position-below n S i j n (E .ordered) (E .inside) jn (E .member), E .position-is, E .fits)
 
-  -- a stored entry kept below the diagonal
-  abbrev Kept : ℕ → Type 0
-  Kept p = (start starts j ≤ p) × (p < start starts (j + 1)) × (keptBelow rows nz j p ≡ true)
+  dependency : (p : ℕ) → Kept (E .whole) j p → S (max i (row rows p)) (min i (row rows p)) ≡ true
+  dependency = pair-member (E .whole) i j (E .ordered) (E .inside) (E .member)
 
-  row-below : (p : ℕ) → Kept p → j < row rows p
-  row-below p k = ltb-true j (row rows p) (and-left (ltb j (row rows p)) (nz p) (k .2))
-
-  row-inside : (p : ℕ) → start starts j ≤ p → p < start starts (j + 1) → row rows p < n
-  row-inside p lo hi = F .rows-ascend .inside p (omega (arith, column .stored))
-
-  -- the pair with a descendant is a member
-  dependency : (p : ℕ) → Kept p → S (max i (row rows p)) (min i (row rows p)) ≡ true
-  dependency p k =
-      let g = select-holds (keptBelow rows nz j) (start starts j) (start starts (j + 1)) p (k .0) (k .1) (k .2) in
-      let b : g .0 < length (pattern starts rows nz j) = rw length-map (g .1) in
-      let d : descends (pattern starts rows nz) j (row rows p) ≡ true =
-      subst (λ (x : ℕ). descends (pattern starts rows nz) j x ≡ true) (pattern-at nz (F .starts-rise) j jn (g .0) b ∙ ap (row rows) (g .2))
-      (descends-at (pattern starts rows nz) j (g .0) b) in
-      E .whole .closed i j (row rows p) (E .ordered) (E .inside) d (E .member)
-
-  -- and stands behind (i, j): in a later column or, of the diagonal's own, at a greater row
+  -- the pair with a descendant stands behind (i, j): in a later column or, of the diagonal's own, at a greater row
   behind : (k : ℕ) → j < k → k < n → S (max i k) (min i k) ≡ true → q + 1 ≤ position n S (max i k) (min i k)
   behind k jk kn t = elim (ℕ-discrete i j) [
     | yes same ↦
@@ -100,13 +85,13 @@ module _ {n i j q s e : ℕ} {starts rows : List ℕ} {values : List ℤ} {scrat
           least i j k h d l = omega arith
 
   -- so its entry is read
-  read : (p : ℕ) → Kept p → (wholeAt n scratch work i (row rows p) ≡ at Z i (row rows p)) × Small (at Z i (row rows p))
+  read : (p : ℕ) → Kept (E .whole) j p → (wholeAt n scratch work i (row rows p) ≡ at Z i (row rows p)) × Small (at Z i (row rows p))
   unfolding wholeTable
   read p k =
-      let kn = row-inside p (k .0) (k .1) in
+      let kn = row-inside (E .whole) j jn p (k .0) (k .1) in
       let t = dependency p k in
       let w = E .whole .positions (max i (row rows p)) (min i (row rows p)) (omega arith) (omega (arith, E .inside)) t in
-      let d = E .later (max i (row rows p)) (min i (row rows p)) (omega arith) (omega (arith, E .inside)) t (behind (row rows p) (row-below p k) kn t) in
+      let d = E .later (max i (row rows p)) (min i (row rows p)) (omega arith) (omega (arith, E .inside)) t (behind (row rows p) (row-below (E .whole) j p k) kn t) in
       (ap (λ (x : ℕ). getD work x (pos 0)) w ∙ d .0, d .1)
 
   -- what the sum asks
@@ -114,15 +99,10 @@ module _ {n i j q s e : ℕ} {starts rows : List ℕ} {values : List ℤ} {scrat
   entry-sum-input = record {
     small = E .whole .small;
     left = E .inside;
-    column = column;
-    inside = row-inside;
+    column = column (E .whole) j jn;
+    inside = row-inside (E .whole) j jn;
     room = E .whole .room;
-    known = λ p lo hi k.
-        let kn = row-inside p lo hi in
-        let t = dependency p (lo, hi, k) in
-        let w = E .whole .positions (max i (row rows p)) (min i (row rows p)) (omega arith) (omega (arith, E .inside)) t in
-        let b = position-below n S (max i (row rows p)) (min i (row rows p)) n (omega arith) (omega (arith, E .inside)) (omega (arith, E .inside)) t in
-        omega (arith, w, E .fits);
+    known = λ p lo hi k. omega (arith, read-place (E .whole) i j (E .ordered) (E .inside) (E .member) p (lo, hi, k), E .fits);
     factor-small = λ p lo hi k. E .whole .kept-small j p jn lo hi (keptBelow-kept rows nz j p k);
     inverse-small = λ p lo hi k.
         let r = read p (lo, hi, k) in

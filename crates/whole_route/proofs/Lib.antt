@@ -1,4 +1,8 @@
 pub mod SumLaws
+pub mod ColumnSumLaws
+pub mod RunLaws
+pub mod PairLaws
+pub mod FitLaws
 pub mod EntryLaws
 pub mod RowsLaws
 pub mod ColumnLaws

@@ -20,6 +20,10 @@ use Rattle.exact.specs.Exceeds.{entryExceeds}
 use Rattle.entries.specs.Entries.{columnCount, position}
 use Rattle.entries.specs.Position.{columnCount-mono, position-in, position-below, position-rises}
 use Rattle.entries.specs.WholeTable.{wholeTable}
+use Rattle.refusal.specs.Steps.{answered}
+use Rattle.whole_route.specs.Sums.{wholeAt, wholeSum}
+use Rattle.whole_route.specs.ColumnSums.{columnSums, Summed, SumsStored}
+use Rattle.whole_route.proofs.FitLaws.{sum-same}
 use Rattle.whole_route.specs.Route.{WholesFrom, EntryInput, EntryDone, RowsInput, RowsDone}
 
 -- a position is one pair's
@@ -44,10 +48,11 @@ pub done-same : {n i i′ j q : ℕ} {starts rows : List ℕ} {values work₀ wo
 done-same {n} {i} {i′} {j} {q} {starts} {rows} {values} {work₀} {work} e f D =
     subst₂ (λ (x : ℕ) (y : Bool). EntryDone n x j q starts rows values work₀ work y) e f D
 
--- the members from position first + q on are solved, and of column j none of them exceeds 2 ^ 53; behind the set the list is as it was
+-- the members from position first + q on are solved, and of column j none of them exceeds 2 ^ 53; before them and behind the column the list is as it was
 pub record RowsLeft (n j first q : ℕ) (starts rows : List ℕ) (values : List ℤ) (scratch : List ℕ) (work₀ work : List ℤ) : Type 0 where
   pub long : length work ≡ length work₀
-  pub rest : (p : ℕ) → setSize n (columnMarking n scratch) ≤ p → getD work p (pos 0) ≡ getD work₀ p (pos 0)
+  pub before : (p : ℕ) → p < first + q → getD work p (pos 0) ≡ getD work₀ p (pos 0)
+  pub rest : (p : ℕ) → columnCount n (columnMarking n scratch) (j + 1) ≤ p → getD work p (pos 0) ≡ getD work₀ p (pos 0)
   pub solved : WholesFrom n (columnMarking n scratch) (wholeTable n starts rows values) (first + q) work
   pub none : (r : ℕ) → j ≤ r → r < n → columnMarking n scratch r j ≡ true → first + q ≤ position n (columnMarking n scratch) r j
       → entryExceeds (wholeDesc starts rows values) (wholeTable n starts rows values) r j ≡ false
@@ -72,6 +77,7 @@ module _ {n j first count s e : ℕ} {listed starts rows : List ℕ} {values : L
   pub rows-none : RowsLeft n j first count starts rows values scratch work₀ work₀
   rows-none = record {
     long = refl;
+    before = λ p l. refl;
     rest = λ p l. refl;
     solved = I .later;
     none = λ r h l t k. absurd (omega (arith, position-in n S r j h l t, I .count-is));
@@ -97,6 +103,13 @@ module _ {n j first count s e : ℕ} {listed starts rows : List ℕ} {values : L
           later = λ r c o l t k. L .solved r c o l t (omega arith);
         }
 
+    -- its sum, where the sums stand in the list
+    pub row-sum : {summed : Bool} → SumsStored (columnSums n j first count s e listed rows values scratch) summed work₀
+        → summed ≡ true → j < i → answered (getD work (first + q) (pos 0)) ≡ wholeSum rows values j (wholeAt n scratch work i) s e
+    row-sum stored t b =
+        ap (λ (y : ℤ). answered y) (L .before (first + q) (omega arith)) ∙ stored t q (h, b)
+        ∙ sum-same I work₀ work (λ p o. L .rest p (omega (arith, I .count-is))) q (h, b)
+
     place-fits : first + q < length work
     place-fits =
         let R = I .rows-are q h in
@@ -117,9 +130,10 @@ module _ {n j first count s e : ℕ} {listed starts rows : List ℕ} {values : L
     pub row-stored : {work′ : List ℤ} → EntryDone n i j (first + q) starts rows values work work′ false → RowsLeft n j first q starts rows values scratch work₀ work′
     row-stored {work′} D = record {
       long = ap length (D .leaves) ∙ length-set work (first + q) (Z i j) ∙ L .long;
+      before = λ p l. ap (λ (w : List ℤ). getD w p (pos 0)) (D .leaves) ∙ getD-set-other work (first + q) p (Z i j) (pos 0) (omega arith) ∙ L .before p (omega arith);
       rest = λ p l.
           let R = I .rows-are q h in
-          let d : p ≡ first + q → ⊥ = λ e. omega (arith, position-below n S i j n (R .0) (R .1) (I .inside) (R .2), R .3) in
+          let d : p ≡ first + q → ⊥ = λ e. omega (arith, position-in n S i j (R .0) (R .1) (R .2), R .3) in
           ap (λ (w : List ℤ). getD w p (pos 0)) (D .leaves) ∙ getD-set-other work (first + q) p (Z i j) (pos 0) d ∙ L .rest p l;
       solved = λ r c o l t k. elim (ℕ-discrete (position n S r c) (first + q)) [
         | yes m ↦
@@ -163,3 +177,31 @@ module _ {n j first count s e : ℕ} {listed starts rows : List ℕ} {values : L
       by-member : (r : ℕ) → j ≤ r → r < n → (b : Bool) → S r j ≡ b → (b && entryExceeds (wholeDesc starts rows values) Z r j) ≡ false
       by-member r h l false t = refl
       by-member r h l true t = L .none r h l t (omega (arith, I .first-is, from r h))
+
+-- ---- a list that was changed at the column's own places alone
+module _ {n j first count s e : ℕ} {listed starts rows : List ℕ} {values : List ℤ} {scratch : List ℕ} {work z : List ℤ} {summed : Bool}
+    (I : RowsInput n j first count s e listed starts rows values scratch work) (D : Summed (columnSums n j first count s e listed rows values scratch) summed work z) where
+  pub rows-kept : RowsInput n j first count s e listed starts rows values scratch z
+  rows-kept = record {
+    whole = I .whole;
+    inside = I .inside;
+    first-is = I .first-is;
+    count-is = I .count-is;
+    fits = omega (arith, I .fits, D .long);
+    long = I .long;
+    start-is = I .start-is;
+    end-is = I .end-is;
+    rows-are = I .rows-are;
+    later = λ r c o l t k. let w = I .later r c o l t k in (D .later (position n (columnMarking n scratch) r c) k ∙ w .0, w .1);
+  }
+
+  pub sums-kept : SumsStored (columnSums n j first count s e listed rows values scratch) summed z
+  sums-kept t q B = D .sums t q B ∙ sum-same I work z (D .later) q B
+
+  pub rows-since : {w : List ℤ} {b : Bool} → RowsDone n j first starts rows values scratch z w b → RowsDone n j first starts rows values scratch work w b
+  rows-since R = record {
+    tells = R .tells;
+    long = R .long ∙ D .long;
+    rest = λ p l. R .rest p l ∙ D .later p (omega (arith, I .count-is));
+    solved = R .solved;
+  }

@@ -86,11 +86,11 @@ pub record RowsInput (n j first count s e : ℕ) (listed starts rows : List ℕ)
       × (position n (columnMarking n scratch) (getD listed q 0) j ≡ first + q)
   pub later : WholesFrom n (columnMarking n scratch) (wholeTable n starts rows values) (first + count) work
 
--- whether a member of column j exceeds 2 ^ 53; if none does, all of them are solved
+-- whether a member of column j exceeds 2 ^ 53; if none does, all of them are solved; behind the column the list is as it was
 pub record RowsDone (n j first : ℕ) (starts rows : List ℕ) (values : List ℤ) (scratch : List ℕ) (work₀ work : List ℤ) (b : Bool) : Type 0 where
   pub tells : b ≡ anyIn (λ i. columnMarking n scratch i j && entryExceeds (wholeDesc starts rows values) (wholeTable n starts rows values) i j) j n
   pub long : length work ≡ length work₀
-  pub rest : (p : ℕ) → setSize n (columnMarking n scratch) ≤ p → getD work p (pos 0) ≡ getD work₀ p (pos 0)
+  pub rest : (p : ℕ) → columnCount n (columnMarking n scratch) (j + 1) ≤ p → getD work p (pos 0) ≡ getD work₀ p (pos 0)
   pub solved : b ≡ false → WholesFrom n (columnMarking n scratch) (wholeTable n starts rows values) first work
 
 -- column j, once the later columns are done; `first` is where its members' positions start, and there is a list for their rows

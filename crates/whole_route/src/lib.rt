@@ -1,20 +1,29 @@
 // Takahashi's recurrence in whole numbers over a closed set of pairs, columns from the last to the first, the rows of each from the last to the first, until
 // an entry, a product or a sum exceeds 2^53.
+pub mod column_sums;
 pub mod sums;
 
 ghost use mathlib.Core.Path.{_≡_};
-ghost use Prim.Native.Nat.{_+_, _≤_};
-ghost use lib.ListN.{length};
+ghost use Prim.Native.Nat.{_+_, _≤_, _<_};
+ghost use mathlib.Core.Bool.{true};
+ghost use lib.IntN.{pos};
+ghost use lib.ListN.{length, getD};
+ghost use Rattle.refusal.specs.Steps.{answered};
 ghost use Rattle.pairs.specs.ColumnOrder.{columnMarking, setSize};
 ghost use Rattle.entries.specs.Entries.{columnCount};
 ghost use Rattle.exact.specs.Multiple.{Small};
+ghost use Rattle.whole_route.specs.Sums.{wholeAt, wholeSum};
+ghost use Rattle.whole_route.specs.ColumnSums.{columnSums, MostFrom, SumsStored};
 ghost use Rattle.whole_route.specs.Route.{lastStep, StoreInput, EntryStored, EntryInput, EntryDone, RowsInput, RowsDone, WholeColumnInput, WholeRouteInput, RouteDone};
+use column_sums::greatest_size;
+use column_sums::sum_column;
 use layout::firsts::list_column;
 use pair_places::positions::column_shift;
 use sums::Number;
 use sums::entry_sum;
 use whole_steps::is_beyond;
 use whole_steps::minus;
+use whole_steps::whole_at;
 use words::at;
 
 // An entry from its sum: below the diagonal -S, on it 1 - S.
@@ -65,7 +74,57 @@ fn whole_entry(
     }
 }
 
-// The entries of column j, whose members' rows are listed, from the last row to the first; returns whether one exceeds 2^53, and stops there.
+// The same where the entry's sum stands at its position.
+fn summed_entry(
+    n: usize,
+    i: usize,
+    j: usize,
+    q: usize,
+    s: usize,
+    e: usize,
+    starts: &[u32],
+    rows: &[u32],
+    values: &[i64],
+    scratch: &[u32],
+    work: &mut [i64],
+) -> bool
+    requires { ⌜ EntryInput n i j q s e (now starts) (now rows) (now values) (now scratch) (now work) ⌝ }
+    requires { ⌜ answered (getD (now work) q (pos 0)) ≡ wholeSum (now rows) (now values) j (wholeAt n (now scratch) (now work) i) s e ⌝ }
+    ensures { λ b. ⌜ EntryDone n i j q (now (starts .entry)) (now (rows .entry)) (now (values .entry)) (now (work .entry)) (now (work .exit)) b ⌝ }
+{
+    let sum = whole_at(work, q);
+    store_entry(i, j, q, sum, work)
+}
+
+// The same where the sum may stand there: if summed, it does below the diagonal.
+fn next_entry(
+    n: usize,
+    i: usize,
+    j: usize,
+    q: usize,
+    s: usize,
+    e: usize,
+    summed: bool,
+    starts: &[u32],
+    rows: &[u32],
+    values: &[i64],
+    scratch: &[u32],
+    work: &mut [i64],
+) -> bool
+    requires { ⌜ EntryInput n i j q s e (now starts) (now rows) (now values) (now scratch) (now work) ⌝ }
+    requires { ⌜ (summed ≡ true → j < i → answered (getD (now work) q (pos 0)) ≡ wholeSum (now rows) (now values) j (wholeAt n (now scratch) (now work) i) s e) ⌝ }
+    ensures { λ b. ⌜ EntryDone n i j q (now (starts .entry)) (now (rows .entry)) (now (values .entry)) (now (work .entry)) (now (work .exit)) b ⌝ }
+{
+    if summed {
+        if j < i {
+            return summed_entry(n, i, j, q, s, e, starts, rows, values, scratch, work);
+        }
+    }
+    whole_entry(n, i, j, q, s, e, starts, rows, values, scratch, work)
+}
+
+// The entries of column j, whose members' rows are listed, from the last row to the first; returns whether one exceeds 2^53, and stops there. If summed, the
+// sums below the diagonal stand at their positions.
 fn whole_rows(
     n: usize,
     j: usize,
@@ -73,6 +132,7 @@ fn whole_rows(
     count: usize,
     s: usize,
     e: usize,
+    summed: bool,
     listed: &[u32],
     starts: &[u32],
     rows: &[u32],
@@ -81,18 +141,20 @@ fn whole_rows(
     work: &mut [i64],
 ) -> bool
     requires { ⌜ RowsInput n j first count s e (now listed) (now starts) (now rows) (now values) (now scratch) (now work) ⌝ }
+    requires { ⌜ SumsStored (columnSums n j first count s e (now listed) (now rows) (now values) (now scratch)) summed (now work) ⌝ }
     ensures { λ b. ⌜ RowsDone n j first (now (starts .entry)) (now (rows .entry)) (now (values .entry)) (now (scratch .entry)) (now (work .entry)) (now (work .exit)) b ⌝ }
 {
     let mut q = count;
     while 0 < q {
         q -= 1;
-        if whole_entry(
+        if next_entry(
             n,
             at(listed, q),
             j,
             first + q,
             s,
             e,
+            summed,
             starts,
             rows,
             values,
@@ -105,11 +167,12 @@ fn whole_rows(
     false
 }
 
-// The entries of column j, whose members' positions start at `first`, once those of the later columns are there.
+// The entries of column j, whose members' positions start at `first`, once those of the later columns are there, all of at most a size.
 fn whole_column(
     n: usize,
     j: usize,
     first: usize,
+    most: usize,
     listed: &mut [u32],
     starts: &[u32],
     rows: &[u32],
@@ -118,11 +181,27 @@ fn whole_column(
     work: &mut [i64],
 ) -> bool
     requires { ⌜ WholeColumnInput n j first (now listed) (now starts) (now rows) (now values) (now scratch) (now work) ⌝ }
+    requires { ⌜ MostFrom (columnCount n (columnMarking n (now scratch)) (j + 1)) most (setSize n (columnMarking n (now scratch))) (now work) ⌝ }
     ensures { λ b. ⌜ RowsDone n j first (now (starts .entry)) (now (rows .entry)) (now (values .entry)) (now (scratch .entry)) (now (work .entry)) (now (work .exit)) b ⌝ }
 {
     let count = list_column(n, column_shift(n, j) + j, j, listed, scratch);
     let s = at(starts, j);
     let e = at(starts, j + 1);
+    let summed = sum_column(
+        n,
+        j,
+        first,
+        count,
+        s,
+        e,
+        most,
+        listed,
+        starts,
+        rows,
+        values,
+        scratch,
+        work,
+    );
     whole_rows(
         n,
         j,
@@ -130,6 +209,7 @@ fn whole_column(
         count,
         s,
         e,
+        summed,
         listed,
         starts,
         rows,
@@ -145,6 +225,7 @@ fn filled_column(
     j: usize,
     first: usize,
     next: usize,
+    most: usize,
     listed: &mut [u32],
     starts: &[u32],
     rows: &[u32],
@@ -153,13 +234,25 @@ fn filled_column(
     work: &mut [i64],
 ) -> bool
     requires { ⌜ WholeColumnInput n j first (now listed) (now starts) (now rows) (now values) (now scratch) (now work) ⌝ }
+    requires { ⌜ MostFrom (columnCount n (columnMarking n (now scratch)) (j + 1)) most (setSize n (columnMarking n (now scratch))) (now work) ⌝ }
     requires { ⌜ next ≡ columnCount n (columnMarking n (now scratch)) (j + 1) ⌝ }
     ensures { λ b. ⌜ RowsDone n j first (now (starts .entry)) (now (rows .entry)) (now (values .entry)) (now (scratch .entry)) (now (work .entry)) (now (work .exit)) b ⌝ }
 {
     if first == next {
         return false;
     }
-    whole_column(n, j, first, listed, starts, rows, values, scratch, work)
+    whole_column(
+        n,
+        j,
+        first,
+        most,
+        listed,
+        starts,
+        rows,
+        values,
+        scratch,
+        work,
+    )
 }
 
 // The entries of the inverse at the pairs of the closed set that the marks say, `count` of them, at their positions; returns whether the exact recurrence over the set exceeds 2^53, and stops there.
@@ -179,6 +272,7 @@ pub fn whole_selected_inverse(
     ensures { λ b. ⌜ RouteDone n (now (starts .entry)) (now (rows .entry)) (now (values .entry)) (now (scratch .entry)) (now (work .entry)) (now (work .exit)) b ⌝ }
 {
     let mut next = count;
+    let mut most = 0;
     let mut j = n;
     while 0 < j {
         j -= 1;
@@ -188,6 +282,7 @@ pub fn whole_selected_inverse(
             j,
             first,
             next,
+            most,
             listed,
             starts,
             rows,
@@ -197,6 +292,7 @@ pub fn whole_selected_inverse(
         ) {
             return true;
         }
+        most = greatest_size(first, next, most, work);
         next = first;
     }
     false

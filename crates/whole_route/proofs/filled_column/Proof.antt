@@ -8,10 +8,10 @@ returns : tie.Need-returns
 returns c =
     let s = c .before .before .before .before .before in
     let I = s .pre .0 in
-    column-empty (I .first-is) (s .pre .1) (c .if1 .taken) (λ r a o l t k. I .later r a o l t (omega (arith, s .pre .1)))
+    column-empty (I .first-is) (s .pre .1 .1) (c .if1 .taken) (λ r a o l t k. I .later r a o l t (omega (arith, s .pre .1 .1)))
 
 whole-column-requires : tie.Need-whole-column-requires
-whole-column-requires c κs = c .before .before .before .before .before .before .before .pre .0
+whole-column-requires c κs = let s = c .before .before .before .before .before .before .before in (s .pre .0, s .pre .1 .0)
 
 same-length : tie.Need-same-length
 same-length c = search needs

@@ -1,10 +1,12 @@
 use mathlib.Core.Path.{subst}
 use mathlib.Core.Bool.{true}
 use denote.Ref.{now}
-use Rattle.pairs.specs.ColumnOrder.{columnMarking}
+use Rattle.pairs.specs.ColumnOrder.{columnMarking, setSize}
 use Rattle.entries.specs.Entries.{columnCount}
+use Rattle.entries.specs.Position.{columnCount-mono}
+use Rattle.whole_route.specs.ColumnSums.{MostFrom}
 use Rattle.whole_route.specs.Route.{RouteDone}
-use Rattle.whole_route.proofs.ColumnLaws.{ColumnsLeft, columns-none, column-input, column-exceeds, column-solved, columns-done, rows-same}
+use Rattle.whole_route.proofs.ColumnLaws.{ColumnsLeft, columns-none, column-input, column-exceeds, column-solved, most-more, columns-done, rows-same}
 use borrow.Author.Needs.{needs}
 use native.Mathlib.Omega.{arith}
 use Prim.Native.Nat.{ℕ, _≤_, _<_, _-_, _+_}
@@ -14,12 +16,13 @@ use Rattle.whole_route.proofs.whole_selected_inverse.Statement.{stateme
 use Rattle.whole_route.proofs.whole_selected_inverse.Tie as tie
 
 abbrev Inv-loop : tie.InvT-loop
-Inv-loop n starts rows values count firsts listed₀ scratch work₀ next₀ j₀ listed work next j =
+Inv-loop n starts rows values count firsts listed₀ scratch work₀ next₀ most₀ j₀ listed work next most j =
     (length listed ≡ length listed₀) × (length work ≡ length work₀) × (j ≤ n) × (next ≡ columnCount n (columnMarking n scratch) j)
     × ColumnsLeft n j starts rows values scratch work₀ work
+    × MostFrom next most (setSize n (columnMarking n scratch)) work
 
 abbrev μ-loop : tie.MeasureT-loop
-μ-loop n starts rows values count firsts listed₀ scratch work₀ next₀ j₀ listed work next j = j
+μ-loop n starts rows values count firsts listed₀ scratch work₀ next₀ most₀ j₀ listed work next most j = j
 
 abbrev begin : tie.At-loop Inv-loop μ-loop → tie.Start Inv-loop μ-loop
 begin l = l .before .before .before .before .before .before
@@ -36,8 +39,18 @@ left t =
     subst (λ (k : ℕ). ColumnsLeft (a .n) k (now (a .starts)) (now (a .rows)) (now (a .values)) (now (a .scratch)) (now (a .work)) (t .before .loop .work)) e
     (t .before .loop .inv .4)
 
+-- where the column's positions end
+next-is : (t : tie.In-loop Inv-loop μ-loop) →
+    let a = begin (t .before) .args in
+    t .before .loop .next ≡ columnCount (a .n) (columnMarking (a .n) (now (a .scratch))) ((t .before .loop .j - 1) + 1)
+next-is t =
+    let a = begin (t .before) .args in
+    let l = t .before .loop in
+    let e : l .j ≡ (l .j - 1) + 1 = omega (arith, t .loop-test .taken) in
+    l .inv .3 ∙ ap (columnCount (a .n) (columnMarking (a .n) (now (a .scratch)))) e
+
 loop-holds : tie.Need-loop-holds Inv-loop μ-loop
-loop-holds c = let s = c .before .before .before .before .before in (refl, refl, omega arith, s .pre .1, columns-none (s .pre .0 .0))
+loop-holds c = let s = c .before .before .before .before .before in (refl, refl, omega arith, s .pre .1, columns-none (s .pre .0 .0), λ p lo hi. absurd (omega (arith, s .pre .1)))
 
 sub-j : tie.Need-sub-j Inv-loop μ-loop
 sub-j c = search needs
@@ -50,16 +63,15 @@ filled-column-requires c κs =
     let m = c .before .before in
     let t = m .before in
     let s = begin (t .before) in
-    let l = t .before .loop in
-    let e : l .j ≡ (l .j - 1) + 1 = omega (arith, t .loop-test .taken) in (
+    let l = t .before .loop in (
       column-input (s .pre .0 .0) (left t) (low t) (omega (arith, s .pre .0 .1, l .inv .0)) (m .at .ensures),
-      l .inv .3 ∙ ap (columnCount (s .args .n) (columnMarking (s .args .n) (now (s .args .scratch)))) e,
+      (λ p lo hi. l .inv .5 p (omega (arith, next-is t)) hi, next-is t),
     )
 
 passed : (c : tie.Then1 Inv-loop μ-loop) →
     let w = c .before .before .before .before in
     let a = begin (w .before .before .before .before .before) .args in
-    RouteDone (a .n) (now (a .starts)) (now (a .rows)) (now (a .values)) (now (a .scratch)) (now (a .work)) (w .filled-column .last .1 .1 .1 .1 .1 .1 .1 .1 .1 .0) true
+    RouteDone (a .n) (now (a .starts)) (now (a .rows)) (now (a .values)) (now (a .scratch)) (now (a .work)) (w .filled-column .last .1 .1 .1 .1 .1 .1 .1 .1 .1 .1 .0) true
 passed c =
     let w = c .before .before .before .before in
     let m = w .before .before .before in
@@ -69,7 +81,7 @@ passed c =
 same-length : tie.Need-same-length Inv-loop μ-loop
 same-length c =
     let w = c .before .before .before .before in
-    w .filled-column .kept .1 .1 .1 .1 .0 ∙ w .before .before .before .before .before .loop .inv .0
+    w .filled-column .kept .1 .1 .1 .1 .1 .0 ∙ w .before .before .before .before .before .loop .inv .0
 
 same-length-2 : tie.Need-same-length-2 Inv-loop μ-loop
 same-length-2 c = passed c .long
@@ -77,16 +89,49 @@ same-length-2 c = passed c .long
 returns : tie.Need-returns Inv-loop μ-loop
 returns c = passed c
 
-loop-less : tie.Need-loop-less Inv-loop μ-loop
-loop-less c = omega (arith, c .before .before .before .before .before .before .before .before .loop-test .taken)
-
-loop-again : tie.Need-loop-again Inv-loop μ-loop
-loop-again c =
+-- column j is solved
+solved : (c : tie.Else1 Inv-loop μ-loop) →
+    let w = c .before .before .before .before in
+    let t = w .before .before .before .before in
+    let a = begin (t .before) .args in
+    ColumnsLeft (a .n) (t .before .loop .j - 1) (now (a .starts)) (now (a .rows)) (now (a .values)) (now (a .scratch)) (now (a .work)) (w .filled-column .last .1 .1 .1 .1 .1 .1 .1 .1 .1 .1 .0)
+solved c =
     let w = c .before .before .before .before in
     let m = w .before .before .before in
     let t = m .before in
-    let L = column-solved (begin (t .before) .pre .0 .0) (left t) (low t) (m .at .ensures) (rows-same (c .if1 .left) (w .filled-column .ensures)) in
-    (w .filled-column .kept .1 .1 .1 .1 .0 ∙ t .before .loop .inv .0, L .long, omega (arith, low t), m .at .ensures ∙ begin (t .before) .pre .0 .0 .starts-are (t .before .loop .j - 1) (low t), L)
+    column-solved (begin (t .before) .pre .0 .0) (left t) (low t) (m .at .ensures) (rows-same (c .if1 .left) (w .filled-column .ensures))
+
+greatest-size-requires : tie.Need-greatest-size-requires Inv-loop μ-loop
+greatest-size-requires c κs =
+    let d = c .before in
+    let m = d .before .before .before .before .before .before .before in
+    let t = m .before in
+    let s = begin (t .before) in
+    let a = s .args in
+    let S = columnMarking (a .n) (now (a .scratch)) in
+    let k = t .before .loop .j - 1 in (
+      omega (arith, m .at .ensures, s .pre .0 .0 .starts-are k (low t), next-is t, columnCount-mono (a .n) S k (k + 1) (omega arith)),
+      omega (arith, next-is t, columnCount-mono (a .n) S (k + 1) (a .n) (omega (arith, low t)), s .pre .0 .0 .fits, solved d .long),
+    )
+
+loop-less : tie.Need-loop-less Inv-loop μ-loop
+loop-less c = omega (arith, c .before .before .before .before .before .before .before .before .before .before .loop-test .taken)
+
+loop-again : tie.Need-loop-again Inv-loop μ-loop
+loop-again c =
+    let d = c .before .before in
+    let w = d .before .before .before .before in
+    let m = w .before .before .before in
+    let t = m .before in
+    let L = solved d in
+    let s = begin (t .before) in (
+      w .filled-column .kept .1 .1 .1 .1 .1 .0 ∙ t .before .loop .inv .0,
+      L .long,
+      omega (arith, low t),
+      m .at .ensures ∙ s .pre .0 .0 .starts-are (t .before .loop .j - 1) (low t),
+      L,
+      most-more (s .pre .0 .0) (left t) (low t) (next-is t) (t .before .loop .inv .5) (rows-same (d .if1 .left) (w .filled-column .ensures)) (c .greatest-size .ensures),
+    )
 
 same-length-3 : tie.Need-same-length-3 Inv-loop μ-loop
 same-length-3 c = c .before .loop .inv .0
@@ -115,6 +160,7 @@ whole-selected-inverse-spec =
     same-length
     same-length-2
     returns
+    greatest-size-requires
     loop-less
     loop-again
     same-length-3
