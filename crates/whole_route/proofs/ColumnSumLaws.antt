@@ -28,13 +28,12 @@ use Rattle.columns.specs.Factor.{FirstFrom}
 use Rattle.columns.specs.WholeFactor.{notZero, wholeValue, wholeNonzero, wholeStored}
 use Rattle.exact.specs.Multiple.{Small}
 use Rattle.exact.specs.Checked.{beyond, small-within, checkedRun}
-use Rattle.closure_route.specs.Run.{Rises, rowPositions}
 use Rattle.closure_route.proofs.StoredLaws.{later-row, first-less}
 use Rattle.whole_route.specs.Sums.{withEntry, wholeSum}
 use Rattle.whole_route.proofs.SumLaws.{sum-none, sum-next}
 use Rattle.whole_route.specs.ColumnSums.{sumFrom, termAt, ColumnSums, columnSums, keptAt, placeOf, term, lowTerm, highTerm, BelowAt, CountsAt}
 use Rattle.whole_route.specs.ColumnSums.{SumsInput, SumsDone, AddAtInput, withProduct, AddRowsInput, RowsAdded, AddStoredInput, StoredAdded, LowInput, LowAdded}
-use Rattle.whole_route.specs.ColumnSums.{wordTerm, HighTermInput, HighSumInput, AllNonzero, HighPartInput, AddHighInput, HighAdded, HighsInput, HighsAdded, PartCleared}
+use Rattle.whole_route.specs.ColumnSums.{wordTerm, HighTermInput, HighSumInput, AddHighInput, HighAdded, HighsInput, HighsAdded, PartCleared}
 
 -- ---- sums from a place on
 module _ (f : ℕ → ℤ) (s : ℕ) where
@@ -364,10 +363,6 @@ module _ {x : ColumnSums} {p q : ℕ} {z : List ℤ} (I : AddStoredInput x p q z
       behind = λ i lo hi. omega (arith, place-is i lo hi, I .behind i (below i lo hi) kept);
     }
 
-    pub stored-rises : Rises (rowPositions base (x .listed) (x .scratch)) m (x .count)
-    stored-rises i i′ lo l hi =
-        omega (arith, place-is i lo (omega arith), place-is i′ (omega arith) hi, I .rises i i′ (below i lo (omega arith)) l hi kept (reached i lo (omega arith)))
-
     pub stored-added : {l : ℤ} {z′ : List ℤ} → l ≡ wholeValue (x .values) p → RowsAdded base (x .first) m (x .count) l (x .listed) (x .scratch) z z′
         → StoredAdded x p q m z z′
     stored-added {l} {z′} e A = record {
@@ -427,7 +422,6 @@ module _ {x : ColumnSums} {b : ℕ} {z₀ : List ℤ} (I : SumsInput x b z₀) {
     passed = λ i h. before i p h (omega arith) hi;
     behind = λ i B k. I .behind i p B (lo, hi, k);
     known = λ i B k. omega (arith, I .known i p B (lo, hi, k), L .long);
-    rises = λ i i′ B l h k le. I .rises i i′ p B l h (lo, hi, k) le;
     product-small = λ i B k. subst Small (sym (term-same I z (L .later) i p B lo hi)) (term-small I i p B lo hi);
     sum-small = λ i B k le.
         subst Small
@@ -568,21 +562,6 @@ module _ {x : ColumnSums} {q f : ℕ} {z : List ℤ} (I : AddHighInput x q f z) 
         sum-small = λ p lo hi. subst Small (sym (high-sum-is p lo hi)) (I .sum-small p B (omega (arith, I .from, F .from)) hi);
       }
 
-      pub high-part-input : {zeros : Bool} → (zeros ≡ false → AllNonzero (x .s) (x .e) (x .values)) → HighPartInput base m (x .e) zeros (x .rows) (x .values) (x .scratch) z
-      high-part-input none = record {
-        sum = high-sum-input;
-        kept = λ t p lo hi. none t p (omega (arith, I .from, F .from)) hi;
-        rises = λ t p p′ lo l hi.
-            let a = none t p (omega (arith, I .from, F .from)) (omega arith) in
-            let c = none t p′ (omega (arith, I .from, F .from)) hi in
-            omega (
-              arith,
-              high-place p lo (omega arith),
-              high-place p′ (omega arith) hi,
-              I .follows p p′ B (counts p lo (omega arith) a) l (counts p′ (omega arith) hi c) (greater p lo (omega arith)),
-            );
-      }
-
     pub high-added : {y : ℤ} → y ≡ getD z (x .first + q) (pos 0) +ℤ sumFrom (highTerm x z q) (x .s) (x .e) → HighAdded x q f m z (set z (x .first + q) y)
     high-added {y} e = record {
       from = F .from;
@@ -624,7 +603,6 @@ module _ {x : ColumnSums} {b : ℕ} {z₀ : List ℤ} (H : HighsInput x b z₀) 
     upto = upto;
     passed = λ p lo l. up p q lo l (omega arith) hi;
     known = λ p B C. omega (arith, H .sums .known q p B C, D .long);
-    follows = λ p p′ B C l C′ g. H .sums .follows q p p′ B C l C′ g;
     product-small = λ p B C. subst Small (sym (term-same (H .sums) z (D .later) q p B (C .0) (C .1))) (term-small (H .sums) q p B (C .0) (C .1));
     sum-small = λ p B lo l. subst Small (sym (high-sums p B l)) (high-small (H .sums) q p B l);
     total-small = λ B. subst Small (sym (total-is B)) (total-small (H .sums) q B);
@@ -664,8 +642,6 @@ module _ {x : ColumnSums} {b : ℕ} {z₀ : List ℤ} (I : SumsInput x b z₀) w
     ascends = I .ascends;
     behind = I .behind;
     known = λ q p B C. omega (arith, I .known q p B C, l);
-    rises = I .rises;
-    follows = I .follows;
     within = λ q p B C. subst (λ (y : ℤ). natAbs y ≤ b) (sym (term-same I z A q p B (C .0) (C .1))) (I .within q p B C);
     few = I .few;
   }

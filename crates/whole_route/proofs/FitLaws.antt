@@ -25,7 +25,7 @@ use Rattle.whole_route.specs.Route.{RowsInput}
 use Rattle.whole_route.specs.ColumnSums.{ColumnSums, columnSums, termAt, term, placeOf, BelowAt, CountsAt, SumsInput, SumsDone, SizesWithin, SumsFit, MostFrom, sumOf, Summed}
 use Rattle.whole_route.proofs.SumLaws.{sum-none, sum-next}
 use Rattle.whole_route.proofs.ColumnSumLaws.{whole-sum-plain, term-kept, term-size}
-use Rattle.whole_route.proofs.PairLaws.{Kept, column, row-inside, pair-member, read-is, read-place, read-behind}
+use Rattle.whole_route.proofs.PairLaws.{Kept, column, row-inside, read-place, read-behind}
 
 -- ---- sizes
 pub sizes-none : (s start : ℕ) (z : List ℤ) → SizesWithin s s start start z
@@ -110,13 +110,6 @@ module _ {n j first count s e : ℕ} {listed starts rows : List ℕ} {values : L
       ascends = ascend;
       behind = λ q p B C. reads q p B C .0;
       known = λ q p B C. omega (arith, reads q p B C .1, I .fits);
-      rises = λ q q′ p B l h C le.
-          let k : Kept (I .whole) j p = (omega (arith, I .start-is, C .0), omega (arith, I .end-is, C .1), C .2) in
-          rise-rows q q′ p B l h k le;
-      follows = λ q p p′ B C l C′ g.
-          let k : Kept (I .whole) j p = (omega (arith, I .start-is, C .0), omega (arith, I .end-is, C .1), C .2) in
-          let k′ : Kept (I .whole) j p′ = (omega (arith, I .start-is, C′ .0), omega (arith, I .end-is, C′ .1), C′ .2) in
-          rise-entries q p p′ B k k′ (stored .ascends p p′ (C .0) l (C′ .1)) g;
       within = λ q p B C.
           subst (λ (k : ℕ). k ≤ F .greatest * most)
           (sym (ap natAbs (term-kept x work q p (C .2)) ∙ natAbs-* (wholeValue values p) (getD work (placeOf x q p) (pos 0))))
@@ -135,43 +128,6 @@ module _ {n j first count s e : ℕ} {listed starts rows : List ℕ} {values : L
               ]
               | no h ↦ omega arith
             ]
-
-        rise-rows : (q q′ p : ℕ) → BelowAt x q → q < q′ → q′ < count → Kept (I .whole) j p → row rows p ≤ row listed q → placeOf x q p < placeOf x q′ p
-        rise-rows q q′ p B l h k le =
-            let Q = I .rows-are q (B .0) in
-            let Q′ = I .rows-are q′ h in
-            let up = ascend q q′ (omega arith) l h in
-            let a : max (row listed q) (row rows p) ≡ row listed q = omega arith in
-            let b : min (row listed q) (row rows p) ≡ row rows p = omega arith in
-            let c : max (row listed q′) (row rows p) ≡ row listed q′ = omega arith in
-            let d : min (row listed q′) (row rows p) ≡ row rows p = omega arith in
-            let m = subst₂ (λ (r s : ℕ). S r s ≡ true) a b (pair-member (I .whole) (row listed q) j (Q .0) (Q .1) (Q .2) p k) in
-            omega (
-              arith,
-              read-is (I .whole) (row listed q) j (Q .0) (Q .1) (Q .2) p k,
-              read-is (I .whole) (row listed q′) j (Q′ .0) (Q′ .1) (Q′ .2) p k,
-              ap₂ (position n S) a b,
-              ap₂ (position n S) c d,
-              position-rises n S (row listed q) (row listed q′) (row rows p) le up m,
-            )
-
-        rise-entries : (q p p′ : ℕ) → BelowAt x q → Kept (I .whole) j p → Kept (I .whole) j p′ → row rows p < row rows p′ → row listed q < row rows p
-            → placeOf x q p < placeOf x q p′
-        rise-entries q p p′ B k k′ up g =
-            let Q = I .rows-are q (B .0) in
-            let a : max (row listed q) (row rows p) ≡ row rows p = omega arith in
-            let b : min (row listed q) (row rows p) ≡ row listed q = omega arith in
-            let c : max (row listed q) (row rows p′) ≡ row rows p′ = omega arith in
-            let d : min (row listed q) (row rows p′) ≡ row listed q = omega arith in
-            let m = subst₂ (λ (r s : ℕ). S r s ≡ true) a b (pair-member (I .whole) (row listed q) j (Q .0) (Q .1) (Q .2) p k) in
-            omega (
-              arith,
-              read-is (I .whole) (row listed q) j (Q .0) (Q .1) (Q .2) p k,
-              read-is (I .whole) (row listed q) j (Q .0) (Q .1) (Q .2) p′ k′,
-              ap₂ (position n S) a b,
-              ap₂ (position n S) c d,
-              position-rises n S (row rows p) (row rows p′) (row listed q) (omega arith) up m,
-            )
 
     pub summed : {z : List ℤ} → SumsDone x work z → Summed x true work z
     summed D = record {

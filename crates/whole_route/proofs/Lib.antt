@@ -1,6 +1,5 @@
 pub mod SumLaws
 pub mod ColumnSumLaws
-pub mod RunLaws
 pub mod PairLaws
 pub mod FitLaws
 pub mod EntryLaws

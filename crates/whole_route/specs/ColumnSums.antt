@@ -3,7 +3,7 @@
 -- Assumes nothing.
 use Prim.Native.Nat.{ℕ, _+_, _-_, _*_, _^_, _≤_, _<_}
 use mathlib.Core.Path.{_≡_}
-use mathlib.Core.Bool.{Bool, true, false, cond}
+use mathlib.Core.Bool.{Bool, true, cond}
 use mathlib.Core.List.{List}
 use lib.Dec.{ltb}
 use lib.ListN.{length, getD}
@@ -19,7 +19,6 @@ use Rattle.columns.specs.Factor.{Ascends, Column}
 use Rattle.columns.specs.WholeFactor.{wholeValue, wholeNonzero}
 use Rattle.exact.specs.Multiple.{Small}
 use Rattle.refusal.specs.Steps.{Reply, answered}
-use Rattle.closure_route.specs.Run.{Rises, rowPositions}
 use Rattle.whole_route.specs.Sums.{wholeAt, wholeSum}
 
 -- the numbers from s to below p of a function, added
@@ -99,8 +98,6 @@ pub record SumsInput (x : ColumnSums) (b : ℕ) (z : List ℤ) : Type 0 where
   pub ascends : Ascends (x .listed) 0 (x .count)
   pub behind : (q p : ℕ) → BelowAt x q → CountsAt x p → x .first + x .count ≤ placeOf x q p
   pub known : (q p : ℕ) → BelowAt x q → CountsAt x p → placeOf x q p < length z
-  pub rises : (q q′ p : ℕ) → BelowAt x q → q < q′ → q′ < x .count → CountsAt x p → row (x .rows) p ≤ row (x .listed) q → placeOf x q p < placeOf x q′ p
-  pub follows : (q p p′ : ℕ) → BelowAt x q → CountsAt x p → p < p′ → CountsAt x p′ → row (x .listed) q < row (x .rows) p → placeOf x q p < placeOf x q p′
   pub within : (q p : ℕ) → BelowAt x q → CountsAt x p → natAbs (term x z q p) ≤ b
   pub few : (x .e - x .s) * b ≤ 2 ^ 53
 
@@ -145,21 +142,6 @@ pub record RowsAdded (base first from q : ℕ) (l : ℤ) (listed scratch : List 
   pub before : (p : ℕ) → p < first + from → getD z p (pos 0) ≡ getD z₀ p (pos 0)
   pub after : (p : ℕ) → first + q ≤ p → getD z p (pos 0) ≡ getD z₀ p (pos 0)
 
--- the numbers from a place to before another, and as many from a position behind them, with which l is multiplied
-pub record AddRunInput (from last position : ℕ) (l : ℤ) (z : List ℤ) : Type 0 where
-  pub ordered : from ≤ last
-  pub behind : last ≤ position
-  pub fits : position + (last - from) ≤ length z
-  pub product-small : (p : ℕ) → from ≤ p → p < last → Small (l *ℤ getD z (position + (p - from)) (pos 0))
-  pub sum-small : (p : ℕ) → from ≤ p → p < last → Small (getD z p (pos 0) +ℤ l *ℤ getD z (position + (p - from)) (pos 0))
-
--- those before q have their products; all other numbers are as they were
-pub record RunAdded (from q position : ℕ) (l : ℤ) (z₀ z : List ℤ) : Type 0 where
-  pub long : length z ≡ length z₀
-  pub added : (p : ℕ) → from ≤ p → p < q → getD z p (pos 0) ≡ getD z₀ p (pos 0) +ℤ l *ℤ getD z₀ (position + (p - from)) (pos 0)
-  pub before : (p : ℕ) → p < from → getD z p (pos 0) ≡ getD z₀ p (pos 0)
-  pub after : (p : ℕ) → q ≤ p → getD z p (pos 0) ≡ getD z₀ p (pos 0)
-
 -- ---- the stored entries up to the sums' rows
 
 -- the stored entry at p, whose product may be added to the sums; the rows before q are less than its row
@@ -177,7 +159,6 @@ pub record AddStoredInput (x : ColumnSums) (p q : ℕ) (z : List ℤ) : Type 0 w
   pub passed : (i : ℕ) → i < q → row (x .listed) i < row (x .rows) p
   pub behind : (i : ℕ) → BelowAt x i → keptAt x p ≡ true → x .first + x .count ≤ placeOf x i p
   pub known : (i : ℕ) → BelowAt x i → keptAt x p ≡ true → placeOf x i p < length z
-  pub rises : (i i′ : ℕ) → BelowAt x i → i < i′ → i′ < x .count → keptAt x p ≡ true → row (x .rows) p ≤ row (x .listed) i → placeOf x i p < placeOf x i′ p
   pub product-small : (i : ℕ) → BelowAt x i → keptAt x p ≡ true → Small (term x z i p)
   pub sum-small : (i : ℕ) → BelowAt x i → keptAt x p ≡ true → row (x .rows) p ≤ row (x .listed) i → Small (getD z (x .first + i) (pos 0) +ℤ term x z i p)
 
@@ -224,28 +205,6 @@ pub record HighSumInput (base f e : ℕ) (rows : List ℕ) (values : List ℤ) (
   pub product-small : (p : ℕ) → f ≤ p → p < e → wholeNonzero values p ≡ true → Small (wordTerm base rows values scratch z p)
   pub sum-small : (p : ℕ) → f ≤ p → p ≤ e → Small (sumFrom (wordTerm base rows values scratch z) f p)
 
--- no value from s to below e is 0
-abbrev pub AllNonzero : ℕ → ℕ → List ℤ → Type 0
-AllNonzero s e values = (p : ℕ) → s ≤ p → p < e → wholeNonzero values p ≡ true
-
--- what the value at p adds, where the inverse's entries follow one another from a position on
-abbrev pub runTerm : ℕ → ℕ → List ℤ → List ℤ → ℕ → ℤ
-runTerm f position values z p = wholeValue values p *ℤ getD z (position + (p - f)) (pos 0)
-
--- the values from f to below e, whose products and sums are small
-pub record HighRunInput (f e position : ℕ) (values z : List ℤ) : Type 0 where
-  pub ordered : f ≤ e
-  pub weighed : e ≤ length values
-  pub fits : position + (e - f) ≤ length z
-  pub product-small : (p : ℕ) → f ≤ p → p < e → Small (runTerm f position values z p)
-  pub sum-small : (p : ℕ) → f ≤ p → p ≤ e → Small (sumFrom (runTerm f position values z) f p)
-
--- the stored entries from f to below e, whose positions rise where no value is 0
-pub record HighPartInput (base f e : ℕ) (zeros : Bool) (rows : List ℕ) (values : List ℤ) (scratch : List ℕ) (z : List ℤ) : Type 0 where
-  pub sum : HighSumInput base f e rows values scratch z
-  pub kept : zeros ≡ false → AllNonzero f e values
-  pub rises : zeros ≡ false → Rises (rowPositions base rows scratch) f e
-
 -- the sum of the row at q; the stored entries before f are not of greater rows
 pub record AddHighInput (x : ColumnSums) (q f : ℕ) (z : List ℤ) : Type 0 where
   pub small : x .n ≤ maxDimension
@@ -260,7 +219,6 @@ pub record AddHighInput (x : ColumnSums) (q f : ℕ) (z : List ℤ) : Type 0 whe
   pub upto : f ≤ x .e
   pub passed : (p : ℕ) → x .s ≤ p → p < f → row (x .rows) p ≤ row (x .listed) q
   pub known : (p : ℕ) → BelowAt x q → CountsAt x p → placeOf x q p < length z
-  pub follows : (p p′ : ℕ) → BelowAt x q → CountsAt x p → p < p′ → CountsAt x p′ → row (x .listed) q < row (x .rows) p → placeOf x q p < placeOf x q p′
   pub product-small : (p : ℕ) → BelowAt x q → CountsAt x p → Small (term x z q p)
   pub sum-small : (p : ℕ) → BelowAt x q → x .s ≤ p → p ≤ x .e → Small (sumFrom (highTerm x z q) (x .s) p)
   pub total-small : BelowAt x q → Small (getD z (x .first + q) (pos 0) +ℤ sumFrom (highTerm x z q) (x .s) (x .e))

@@ -5,14 +5,11 @@ ghost use mathlib.Core.Path.{_≡_};
 ghost use Prim.Native.Nat.{ℕ, _+_, _≤_};
 ghost use lib.IntN.{_+ℤ_, _*ℤ_};
 ghost use lib.ListN.{length, set};
-ghost use mathlib.Core.Bool.{true, false};
+ghost use mathlib.Core.Bool.{true};
 ghost use Rattle.pairs.specs.ColumnOrder.{columnMarking, setSize};
 ghost use Rattle.exact.specs.Multiple.{Small};
 ghost use Rattle.whole_route.specs.ColumnSums.{sumFrom, wordTerm, columnSums, withProduct, PartCleared, AddAtInput, AddRowsInput, RowsAdded, AddStoredInput, StoredAdded, LowInput, LowAdded, HighTermInput, HighSumInput, AddHighInput, HighAdded, HighsInput, HighsAdded, SumsInput, SumsDone, SizesWithin, SumsFit, MostFrom, Summed};
-ghost use Rattle.whole_route.specs.ColumnSums.{AddRunInput, RunAdded, AllNonzero, runTerm, HighRunInput, HighPartInput};
-ghost use Rattle.closure_route.specs.Run.{Rises, rowPositions};
 ghost use Rattle.whole_route.specs.Route.{RowsInput};
-use closure_route::runs::is_run;
 use kept_entries::diagonal::first_from;
 use pair_places::positions::column_base;
 use whole_steps::is_nonzero;
@@ -75,46 +72,6 @@ fn add_rows(
     }
 }
 
-// Adds to each number from `from` to last the product of l and a number, the first at the position, each next one place further.
-fn add_run(from: usize, last: usize, position: usize, l: i64, work: &mut [i64])
-    requires { ⌜ AddRunInput from last position l (now work) ⌝ }
-    ensures { λ _. ⌜ RunAdded from last position l (now (work .entry)) (now (work .exit)) ⌝ }
-{
-    let mut q = from;
-    let mut r = position;
-    while q < last {
-        let total = plus_product(whole_at(work, q), l, whole_at(work, r));
-        work[q] = total;
-        q += 1;
-        r += 1;
-    }
-}
-
-// The same as `add_rows`: where the positions of the rows follow one another, the entries are read from a run.
-fn add_column(
-    base: usize,
-    first: usize,
-    from: usize,
-    count: usize,
-    l: i64,
-    listed: &[u32],
-    scratch: &[u32],
-    work: &mut [i64],
-)
-    requires { ⌜ AddRowsInput base first from count l (now listed) (now scratch) (now work) ⌝ }
-    requires { ⌜ Rises (rowPositions base (now listed) (now scratch)) from count ⌝ }
-    ensures { λ _. ⌜ RowsAdded base first from count l (now (listed .entry)) (now (scratch .entry)) (now (work .entry)) (now (work .exit)) ⌝ }
-{
-    if from < count {
-        if is_run(base, from, count, listed, scratch) {
-            let position = at(scratch, base + at(listed, from));
-            add_run(first + from, first + count, position, l, work);
-            return;
-        }
-    }
-    add_rows(base, first, from, count, l, listed, scratch, work);
-}
-
 // Adds the product of the stored entry at p to each sum whose row is not less, all of which are from the row at q on; an entry that is not kept below the
 // diagonal adds nothing. Returns a place in the list up to which the rows are less.
 fn add_stored(
@@ -141,7 +98,7 @@ fn add_stored(
     let l = whole_at(values, p);
     if is_nonzero(l) {
         let from = first_from(k, listed, q, count);
-        add_column(
+        add_rows(
             column_base(n, k),
             first,
             from,
@@ -236,62 +193,6 @@ fn high_sum(
     total
 }
 
-// The sum of the products of the values from f to e and as many numbers from a position on.
-fn high_run(f: usize, e: usize, position: usize, values: &[i64], work: &[i64]) -> i64
-    requires { ⌜ HighRunInput f e position (now values) (now work) ⌝ }
-    ensures { λ r. ⌜ r ≡ sumFrom (runTerm f position (now (values .entry)) (now (work .entry))) f e ⌝ }
-{
-    let mut total = 0;
-    let mut p = f;
-    let mut r = position;
-    while p < e {
-        total = plus_product(total, whole_at(values, p), whole_at(work, r));
-        p += 1;
-        r += 1;
-    }
-    total
-}
-
-// The same as `high_sum`: where no value is 0 and the positions follow one another, the entries are read from a run.
-fn high_part(
-    base: usize,
-    f: usize,
-    e: usize,
-    zeros: bool,
-    rows: &[u32],
-    values: &[i64],
-    scratch: &[u32],
-    work: &[i64],
-) -> i64
-    requires { ⌜ HighPartInput base f e zeros (now rows) (now values) (now scratch) (now work) ⌝ }
-    ensures { λ r. ⌜ r ≡ sumFrom (wordTerm base (now (rows .entry)) (now (values .entry)) (now (scratch .entry)) (now (work .entry))) f e ⌝ }
-{
-    if !zeros {
-        if f < e {
-            if is_run(base, f, e, rows, scratch) {
-                return high_run(f, e, at(scratch, base + at(rows, f)), values, work);
-            }
-        }
-    }
-    high_sum(base, f, e, rows, values, scratch, work)
-}
-
-// Whether one of the values from s to e is 0.
-fn has_zero(s: usize, e: usize, values: &[i64]) -> bool
-    requires { ⌜ (s ≤ e) × (e ≤ length (now values)) ⌝ }
-    ensures { λ b. ⌜ (b ≡ false → AllNonzero s e (now (values .entry))) ⌝ }
-{
-    let mut p = s;
-    while p < e {
-        if is_nonzero(whole_at(values, p)) {
-            p += 1;
-        } else {
-            return true;
-        }
-    }
-    false
-}
-
 // Adds to the sum of the row at q the products of the descendants greater than it, which are stored from f on. Returns where they start.
 fn add_high(
     n: usize,
@@ -302,7 +203,6 @@ fn add_high(
     e: usize,
     q: usize,
     f: usize,
-    zeros: bool,
     listed: &[u32],
     rows: &[u32],
     values: &[i64],
@@ -310,7 +210,6 @@ fn add_high(
     work: &mut [i64],
 ) -> usize
     requires { ⌜ AddHighInput (columnSums n j first count s e (now listed) (now rows) (now values) (now scratch)) q f (now work) ⌝ }
-    requires { ⌜ (zeros ≡ false → AllNonzero s e (now values)) ⌝ }
     ensures { λ m. ⌜ HighAdded (columnSums n j first count s e (now (listed .entry)) (now (rows .entry)) (now (values .entry)) (now (scratch .entry))) q f m
         (now (work .entry)) (now (work .exit)) ⌝ }
 {
@@ -319,16 +218,7 @@ fn add_high(
         return f;
     }
     let from = first_from(i + 1, rows, f, e);
-    let more = high_part(
-        column_base(n, i),
-        from,
-        e,
-        zeros,
-        rows,
-        values,
-        scratch,
-        work,
-    );
+    let more = high_sum(column_base(n, i), from, e, rows, values, scratch, work);
     let total = sum(whole_at(work, first + q), more);
     work[first + q] = total;
     from
@@ -352,7 +242,6 @@ fn add_highs(
     ensures { λ _. ⌜ HighsAdded (columnSums n j first count s e (now (listed .entry)) (now (rows .entry)) (now (values .entry)) (now (scratch .entry))) count
         (now (work .entry)) (now (work .exit)) ⌝ }
 {
-    let zeros = has_zero(s, e, values);
     let mut f = s;
     let mut q = 0;
     while q < count {
@@ -365,7 +254,6 @@ fn add_highs(
             e,
             q,
             f,
-            zeros,
             listed,
             rows,
             values,

@@ -10,7 +10,7 @@ use Rattle.whole_route.proofs.column_sums.add_highs.Statement.{statemen
 use Rattle.whole_route.proofs.column_sums.add_highs.Tie as tie
 
 abbrev Inv-loop : tie.InvT-loop
-Inv-loop n j first count s e listed rows values scratch work₀ zeros f₀ q₀ work f q =
+Inv-loop n j first count s e listed rows values scratch work₀ f₀ q₀ work f q =
     (length work ≡ length work₀)
     × (q ≤ count)
     × (s ≤ f)
@@ -19,22 +19,19 @@ Inv-loop n j first count s e listed rows values scratch work₀ zeros f₀ q₀ 
     × HighsAdded (columnSums n j first count s e listed rows values scratch) q work₀ work
 
 abbrev μ-loop : tie.MeasureT-loop
-μ-loop n j first count s e listed rows values scratch work₀ zeros f₀ q₀ work f q = count - q
+μ-loop n j first count s e listed rows values scratch work₀ f₀ q₀ work f q = count - q
 
 abbrev begin : tie.At-loop Inv-loop μ-loop → tie.Start Inv-loop μ-loop
-begin l = l .before .before .before .before .before
+begin l = l .before .before .before .before
 
 abbrev column : tie.Start Inv-loop μ-loop → ColumnSums
 column s =
     let a = s .args in
     columnSums (a .n) (a .j) (a .first) (a .count) (a .s) (a .e) (now (a .listed)) (now (a .rows)) (now (a .values)) (now (a .scratch))
 
-has-zero-requires : tie.Need-has-zero-requires Inv-loop μ-loop
-has-zero-requires c κs = let C = c .before .before .before .pre .1 .sums .column in (C .ordered, C .weighed)
-
 loop-holds : tie.Need-loop-holds Inv-loop μ-loop
 loop-holds c =
-    let s = c .before .before .before .before in
+    let s = c .before .before .before in
     let H = s .pre .1 in
     (refl, omega arith, omega arith, H .sums .column .ordered, λ p i a h b k. absurd (omega arith), highs-none (column s) (now (s .args .work)))
 
@@ -42,7 +39,7 @@ add-high-requires : tie.Need-add-high-requires Inv-loop μ-loop
 add-high-requires c κs =
     let t = c .before in
     let l = t .before .loop in
-    (high-input (begin (t .before) .pre .1) (l .inv .5) (t .loop-test .taken) (l .inv .4) (l .inv .2) (l .inv .3), t .before .before .has-zero .ensures)
+    high-input (begin (t .before) .pre .1) (l .inv .5) (t .loop-test .taken) (l .inv .4) (l .inv .2) (l .inv .3)
 
 add-q : tie.Need-add-q Inv-loop μ-loop
 add-q c = search needs
@@ -77,7 +74,6 @@ add-highs-spec =
     (tie.spec
     Inv-loop
     μ-loop
-    has-zero-requires
     loop-holds
     add-high-requires
     add-q

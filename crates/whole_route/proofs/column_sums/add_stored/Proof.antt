@@ -17,7 +17,7 @@ use Rattle.columns.specs.Columns.{row}
 use Rattle.columns.specs.Factor.{FirstFrom}
 use Rattle.columns.specs.WholeFactor.{notZero, wholeValue, wholeNonzero}
 use Rattle.whole_route.specs.ColumnSums.{ColumnSums, columnSums, keptAt, AddRowsInput}
-use Rattle.whole_route.proofs.ColumnSumLaws.{stored-none, above-none, zero-none, stored-rows, stored-rises, stored-added}
+use Rattle.whole_route.proofs.ColumnSumLaws.{stored-none, above-none, zero-none, stored-rows, stored-added}
 use Rattle.whole_route.proofs.column_sums.add_stored.Statement.{statement}
 use Rattle.whole_route.proofs.column_sums.add_stored.Tie as tie
 
@@ -86,21 +86,19 @@ column-base-requires c κs =
     let P = begin t .pre in
     (P .small, omega (arith, t .at .ensures, P .inside))
 
-add-column-requires : tie.Need-add-column-requires
-add-column-requires c κs =
+add-rows-requires : tie.Need-add-rows-requires
+add-rows-requires c κs =
     let b = c .before in
     let f = b .before in
     let t = f .before in
     let v = t .before .before in
     let s = begin (v .before .before) in
-    let a = s .args in (
-      subst (λ (l : ℤ). AddRowsInput (b .column-base .result) (a .first) (f .first-from .result) (a .count) l (now (a .listed)) (now (a .scratch)) (now (a .work)))
-          (sym (value-is v)) (stored-rows (s .pre) (kept t) (from f) (b .column-base .result) (base b)),
-      stored-rises (s .pre) (kept t) (from f) (b .column-base .result) (base b),
-    )
+    let a = s .args in
+    subst (λ (l : ℤ). AddRowsInput (b .column-base .result) (a .first) (f .first-from .result) (a .count) l (now (a .listed)) (now (a .scratch)) (now (a .work)))
+    (sym (value-is v)) (stored-rows (s .pre) (kept t) (from f) (b .column-base .result) (base b))
 
 same-length : tie.Need-same-length
-same-length c = c .before .add-column .ensures .long
+same-length c = c .before .add-rows .ensures .long
 
 returns-2 : tie.Need-returns-2
 returns-2 c =
@@ -110,7 +108,7 @@ returns-2 c =
     let t = f .before in
     let v = t .before .before in
     let s = begin (v .before .before) in
-    stored-added (s .pre) (kept t) (from f) (b .column-base .result) (base b) (value-is v) (d .add-column .ensures)
+    stored-added (s .pre) (kept t) (from f) (b .column-base .result) (base b) (value-is v) (d .add-rows .ensures)
 
 returns-3 : tie.Need-returns-3
 returns-3 c =
@@ -127,7 +125,7 @@ add-stored-spec =
     is-nonzero-requires
     first-from-requires
     column-base-requires
-    add-column-requires
+    add-rows-requires
     same-length
     returns-2
     returns-3)
