@@ -11,13 +11,13 @@ use lib.Dec.{ltb, eqb}
 use lib.ListN.{length, getD, set, length-set}
 use lib.Seq.{getD-set-same, getD-set-other}
 use lib.IntN.{ℤ, pos, natAbs, _+ℤ_, _*ℤ_, +ℤ-idl, +ℤ-idr, zero-*ℤ}
-use borrow.Author.Tests.{lt-ltb, le-ltb, ltb-true, ltb-false, eqb-true}
+use borrow.Author.Tests.{lt-ltb, le-ltb, ltb-true, eqb-true}
 use Rattle.lists.specs.Test.{and-left, and-both}
 use Rattle.lists.specs.Select.{one}
 use Rattle.integers.specs.Integer.{natAbs-zero}
 use Rattle.integers.specs.Sum.{Σℤ, sum-cong, sum-zero, sum-add}
 use Rattle.integers.specs.Size.{size-sums}
-use Rattle.refusal.specs.Steps.{Reply, refused, answered}
+use Rattle.refusal.specs.Steps.{refused, answered}
 use Rattle.pairs.specs.Scratch.{queueStart}
 use Rattle.pairs.specs.ColumnOrder.{colStart}
 use Rattle.pairs.specs.Positions.{positionWord}

@@ -7,20 +7,18 @@ use native.Mathlib.Decide.{ℕ-discrete}
 use mathlib.Core.Path.{_≡_, refl, sym, ap, ap₂, subst, _∙_}
 use mathlib.Core.Bool.{Bool, true, false, cond, _||_, or-false}
 use mathlib.Core.List.{List, [], _∷_, map}
-use lib.Dec.{ltb}
-use lib.ListN.{length, getD, length-map}
+use lib.ListN.{length, getD}
 use lib.IntN.{ℤ, pos, negℤ, _-ℤ_}
-use borrow.Author.Tests.{ltb-true, eq-eqb, ne-eqb}
-use Rattle.lists.specs.Test.{and-left, or-right}
-use Rattle.lists.specs.Select.{select-at, select-holds}
+use borrow.Author.Tests.{eq-eqb, ne-eqb}
+use Rattle.lists.specs.Test.{or-right}
+use Rattle.lists.specs.Select.{select-at}
 use Rattle.refusal.specs.Steps.{Reply, refused, answered}
 use Rattle.pairs.specs.ColumnOrder.{columnMarking}
 use Rattle.columns.specs.Columns.{start, row}
-use Rattle.columns.specs.Kept.{keptBelow, descPlaces, pattern}
-use Rattle.columns.specs.Factor.{Factor, Column, factor-column}
-use Rattle.columns.specs.Pattern.{pattern-at, keptBelow-kept}
+use Rattle.columns.specs.Kept.{keptBelow, descPlaces}
+use Rattle.columns.specs.Factor.{Factor}
+use Rattle.columns.specs.Pattern.{keptBelow-kept}
 use Rattle.columns.specs.WholeFactor.{wholeNonzero, wholeStored, wholeDesc}
-use Rattle.closed_set.specs.ClosedSet.{descends, descends-at}
 use Rattle.takahashi.specs.Entries.{Each, Ascend, each-of-rows, ascend-rows}
 use Rattle.takahashi.specs.Recurrence.{at, at-sym, at-lower, run-each, dot, Lower, Solves}
 use Rattle.exact.specs.Multiple.{Small}

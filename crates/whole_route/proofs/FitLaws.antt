@@ -1,14 +1,14 @@
 -- Whether the sums of a column can be taken without a test, and that they then are the recurrence's.
 -- Assumes nothing.
-use Prim.Native.Nat.{ℕ, zero, suc, _+_, _-_, _*_, _^_, _≤_, _<_, min, max}
+use Prim.Native.Nat.{ℕ, zero, suc, _+_, _-_, _*_, _≤_, _<_, max}
 use native.Mathlib.Omega.{arith}
 use native.Mathlib.Nat.{mul-le-mul}
 use native.Mathlib.Decide.{ℕ-discrete, decLe}
-use mathlib.Core.Path.{_≡_, refl, sym, ap, ap₂, subst, subst₂, _∙_}
+use mathlib.Core.Path.{_≡_, refl, sym, ap, subst, subst₂, _∙_}
 use mathlib.Core.Bool.{Bool, true, false, false≢true}
 use mathlib.Core.List.{List, map}
 use lib.ListN.{length, getD}
-use lib.IntN.{ℤ, pos, natAbs, _*ℤ_}
+use lib.IntN.{ℤ, pos, natAbs}
 use Rattle.lists.specs.Select.{one}
 use Rattle.integers.specs.Integer.{natAbs-*}
 use Rattle.refusal.specs.Steps.{Reply, answered}
@@ -18,11 +18,11 @@ use Rattle.columns.specs.Kept.{keptBelow}
 use Rattle.columns.specs.Factor.{Column}
 use Rattle.columns.specs.WholeFactor.{wholeValue, wholeNonzero, wholeStored}
 use Rattle.exact.specs.Checked.{plusProduct, checkedRun}
-use Rattle.entries.specs.Entries.{columnCount, position}
-use Rattle.entries.specs.Position.{columnCount-mono, position-below, position-rises}
+use Rattle.entries.specs.Entries.{position}
+use Rattle.entries.specs.Position.{columnCount-mono, position-rises}
 use Rattle.whole_route.specs.Sums.{wholeAt, withEntry, wholeSum}
 use Rattle.whole_route.specs.Route.{RowsInput}
-use Rattle.whole_route.specs.ColumnSums.{ColumnSums, columnSums, termAt, term, placeOf, BelowAt, CountsAt, SumsInput, SumsDone, SizesWithin, SumsFit, MostFrom, sumOf, Summed}
+use Rattle.whole_route.specs.ColumnSums.{ColumnSums, columnSums, placeOf, BelowAt, CountsAt, SumsInput, SumsDone, SizesWithin, SumsFit, MostFrom, sumOf, Summed}
 use Rattle.whole_route.proofs.SumLaws.{sum-none, sum-next}
 use Rattle.whole_route.proofs.ColumnSumLaws.{whole-sum-plain, term-kept, term-size}
 use Rattle.whole_route.proofs.PairLaws.{Kept, column, row-inside, read-place, read-behind}

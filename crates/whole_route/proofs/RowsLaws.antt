@@ -10,7 +10,7 @@ use lib.ListN.{length, getD, length-set}
 use lib.Seq.{getD-set-same, getD-set-other}
 use lib.IntN.{ℤ, pos}
 use Rattle.lists.specs.Test.{anyIn-all, anyIn-hit, and-both, or-neither-left}
-use Rattle.pairs.specs.ColumnOrder.{columnMarking, setSize, setSize-most}
+use Rattle.pairs.specs.ColumnOrder.{columnMarking, setSize-most}
 use Rattle.pairs.specs.Pair.{maxPairs, pairTotal-small}
 use Rattle.columns.specs.Factor.{neither-below}
 use Rattle.columns.specs.WholeFactor.{wholeDesc}

@@ -1,4 +1,3 @@
-use Prim.Native.Nat.{ℕ}
 use mathlib.Core.Path.{_≡_, sym, ap, ap₂, subst, _∙_}
 use mathlib.Core.Bool.{cond}
 use lib.ListN.{getD, set}
@@ -8,8 +7,6 @@ use mir.Val.{toZ, ofZ}
 use mir.ValLaws.{toZ-ofZ}
 use denote.Ref.{now}
 use borrow.Author.Needs.{needs}
-use Rattle.refusal.specs.Steps.{answered}
-use Rattle.columns.specs.Columns.{start}
 use Rattle.exact.specs.Multiple.{Small}
 use Rattle.exact.specs.Checked.{beyond}
 use Rattle.entries.specs.WholeTable.{wholeTable}

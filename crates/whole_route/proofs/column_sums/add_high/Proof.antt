@@ -1,9 +1,9 @@
-use Prim.Native.Nat.{ℕ, _+_, _^_, _<_}
+use Prim.Native.Nat.{ℕ, _+_, _^_}
 use native.Mathlib.Omega.{arith}
-use mathlib.Core.Path.{_≡_, sym, ap, ap₂, subst, _∙_}
+use mathlib.Core.Path.{_≡_, ap₂, subst, _∙_}
 use lib.Dec.{lit≤}
-use lib.ListN.{getD, set, length-set}
-use lib.IntN.{ℤ, pos, _+ℤ_}
+use lib.ListN.{getD}
+use lib.IntN.{pos, _+ℤ_}
 use mir.Syntax.{w64}
 use mir.Val.{toZ, ofZ}
 use mir.ValLaws.{toZ-ofZ}

@@ -1,6 +1,4 @@
 use native.Mathlib.Omega.{arith}
-use mathlib.Core.Path.{_∙_}
-use borrow.Author.Needs.{needs}
 use Rattle.whole_route.proofs.ColumnSumLaws.{cleared-input, highs-input, sums-done}
 use Rattle.whole_route.proofs.column_sums.store_sums.Statement.{statement}
 use Rattle.whole_route.proofs.column_sums.store_sums.Tie as tie
