@@ -31,8 +31,8 @@ use Rattle.exact.specs.Checked.{beyond, small-within, checkedRun}
 use Rattle.closure_route.proofs.StoredLaws.{later-row, first-less}
 use Rattle.whole_route.specs.Sums.{withEntry, wholeSum}
 use Rattle.whole_route.proofs.SumLaws.{sum-none, sum-next}
-use Rattle.whole_route.specs.ColumnSums.{sumFrom, termAt, ColumnSums, columnSums, keptAt, placeOf, term, lowTerm, highTerm, BelowAt, CountsAt}
-use Rattle.whole_route.specs.ColumnSums.{SumsInput, SumsDone, AddAtInput, withProduct, AddRowsInput, RowsAdded, AddStoredInput, StoredAdded, LowInput, LowAdded}
+use Rattle.whole_route.specs.ColumnSums.{sumFrom, termAt, ColumnSums, columnSums, entryCounts, factorPlace, wholeTerm, lowTerm, highTerm, BelowAt, CountsAt}
+use Rattle.whole_route.specs.ColumnSums.{WholeSumsInput, SumsDone, AddWholeAtInput, withWholeProduct, AddWholeRowsInput, RowsAdded, AddWholeStoredInput, StoredAdded, LowInput, LowAdded}
 use Rattle.whole_route.specs.ColumnSums.{wordTerm, HighTermInput, HighSumInput, AddHighInput, HighAdded, HighsInput, HighsAdded, PartCleared}
 
 -- ---- sums from a place on
@@ -133,56 +133,56 @@ module _ (rows : List ℕ) (values : List ℤ) (j : ℕ) (r : ℕ → ℤ) where
 -- ---- terms of a column's sums
 module _ (x : ColumnSums) where
   -- an entry that is not kept adds nothing
-  pub term-none : (z : List ℤ) (q p : ℕ) → keptAt x p ≡ false → term x z q p ≡ pos 0
-  term-none z q p k = ap (λ (t : Bool). cond t (wholeValue (x .values) p *ℤ getD z (placeOf x q p) (pos 0)) (pos 0)) k
+  pub term-none : (z : List ℤ) (q p : ℕ) → entryCounts x p ≡ false → wholeTerm x z q p ≡ pos 0
+  term-none z q p k = ap (λ (t : Bool). cond t (wholeValue (x .values) p *ℤ getD z (factorPlace x q p) (pos 0)) (pos 0)) k
 
-  pub term-kept : (z : List ℤ) (q p : ℕ) → keptAt x p ≡ true → term x z q p ≡ wholeValue (x .values) p *ℤ getD z (placeOf x q p) (pos 0)
-  term-kept z q p k = ap (λ (t : Bool). cond t (wholeValue (x .values) p *ℤ getD z (placeOf x q p) (pos 0)) (pos 0)) k
+  pub term-kept : (z : List ℤ) (q p : ℕ) → entryCounts x p ≡ true → wholeTerm x z q p ≡ wholeValue (x .values) p *ℤ getD z (factorPlace x q p) (pos 0)
+  term-kept z q p k = ap (λ (t : Bool). cond t (wholeValue (x .values) p *ℤ getD z (factorPlace x q p) (pos 0)) (pos 0)) k
 
   pub low-greater : (z : List ℤ) (q p : ℕ) → row (x .listed) q < row (x .rows) p → lowTerm x z q p ≡ pos 0
-  low-greater z q p h = ap (λ (t : Bool). cond t (pos 0) (term x z q p)) (lt-ltb _ _ h)
+  low-greater z q p h = ap (λ (t : Bool). cond t (pos 0) (wholeTerm x z q p)) (lt-ltb _ _ h)
 
-  pub low-is : (z : List ℤ) (q p : ℕ) → row (x .rows) p ≤ row (x .listed) q → lowTerm x z q p ≡ term x z q p
-  low-is z q p h = ap (λ (t : Bool). cond t (pos 0) (term x z q p)) (le-ltb _ _ h)
+  pub low-is : (z : List ℤ) (q p : ℕ) → row (x .rows) p ≤ row (x .listed) q → lowTerm x z q p ≡ wholeTerm x z q p
+  low-is z q p h = ap (λ (t : Bool). cond t (pos 0) (wholeTerm x z q p)) (le-ltb _ _ h)
 
-  pub high-is : (z : List ℤ) (q p : ℕ) → row (x .listed) q < row (x .rows) p → highTerm x z q p ≡ term x z q p
-  high-is z q p h = ap (λ (t : Bool). cond t (term x z q p) (pos 0)) (lt-ltb _ _ h)
+  pub high-is : (z : List ℤ) (q p : ℕ) → row (x .listed) q < row (x .rows) p → highTerm x z q p ≡ wholeTerm x z q p
+  high-is z q p h = ap (λ (t : Bool). cond t (wholeTerm x z q p) (pos 0)) (lt-ltb _ _ h)
 
   pub high-none : (z : List ℤ) (q p : ℕ) → row (x .rows) p ≤ row (x .listed) q → highTerm x z q p ≡ pos 0
-  high-none z q p h = ap (λ (t : Bool). cond t (term x z q p) (pos 0)) (le-ltb _ _ h)
+  high-none z q p h = ap (λ (t : Bool). cond t (wholeTerm x z q p) (pos 0)) (le-ltb _ _ h)
 
   -- a kept entry is below the diagonal
-  pub kept-below : (p : ℕ) → keptAt x p ≡ true → x .j < row (x .rows) p
+  pub kept-below : (p : ℕ) → entryCounts x p ≡ true → x .j < row (x .rows) p
   kept-below p k = ltb-true (x .j) (row (x .rows) p) (and-left (ltb (x .j) (row (x .rows) p)) (wholeNonzero (x .values) p) k)
 
-  pub low-high : (z : List ℤ) (q p : ℕ) → lowTerm x z q p +ℤ highTerm x z q p ≡ term x z q p
+  pub low-high : (z : List ℤ) (q p : ℕ) → lowTerm x z q p +ℤ highTerm x z q p ≡ wholeTerm x z q p
   low-high z q p = go (ltb (row (x .listed) q) (row (x .rows) p))
     where
-      go : (t : Bool) → cond t (pos 0) (term x z q p) +ℤ cond t (term x z q p) (pos 0) ≡ term x z q p
-      go true = +ℤ-idl (term x z q p)
-      go false = +ℤ-idr (term x z q p)
+      go : (t : Bool) → cond t (pos 0) (wholeTerm x z q p) +ℤ cond t (wholeTerm x z q p) (pos 0) ≡ wholeTerm x z q p
+      go true = +ℤ-idl (wholeTerm x z q p)
+      go false = +ℤ-idr (wholeTerm x z q p)
 
 -- two lists that are the same behind the sums
 abbrev pub SameBehind : ColumnSums → List ℤ → List ℤ → Type 0
 SameBehind x z₀ z = (k : ℕ) → x .first + x .count ≤ k → getD z k (pos 0) ≡ getD z₀ k (pos 0)
 
-module _ {x : ColumnSums} {b : ℕ} {z₀ : List ℤ} (I : SumsInput x b z₀) where
+module _ {x : ColumnSums} {b : ℕ} {z₀ : List ℤ} (I : WholeSumsInput x b z₀) where
   -- terms read behind the sums
-  pub term-same : (z : List ℤ) → SameBehind x z₀ z → (q p : ℕ) → BelowAt x q → x .s ≤ p → p < x .e → term x z q p ≡ term x z₀ q p
-  term-same z A q p B lo hi = go (keptAt x p) refl
+  pub term-same : (z : List ℤ) → SameBehind x z₀ z → (q p : ℕ) → BelowAt x q → x .s ≤ p → p < x .e → wholeTerm x z q p ≡ wholeTerm x z₀ q p
+  term-same z A q p B lo hi = go (entryCounts x p) refl
     where
-      go : (t : Bool) → keptAt x p ≡ t
-          → cond t (wholeValue (x .values) p *ℤ getD z (placeOf x q p) (pos 0)) (pos 0) ≡ cond t (wholeValue (x .values) p *ℤ getD z₀ (placeOf x q p) (pos 0)) (pos 0)
-      go true k = ap (λ (y : ℤ). wholeValue (x .values) p *ℤ y) (A (placeOf x q p) (I .behind q p B (lo, hi, k)))
+      go : (t : Bool) → entryCounts x p ≡ t
+          → cond t (wholeValue (x .values) p *ℤ getD z (factorPlace x q p) (pos 0)) (pos 0) ≡ cond t (wholeValue (x .values) p *ℤ getD z₀ (factorPlace x q p) (pos 0)) (pos 0)
+      go true k = ap (λ (y : ℤ). wholeValue (x .values) p *ℤ y) (A (factorPlace x q p) (I .behind q p B (lo, hi, k)))
       go false k = refl
 
   pub low-same : (z : List ℤ) → SameBehind x z₀ z → (q p : ℕ) → q < x .count → x .s ≤ p → p < x .e → lowTerm x z q p ≡ lowTerm x z₀ q p
   low-same z A q p h lo hi = elim (decLe (row (x .rows) p) (row (x .listed) q)) [
-    | yes le ↦ low-is x z q p le ∙ go (keptAt x p) refl le ∙ sym (low-is x z₀ q p le)
+    | yes le ↦ low-is x z q p le ∙ go (entryCounts x p) refl le ∙ sym (low-is x z₀ q p le)
     | no gt ↦ low-greater x z q p (omega arith) ∙ sym (low-greater x z₀ q p (omega arith))
   ]
     where
-      go : (t : Bool) → keptAt x p ≡ t → row (x .rows) p ≤ row (x .listed) q → term x z q p ≡ term x z₀ q p
+      go : (t : Bool) → entryCounts x p ≡ t → row (x .rows) p ≤ row (x .listed) q → wholeTerm x z q p ≡ wholeTerm x z₀ q p
       go true k le = term-same z A q p (h, omega (arith, kept-below x p k)) lo hi
       go false k le = term-none x z q p k ∙ sym (term-none x z₀ q p k)
 
@@ -190,29 +190,29 @@ module _ {x : ColumnSums} {b : ℕ} {z₀ : List ℤ} (I : SumsInput x b z₀) w
   high-same z A q p B lo hi = ap (λ (y : ℤ). cond (ltb (row (x .listed) q) (row (x .rows) p)) y (pos 0)) (term-same z A q p B lo hi)
 
   -- their sizes
-  pub term-size : (q p : ℕ) → BelowAt x q → x .s ≤ p → p < x .e → natAbs (term x z₀ q p) ≤ b
-  term-size q p B lo hi = go (keptAt x p) refl
+  pub term-size : (q p : ℕ) → BelowAt x q → x .s ≤ p → p < x .e → natAbs (wholeTerm x z₀ q p) ≤ b
+  term-size q p B lo hi = go (entryCounts x p) refl
     where
-      go : (t : Bool) → keptAt x p ≡ t → natAbs (term x z₀ q p) ≤ b
+      go : (t : Bool) → entryCounts x p ≡ t → natAbs (wholeTerm x z₀ q p) ≤ b
       go true k = I .within q p B (lo, hi, k)
       go false k = subst (λ (y : ℤ). natAbs y ≤ b) (sym (term-none x z₀ q p k)) (omega arith)
 
   low-size : (q p : ℕ) → BelowAt x q → x .s ≤ p → p < x .e → natAbs (lowTerm x z₀ q p) ≤ b
   low-size q p B lo hi = go (ltb (row (x .listed) q) (row (x .rows) p))
     where
-      go : (t : Bool) → natAbs (cond t (pos 0) (term x z₀ q p)) ≤ b
+      go : (t : Bool) → natAbs (cond t (pos 0) (wholeTerm x z₀ q p)) ≤ b
       go true = omega arith
       go false = term-size q p B lo hi
 
   high-size : (q p : ℕ) → BelowAt x q → x .s ≤ p → p < x .e → natAbs (highTerm x z₀ q p) ≤ b
   high-size q p B lo hi = go (ltb (row (x .listed) q) (row (x .rows) p))
     where
-      go : (t : Bool) → natAbs (cond t (term x z₀ q p) (pos 0)) ≤ b
+      go : (t : Bool) → natAbs (cond t (wholeTerm x z₀ q p) (pos 0)) ≤ b
       go true = term-size q p B lo hi
       go false = omega arith
 
   -- so all are small
-  pub term-small : (q p : ℕ) → BelowAt x q → x .s ≤ p → p < x .e → Small (term x z₀ q p)
+  pub term-small : (q p : ℕ) → BelowAt x q → x .s ≤ p → p < x .e → Small (wholeTerm x z₀ q p)
   term-small q p B lo hi =
       let d : 1 ≤ x .e - x .s = omega arith in
       let w : b ≡ 1 * b = omega arith in
@@ -226,12 +226,12 @@ module _ {x : ColumnSums} {b : ℕ} {z₀ : List ℤ} (I : SumsInput x b z₀) w
   high-small q p B h =
       le-trans (sum-from-size (highTerm x z₀ q) (x .s) b p (λ k lo hi. high-size q k B lo (omega arith))) (few-small b (x .s) p (x .e) (I .few) h)
 
-  pub total-small : (q : ℕ) → BelowAt x q → Small (sumFrom (term x z₀ q) (x .s) (x .e))
+  pub total-small : (q : ℕ) → BelowAt x q → Small (sumFrom (wholeTerm x z₀ q) (x .s) (x .e))
   total-small q B =
-      le-trans (sum-from-size (term x z₀ q) (x .s) b (x .e) (λ k lo hi. term-size q k B lo hi)) (I .few)
+      le-trans (sum-from-size (wholeTerm x z₀ q) (x .s) b (x .e) (λ k lo hi. term-size q k B lo hi)) (I .few)
 
-  pub low-high-sum : (q : ℕ) → sumFrom (lowTerm x z₀ q) (x .s) (x .e) +ℤ sumFrom (highTerm x z₀ q) (x .s) (x .e) ≡ sumFrom (term x z₀ q) (x .s) (x .e)
-  low-high-sum q = sum-from-add (lowTerm x z₀ q) (highTerm x z₀ q) (term x z₀ q) (x .s) (x .e) (λ p lo hi. low-high x z₀ q p)
+  pub low-high-sum : (q : ℕ) → sumFrom (lowTerm x z₀ q) (x .s) (x .e) +ℤ sumFrom (highTerm x z₀ q) (x .s) (x .e) ≡ sumFrom (wholeTerm x z₀ q) (x .s) (x .e)
+  low-high-sum q = sum-from-add (lowTerm x z₀ q) (highTerm x z₀ q) (wholeTerm x z₀ q) (x .s) (x .e) (λ p lo hi. low-high x z₀ q p)
 
 -- ---- numbers that are cleared
 pub part-none : (first : ℕ) (z : List ℤ) → PartCleared first first z z
@@ -256,14 +256,14 @@ rows-none base first from l listed scratch z = record {
   after = λ p h. refl;
 }
 
-module _ {base first from count : ℕ} {l : ℤ} {listed scratch : List ℕ} {z₀ : List ℤ} (I : AddRowsInput base first from count l listed scratch z₀)
+module _ {base first from count : ℕ} {l : ℤ} {listed scratch : List ℕ} {z₀ : List ℤ} (I : AddWholeRowsInput base first from count l listed scratch z₀)
     {m : ℕ} {z : List ℤ} (D : RowsAdded base first from m l listed scratch z₀ z) (lo : from ≤ m) (hi : m < count) where
   -- neither the sum nor the entry was changed
-  product-same : withProduct (first + m) (base + row listed m) l scratch z ≡ withProduct (first + m) (base + row listed m) l scratch z₀
+  product-same : withWholeProduct (first + m) (base + row listed m) l scratch z ≡ withWholeProduct (first + m) (base + row listed m) l scratch z₀
   product-same =
       ap₂ (λ (x y : ℤ). x +ℤ l *ℤ y) (D .after (first + m) (omega arith)) (D .after (getD scratch (base + row listed m) 0) (omega (arith, I .behind m lo hi)))
 
-  pub row-input : AddAtInput (first + m) (base + row listed m) l scratch z
+  pub row-input : AddWholeAtInput (first + m) (base + row listed m) l scratch z
   row-input =
       let w = I .words m lo hi in
       record {
@@ -274,15 +274,15 @@ module _ {base first from count : ℕ} {l : ℤ} {listed scratch : List ℕ} {z�
         sum-small = subst Small (sym product-same) (w .sum-small);
       }
 
-  pub rows-more : {k : ℕ} {z′ : List ℤ} → k ≡ row listed m → z′ ≡ set z (first + m) (withProduct (first + m) (base + k) l scratch z)
+  pub rows-more : {k : ℕ} {z′ : List ℤ} → k ≡ row listed m → z′ ≡ set z (first + m) (withWholeProduct (first + m) (base + k) l scratch z)
       → RowsAdded base first from (m + 1) l listed scratch z₀ z′
   rows-more {k} {z′} e w =
       subst (RowsAdded base first from (m + 1) l listed scratch z₀)
-      (sym (w ∙ ap (λ (h : ℕ). set z (first + m) (withProduct (first + m) (base + h) l scratch z)) e)) (record {
+      (sym (w ∙ ap (λ (h : ℕ). set z (first + m) (withWholeProduct (first + m) (base + h) l scratch z)) e)) (record {
         long = length-set z (first + m) x ∙ D .long;
         added = λ i a b. elim (ℕ-discrete i m) [
           | yes s ↦
-              subst (λ (h : ℕ). getD (set z (first + m) x) (first + h) (pos 0) ≡ withProduct (first + h) (base + row listed h) l scratch z₀) (sym s)
+              subst (λ (h : ℕ). getD (set z (first + m) x) (first + h) (pos 0) ≡ withWholeProduct (first + h) (base + row listed h) l scratch z₀) (sym s)
               (getD-set-same z (first + m) x (pos 0) (omega (arith, D .long, I .fits)) ∙ product-same)
           | no s ↦ getD-set-other z (first + m) (first + i) x (pos 0) (omega arith) ∙ D .added i a (omega arith)
         ];
@@ -291,15 +291,15 @@ module _ {base first from count : ℕ} {l : ℤ} {listed scratch : List ℕ} {z�
       })
     where
       x : ℤ
-      x = withProduct (first + m) (base + row listed m) l scratch z
+      x = withWholeProduct (first + m) (base + row listed m) l scratch z
 
 -- ---- one stored entry
-module _ {x : ColumnSums} {p q : ℕ} {z : List ℤ} (I : AddStoredInput x p q z) where
+module _ {x : ColumnSums} {p q : ℕ} {z : List ℤ} (I : AddWholeStoredInput x p q z) where
   abbrev k : ℕ
   k = row (x .rows) p
 
   -- it adds nothing
-  pub stored-none : keptAt x p ≡ false → StoredAdded x p q q z z
+  pub stored-none : entryCounts x p ≡ false → StoredAdded x p q q z z
   stored-none t = record {
     from = omega arith;
     upto = I .ordered;
@@ -312,22 +312,22 @@ module _ {x : ColumnSums} {p q : ℕ} {z : List ℤ} (I : AddStoredInput x p q z
       none : (i : ℕ) → lowTerm x z i p ≡ pos 0
       none i = go (ltb (row (x .listed) i) (row (x .rows) p))
         where
-          go : (b : Bool) → cond b (pos 0) (term x z i p) ≡ pos 0
+          go : (b : Bool) → cond b (pos 0) (wholeTerm x z i p) ≡ pos 0
           go true = refl
           go false = term-none x z i p t
 
   -- as it is not below the diagonal, or 0
-  pub above-none : k ≤ x .j → keptAt x p ≡ false
+  pub above-none : k ≤ x .j → entryCounts x p ≡ false
   above-none h = ap (λ (b : Bool). b && wholeNonzero (x .values) p) (le-ltb (x .j) k h)
 
-  pub zero-none : wholeNonzero (x .values) p ≡ false → keptAt x p ≡ false
+  pub zero-none : wholeNonzero (x .values) p ≡ false → entryCounts x p ≡ false
   zero-none h = ap (λ (b : Bool). ltb (x .j) k && b) h ∙ go (ltb (x .j) k)
     where
       go : (b : Bool) → (b && false) ≡ false
       go true = refl
       go false = refl
 
-  module _ (kept : keptAt x p ≡ true) {m : ℕ} (F : FirstFrom k (x .listed) q (x .count) m) (base : ℕ) (based : base + k ≡ queueStart (x .n) + colStart (x .n) k) where
+  module _ (kept : entryCounts x p ≡ true) {m : ℕ} (F : FirstFrom k (x .listed) q (x .count) m) (base : ℕ) (based : base + k ≡ queueStart (x .n) + colStart (x .n) k) where
     reached : (i : ℕ) → m ≤ i → i < x .count → k ≤ row (x .listed) i
     reached i lo hi = omega (arith, F .stops (omega arith), later-row (x .listed) 0 (x .count) (I .ascends) m i (omega arith) lo hi)
 
@@ -337,13 +337,13 @@ module _ {x : ColumnSums} {p q : ℕ} {z : List ℤ} (I : AddStoredInput x p q z
     word-is : (i : ℕ) → m ≤ i → i < x .count → base + row (x .listed) i ≡ positionWord (x .n) (row (x .listed) i) k
     word-is i lo hi = word-right (x .n) base (row (x .listed) i) k based (reached i lo hi)
 
-    place-is : (i : ℕ) → m ≤ i → i < x .count → getD (x .scratch) (base + row (x .listed) i) 0 ≡ placeOf x i p
+    place-is : (i : ℕ) → m ≤ i → i < x .count → getD (x .scratch) (base + row (x .listed) i) 0 ≡ factorPlace x i p
     place-is i lo hi = ap (λ (w : ℕ). getD (x .scratch) w 0) (word-is i lo hi)
 
-    product-is : (i : ℕ) → m ≤ i → i < x .count → wholeValue (x .values) p *ℤ getD z (getD (x .scratch) (base + row (x .listed) i) 0) (pos 0) ≡ term x z i p
+    product-is : (i : ℕ) → m ≤ i → i < x .count → wholeValue (x .values) p *ℤ getD z (getD (x .scratch) (base + row (x .listed) i) 0) (pos 0) ≡ wholeTerm x z i p
     product-is i lo hi = ap (λ (w : ℕ). wholeValue (x .values) p *ℤ getD z w (pos 0)) (place-is i lo hi) ∙ sym (term-kept x z i p kept)
 
-    pub stored-rows : AddRowsInput base (x .first) m (x .count) (wholeValue (x .values) p) (x .listed) (x .scratch) z
+    pub stored-rows : AddWholeRowsInput base (x .first) m (x .count) (wholeValue (x .values) p) (x .listed) (x .scratch) z
     stored-rows = record {
       ordered = F .upto;
       long = I .long;
@@ -405,9 +405,9 @@ lows-none {x} {b} {z} L = record {
   later = λ m h. refl;
 }
 
-module _ {x : ColumnSums} {b : ℕ} {z₀ : List ℤ} (I : SumsInput x b z₀) {p q : ℕ} {z : List ℤ} (L : LowAdded x p z₀ z) (lo : x .s ≤ p) (hi : p < x .e)
+module _ {x : ColumnSums} {b : ℕ} {z₀ : List ℤ} (I : WholeSumsInput x b z₀) {p q : ℕ} {z : List ℤ} (L : LowAdded x p z₀ z) (lo : x .s ≤ p) (hi : p < x .e)
     (before : RowsBefore x q p) where
-  pub stored-input : q ≤ x .count → AddStoredInput (entryAt x p) p q z
+  pub stored-input : q ≤ x .count → AddWholeStoredInput (entryAt x p) p q z
   stored-input upto = record {
     small = I .small;
     stored = omega (arith, I .column .stored);
@@ -513,7 +513,7 @@ module _ {x : ColumnSums} {q f : ℕ} {z : List ℤ} (I : AddHighInput x q f z) 
       high-word : (p : ℕ) → m ≤ p → p < x .e → base + row (x .rows) p ≡ positionWord (x .n) i (row (x .rows) p)
       high-word p lo hi = word-left (x .n) base i (row (x .rows) p) based (omega (arith, greater p lo hi))
 
-      high-place : (p : ℕ) → m ≤ p → p < x .e → getD (x .scratch) (base + row (x .rows) p) 0 ≡ placeOf x q p
+      high-place : (p : ℕ) → m ≤ p → p < x .e → getD (x .scratch) (base + row (x .rows) p) 0 ≡ factorPlace x q p
       high-place p lo hi = ap (λ (w : ℕ). getD (x .scratch) w 0) (high-word p lo hi)
 
       counts : (p : ℕ) → m ≤ p → p < x .e → wholeNonzero (x .values) p ≡ true → CountsAt x p
@@ -523,10 +523,10 @@ module _ {x : ColumnSums} {q f : ℕ} {z : List ℤ} (I : AddHighInput x q f z) 
         and-both (ltb (x .j) (row (x .rows) p)) (wholeNonzero (x .values) p) (lt-ltb (x .j) (row (x .rows) p) (omega (arith, B .1, greater p lo hi))) t,
       )
 
-      word-term : (p : ℕ) → m ≤ p → p < x .e → wordTerm base (x .rows) (x .values) (x .scratch) z p ≡ term x z q p
+      word-term : (p : ℕ) → m ≤ p → p < x .e → wordTerm base (x .rows) (x .values) (x .scratch) z p ≡ wholeTerm x z q p
       word-term p lo hi = go (wholeNonzero (x .values) p) refl
         where
-          go : (t : Bool) → wholeNonzero (x .values) p ≡ t → wordTerm base (x .rows) (x .values) (x .scratch) z p ≡ term x z q p
+          go : (t : Bool) → wholeNonzero (x .values) p ≡ t → wordTerm base (x .rows) (x .values) (x .scratch) z p ≡ wholeTerm x z q p
           go true t =
               ap (λ (w : ℕ). wholeValue (x .values) p *ℤ getD z w (pos 0)) (high-place p lo hi) ∙ sym (term-kept x z q p (counts p lo hi t .2))
           go false t =
@@ -586,7 +586,7 @@ module _ {x : ColumnSums} {b : ℕ} {z₀ : List ℤ} (H : HighsInput x b z₀) 
   high-sums p B h = sum-from-cong (highTerm x z q) (highTerm x z₀ q) (x .s) p (λ k lo l. high-same (H .sums) z (D .later) q k B lo (omega arith))
 
   total-is : BelowAt x q
-      → getD z (x .first + q) (pos 0) +ℤ sumFrom (highTerm x z q) (x .s) (x .e) ≡ sumFrom (term x z₀ q) (x .s) (x .e)
+      → getD z (x .first + q) (pos 0) +ℤ sumFrom (highTerm x z q) (x .s) (x .e) ≡ sumFrom (wholeTerm x z₀ q) (x .s) (x .e)
   total-is B = ap₂ _+ℤ_ (D .rest q (omega arith) hi ∙ H .lows q B) (high-sums (x .e) B (omega arith)) ∙ low-high-sum (H .sums) q
 
   pub high-input : x .s ≤ f → f ≤ x .e → AddHighInput x q f z
@@ -614,7 +614,7 @@ module _ {x : ColumnSums} {b : ℕ} {z₀ : List ℤ} (H : HighsInput x b z₀) 
       long = A .long ∙ D .long;
       done = λ i B h. elim (ℕ-discrete i q) [
         | yes s ↦
-            subst (λ (w : ℕ). getD z′ (x .first + w) (pos 0) ≡ sumFrom (term x z₀ w) (x .s) (x .e)) (sym s)
+            subst (λ (w : ℕ). getD z′ (x .first + w) (pos 0) ≡ sumFrom (wholeTerm x z₀ w) (x .s) (x .e)) (sym s)
             (let B′ = subst (BelowAt x) s B in A .added B′ ∙ total-is B′)
         | no s ↦ A .others (x .first + i) (omega arith) ∙ D .done i B (omega arith)
       ];
@@ -629,8 +629,8 @@ module _ {x : ColumnSums} {b : ℕ} {z₀ : List ℤ} (H : HighsInput x b z₀) 
     ]
 
 -- ---- all of it
-module _ {x : ColumnSums} {b : ℕ} {z₀ : List ℤ} (I : SumsInput x b z₀) where
-  sums-same : (z : List ℤ) → length z ≡ length z₀ → SameBehind x z₀ z → SumsInput x b z
+module _ {x : ColumnSums} {b : ℕ} {z₀ : List ℤ} (I : WholeSumsInput x b z₀) where
+  sums-same : (z : List ℤ) → length z ≡ length z₀ → SameBehind x z₀ z → WholeSumsInput x b z
   sums-same z l A = record {
     small = I .small;
     column = I .column;
@@ -666,6 +666,6 @@ module _ {x : ColumnSums} {b : ℕ} {z₀ : List ℤ} (I : SumsInput x b z₀) w
     pub sums-done : {z : List ℤ} → HighsAdded x (x .count) z₂ z → SumsDone x z₀ z
     sums-done D = record {
       long = D .long ∙ L .long ∙ C .long;
-      sums = λ q B. D .done q B (B .0) ∙ sum-from-cong (term x z₂ q) (term x z₀ q) (x .s) (x .e) (λ p lo hi. term-same I z₂ behind q p B lo hi);
+      sums = λ q B. D .done q B (B .0) ∙ sum-from-cong (wholeTerm x z₂ q) (wholeTerm x z₀ q) (x .s) (x .e) (λ p lo hi. term-same I z₂ behind q p B lo hi);
       later = λ t h. D .later t h ∙ behind t h;
     }

@@ -29,7 +29,7 @@ use Rattle.exact.specs.Exceeds.{entryExceeds}
 use Rattle.entries.specs.Entries.{position}
 use Rattle.entries.specs.Position.{columnCount-mono, position-in, position-below, position-rises}
 use Rattle.entries.specs.WholeTable.{wholeTable, wholeDesc-ascend}
-use Rattle.whole_route.specs.Sums.{wholeAt, wholeSum, WholeSumInput}
+use Rattle.whole_route.specs.Sums.{wholeInverseAt, wholeSum, WholeSumInput}
 use Rattle.whole_route.proofs.PairLaws.{Kept, row-below, column, row-inside, pair-member, read-place}
 use Rattle.whole_route.specs.Route.{lastStep, EntryInput}
 
@@ -83,7 +83,7 @@ module _ {n i j q s e : ℕ} {starts rows : List ℕ} {values : List ℤ} {scrat
           least i j k h d l = omega arith
 
   -- so its entry is read
-  read : (p : ℕ) → Kept (E .whole) j p → (wholeAt n scratch work i (row rows p) ≡ at Z i (row rows p)) × Small (at Z i (row rows p))
+  read : (p : ℕ) → Kept (E .whole) j p → (wholeInverseAt n scratch work i (row rows p) ≡ at Z i (row rows p)) × Small (at Z i (row rows p))
   unfolding wholeTable
   read p k =
       let kn = row-inside (E .whole) j jn p (k .0) (k .1) in
@@ -108,15 +108,15 @@ module _ {n i j q s e : ℕ} {starts rows : List ℕ} {values : List ℤ} {scrat
   }
 
   -- the sum is the exact one, or 20
-  each-read : Each (λ k. wholeAt n scratch work i k ≡ at Z i k) (wholeDesc starts rows values j)
+  each-read : Each (λ k. wholeInverseAt n scratch work i k ≡ at Z i k) (wholeDesc starts rows values j)
   each-read =
       each-places (descPlaces starts rows nz j)
       (λ m l.
       let u = select-at (keptBelow rows nz j) (start starts j) (start starts (j + 1)) m (F .starts-rise .rising j jn) l in
       read (getD (descPlaces starts rows nz j) m 0) (u .from, u .below, u .passes) .0)
     where
-      each-places : (l : List ℕ) → ((m : ℕ) → m < length l → wholeAt n scratch work i (row rows (getD l m 0)) ≡ at Z i (row rows (getD l m 0)))
-          → Each (λ k. wholeAt n scratch work i k ≡ at Z i k) (map (wholeStored rows values) l)
+      each-places : (l : List ℕ) → ((m : ℕ) → m < length l → wholeInverseAt n scratch work i (row rows (getD l m 0)) ≡ at Z i (row rows (getD l m 0)))
+          → Each (λ k. wholeInverseAt n scratch work i k ≡ at Z i k) (map (wholeStored rows values) l)
       each-places [] h = tt
       each-places (p ∷ l) h = (h 0 (omega arith), each-places l (λ m o. h (suc m) (omega arith)))
 
@@ -126,10 +126,10 @@ module _ {n i j q s e : ℕ} {starts rows : List ℕ} {values : List ℤ} {scrat
   abbrev exact : ℤ
   exact = dot integers (at Z i) (wholeDesc starts rows values j)
 
-  pub entry-sum-is : wholeSum rows values j (wholeAt n scratch work i) (start starts j) (start starts (j + 1)) ≡ cond steps (refused 20) (answered exact)
+  pub entry-sum-is : wholeSum rows values j (wholeInverseAt n scratch work i) (start starts j) (start starts (j + 1)) ≡ cond steps (refused 20) (answered exact)
   unfolding wholeSum
   entry-sum-is =
-      checked-each (wholeAt n scratch work i) (at Z i) (answered (pos 0)) (wholeDesc starts rows values j) each-read
+      checked-each (wholeInverseAt n scratch work i) (at Z i) (answered (pos 0)) (wholeDesc starts rows values j) each-read
       ∙ checked-run (at Z i) (pos 0) (wholeDesc starts rows values j)
 
   -- the last step gives the table's entry
@@ -161,7 +161,7 @@ module _ {n i j q s e : ℕ} {starts rows : List ℕ} {values : List ℤ} {scrat
           ∙ sym (solves .diagonal-is j (le-refl j, jn))
 
   -- a sum that is beyond, and one that is a number
-  pub entry-stopped : {reply : Reply ℤ} → reply ≡ wholeSum rows values j (wholeAt n scratch work i) (start starts j) (start starts (j + 1)) → reply ≡ refused 20
+  pub entry-stopped : {reply : Reply ℤ} → reply ≡ wholeSum rows values j (wholeInverseAt n scratch work i) (start starts j) (start starts (j + 1)) → reply ≡ refused 20
       → true ≡ entryExceeds (wholeDesc starts rows values) (wholeTable n starts rows values) i j
   unfolding wholeTable
   entry-stopped e r = sym (or-right (beyond (Z i j)) steps (go steps (sym entry-sum-is ∙ sym e ∙ r)))
@@ -170,13 +170,13 @@ module _ {n i j q s e : ℕ} {starts rows : List ℕ} {values : List ℤ} {scrat
       go true p = refl
       go false p = absurd (omega (arith, let z : _≡_ {A = ℕ} 0 1 = cc in z))
 
-  pub entry-number : {x : ℤ} → answered x ≡ wholeSum rows values j (wholeAt n scratch work i) (start starts j) (start starts (j + 1))
+  pub entry-number : {x : ℤ} → answered x ≡ wholeSum rows values j (wholeInverseAt n scratch work i) (start starts j) (start starts (j + 1))
       → (lastStep i j x ≡ wholeTable n starts rows values i j)
       × (beyond (wholeTable n starts rows values i j) ≡ entryExceeds (wholeDesc starts rows values) (wholeTable n starts rows values) i j)
   unfolding wholeTable
   entry-number {x} e = go steps (entry-sum-is) refl
     where
-      go : (b : Bool) → wholeSum rows values j (wholeAt n scratch work i) (start starts j) (start starts (j + 1)) ≡ cond b (refused 20) (answered exact) → steps ≡ b
+      go : (b : Bool) → wholeSum rows values j (wholeInverseAt n scratch work i) (start starts j) (start starts (j + 1)) ≡ cond b (refused 20) (answered exact) → steps ≡ b
           → (lastStep i j x ≡ Z i j) × (beyond (Z i j) ≡ (beyond (Z i j) || steps))
       go true p t = absurd (let w : answered x ≡ refused 20 = e ∙ p in let z : _≡_ {A = ℕ} 0 1 = cc in omega arith)
       go false p t =

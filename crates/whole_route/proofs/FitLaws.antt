@@ -20,9 +20,9 @@ use Rattle.columns.specs.WholeFactor.{wholeValue, wholeNonzero, wholeStored}
 use Rattle.exact.specs.Checked.{plusProduct, checkedRun}
 use Rattle.entries.specs.Entries.{position}
 use Rattle.entries.specs.Position.{columnCount-mono, position-rises}
-use Rattle.whole_route.specs.Sums.{wholeAt, withEntry, wholeSum}
+use Rattle.whole_route.specs.Sums.{wholeInverseAt, withEntry, wholeSum}
 use Rattle.whole_route.specs.Route.{RowsInput}
-use Rattle.whole_route.specs.ColumnSums.{ColumnSums, columnSums, placeOf, BelowAt, CountsAt, SumsInput, SumsDone, SizesWithin, SumsFit, MostFrom, sumOf, Summed}
+use Rattle.whole_route.specs.ColumnSums.{ColumnSums, columnSums, factorPlace, BelowAt, CountsAt, WholeSumsInput, SumsDone, SizesWithin, SumsFit, MostFrom, sumOf, Summed}
 use Rattle.whole_route.proofs.SumLaws.{sum-none, sum-next}
 use Rattle.whole_route.proofs.ColumnSumLaws.{whole-sum-plain, term-kept, term-size}
 use Rattle.whole_route.proofs.PairLaws.{Kept, column, row-inside, read-place, read-behind}
@@ -79,7 +79,7 @@ module _ {n j first count s e : ℕ} {listed starts rows : List ℕ} {values : L
   stored = subst₂ (λ (a b : ℕ). Column rows (length values) a b) (sym (I .start-is)) (sym (I .end-is)) (column (I .whole) j (I .inside))
 
   -- where the entries stand that a sum below the diagonal reads
-  reads : (q p : ℕ) → BelowAt x q → CountsAt x p → (first + count ≤ placeOf x q p) × (placeOf x q p < setSize n S)
+  reads : (q p : ℕ) → BelowAt x q → CountsAt x p → (first + count ≤ factorPlace x q p) × (factorPlace x q p < setSize n S)
   reads q p B C =
       let R = I .rows-are q (B .0) in
       let k : Kept (I .whole) j p = (omega (arith, I .start-is, C .0), omega (arith, I .end-is, C .1), C .2) in (
@@ -90,15 +90,15 @@ module _ {n j first count s e : ℕ} {listed starts rows : List ℕ} {values : L
   -- lists that are the same behind the column give the same sums
   pub sum-same : (z z′ : List ℤ) → ((p : ℕ) → first + count ≤ p → getD z′ p (pos 0) ≡ getD z p (pos 0)) → (q : ℕ) → BelowAt x q → sumOf x z q ≡ sumOf x z′ q
   sum-same z z′ A q B =
-      whole-sum-same rows values j (wholeAt n scratch z (row listed q)) (wholeAt n scratch z′ (row listed q)) s e
-      (λ p lo hi k. sym (A (placeOf x q p) (reads q p B (lo, hi, k) .0))) (stored .ordered)
+      whole-sum-same rows values j (wholeInverseAt n scratch z (row listed q)) (wholeInverseAt n scratch z′ (row listed q)) s e
+      (λ p lo hi k. sym (A (factorPlace x q p) (reads q p B (lo, hi, k) .0))) (stored .ordered)
 
   -- none is stored
   pub unsummed : Summed x false work work
   unsummed = record { long = refl; sums = λ t. absurd (false≢true t); later = λ p h. refl }
 
   module _ {most : ℕ} (M : MostFrom (first + count) most (setSize n S) work) (F : SumsFit s e most values) where
-    pub sums-input : SumsInput x (F .greatest * most) work
+    pub sums-input : WholeSumsInput x (F .greatest * most) work
     sums-input = record {
       small = I .whole .small;
       column = stored;
@@ -112,8 +112,8 @@ module _ {n j first count s e : ℕ} {listed starts rows : List ℕ} {values : L
       known = λ q p B C. omega (arith, reads q p B C .1, I .fits);
       within = λ q p B C.
           subst (λ (k : ℕ). k ≤ F .greatest * most)
-          (sym (ap natAbs (term-kept x work q p (C .2)) ∙ natAbs-* (wholeValue values p) (getD work (placeOf x q p) (pos 0))))
-          (mul-le-mul (F .sizes p (C .0) (C .1)) (M (placeOf x q p) (reads q p B C .0) (reads q p B C .1)));
+          (sym (ap natAbs (term-kept x work q p (C .2)) ∙ natAbs-* (wholeValue values p) (getD work (factorPlace x q p) (pos 0))))
+          (mul-le-mul (F .sizes p (C .0) (C .1)) (M (factorPlace x q p) (reads q p B C .0) (reads q p B C .1)));
       few = F .few;
     }
       where
@@ -135,7 +135,7 @@ module _ {n j first count s e : ℕ} {listed starts rows : List ℕ} {values : L
       sums = λ t q B.
           ap (λ (y : ℤ). answered y) (D .sums q B)
           ∙ sym
-          (whole-sum-plain rows values j (wholeAt n scratch work (row listed q)) s e (F .greatest * most) (F .few) (λ p lo hi. term-size sums-input q p B lo hi)
+          (whole-sum-plain rows values j (wholeInverseAt n scratch work (row listed q)) s e (F .greatest * most) (F .few) (λ p lo hi. term-size sums-input q p B lo hi)
           (stored .ordered));
       later = D .later;
     }

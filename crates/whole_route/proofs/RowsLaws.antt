@@ -21,8 +21,8 @@ use Rattle.entries.specs.Entries.{columnCount, position}
 use Rattle.entries.specs.Position.{columnCount-mono, position-in, position-below, position-rises}
 use Rattle.entries.specs.WholeTable.{wholeTable}
 use Rattle.refusal.specs.Steps.{answered}
-use Rattle.whole_route.specs.Sums.{wholeAt, wholeSum}
-use Rattle.whole_route.specs.ColumnSums.{columnSums, Summed, SumsStored}
+use Rattle.whole_route.specs.Sums.{wholeInverseAt, wholeSum}
+use Rattle.whole_route.specs.ColumnSums.{columnSums, Summed, WholeSumsStored}
 use Rattle.whole_route.proofs.FitLaws.{sum-same}
 use Rattle.whole_route.specs.Route.{WholesFrom, EntryInput, EntryDone, RowsInput, RowsDone}
 
@@ -104,8 +104,8 @@ module _ {n j first count s e : ℕ} {listed starts rows : List ℕ} {values : L
         }
 
     -- its sum, where the sums stand in the list
-    pub row-sum : {summed : Bool} → SumsStored (columnSums n j first count s e listed rows values scratch) summed work₀
-        → summed ≡ true → j < i → answered (getD work (first + q) (pos 0)) ≡ wholeSum rows values j (wholeAt n scratch work i) s e
+    pub row-sum : {summed : Bool} → WholeSumsStored (columnSums n j first count s e listed rows values scratch) summed work₀
+        → summed ≡ true → j < i → answered (getD work (first + q) (pos 0)) ≡ wholeSum rows values j (wholeInverseAt n scratch work i) s e
     row-sum stored t b =
         ap (λ (y : ℤ). answered y) (L .before (first + q) (omega arith)) ∙ stored t q (h, b)
         ∙ sum-same I work₀ work (λ p o. L .rest p (omega (arith, I .count-is))) q (h, b)
@@ -195,7 +195,7 @@ module _ {n j first count s e : ℕ} {listed starts rows : List ℕ} {values : L
     later = λ r c o l t k. let w = I .later r c o l t k in (D .later (position n (columnMarking n scratch) r c) k ∙ w .0, w .1);
   }
 
-  pub sums-kept : SumsStored (columnSums n j first count s e listed rows values scratch) summed z
+  pub sums-kept : WholeSumsStored (columnSums n j first count s e listed rows values scratch) summed z
   sums-kept t q B = D .sums t q B ∙ sum-same I work z (D .later) q B
 
   pub rows-since : {w : List ℤ} {b : Bool} → RowsDone n j first starts rows values scratch z w b → RowsDone n j first starts rows values scratch work w b

@@ -19,7 +19,7 @@ use Rattle.columns.specs.Factor.{Ascends, Column}
 use Rattle.columns.specs.WholeFactor.{wholeValue, wholeNonzero}
 use Rattle.exact.specs.Multiple.{Small}
 use Rattle.refusal.specs.Steps.{Reply, answered}
-use Rattle.whole_route.specs.Sums.{wholeAt, wholeSum}
+use Rattle.whole_route.specs.Sums.{wholeInverseAt, wholeSum}
 
 -- the numbers from s to below p of a function, added
 abbrev pub sumFrom : (ℕ → ℤ) → ℕ → ℕ → ℤ
@@ -60,23 +60,23 @@ columnSums n j first count s e listed rows values scratch = record {
 
 module _ (x : ColumnSums) where
   -- the stored entry at p counts
-  abbrev pub keptAt : ℕ → Bool
-  keptAt p = keptBelow (x .rows) (wholeNonzero (x .values)) (x .j) p
+  abbrev pub entryCounts : ℕ → Bool
+  entryCounts p = keptBelow (x .rows) (wholeNonzero (x .values)) (x .j) p
 
   -- where the inverse's entry stands with which it is multiplied, in the sum of the row at q
-  abbrev pub placeOf : ℕ → ℕ → ℕ
-  placeOf q p = positionAt (x .n) (x .scratch) (row (x .listed) q) (row (x .rows) p)
+  abbrev pub factorPlace : ℕ → ℕ → ℕ
+  factorPlace q p = positionAt (x .n) (x .scratch) (row (x .listed) q) (row (x .rows) p)
 
   -- what it adds to that sum, with the inverse's entries in a list
-  abbrev pub term : List ℤ → ℕ → ℕ → ℤ
-  term z q p = termAt (x .rows) (x .values) (x .j) (wholeAt (x .n) (x .scratch) z (row (x .listed) q)) p
+  abbrev pub wholeTerm : List ℤ → ℕ → ℕ → ℤ
+  wholeTerm z q p = termAt (x .rows) (x .values) (x .j) (wholeInverseAt (x .n) (x .scratch) z (row (x .listed) q)) p
 
   -- the same where its row is up to that of the sum, and where it is greater
   abbrev pub lowTerm : List ℤ → ℕ → ℕ → ℤ
-  lowTerm z q p = cond (ltb (row (x .listed) q) (row (x .rows) p)) (pos 0) (term z q p)
+  lowTerm z q p = cond (ltb (row (x .listed) q) (row (x .rows) p)) (pos 0) (wholeTerm z q p)
 
   abbrev pub highTerm : List ℤ → ℕ → ℕ → ℤ
-  highTerm z q p = cond (ltb (row (x .listed) q) (row (x .rows) p)) (term z q p) (pos 0)
+  highTerm z q p = cond (ltb (row (x .listed) q) (row (x .rows) p)) (wholeTerm z q p) (pos 0)
 
   -- q is the place in the list of a row below the diagonal
   abbrev pub BelowAt : ℕ → Type 0
@@ -84,10 +84,10 @@ module _ (x : ColumnSums) where
 
   -- p is the place of a stored entry that counts
   abbrev pub CountsAt : ℕ → Type 0
-  CountsAt p = (x .s ≤ p) × (p < x .e) × (keptAt p ≡ true)
+  CountsAt p = (x .s ≤ p) × (p < x .e) × (entryCounts p ≡ true)
 
 -- sums that can be taken without a test: every product is of at most b in size, and there are too few for a sum of them to exceed 2 ^ 53
-pub record SumsInput (x : ColumnSums) (b : ℕ) (z : List ℤ) : Type 0 where
+pub record WholeSumsInput (x : ColumnSums) (b : ℕ) (z : List ℤ) : Type 0 where
   pub small : x .n ≤ maxDimension
   pub column : Column (x .rows) (length (x .values)) (x .s) (x .e)
   pub inside : (p : ℕ) → x .s ≤ p → p < x .e → row (x .rows) p < x .n
@@ -96,15 +96,15 @@ pub record SumsInput (x : ColumnSums) (b : ℕ) (z : List ℤ) : Type 0 where
   pub fits : x .first + x .count ≤ length z
   pub rows-inside : (q : ℕ) → q < x .count → (x .j ≤ row (x .listed) q) × (row (x .listed) q < x .n)
   pub ascends : Ascends (x .listed) 0 (x .count)
-  pub behind : (q p : ℕ) → BelowAt x q → CountsAt x p → x .first + x .count ≤ placeOf x q p
-  pub known : (q p : ℕ) → BelowAt x q → CountsAt x p → placeOf x q p < length z
-  pub within : (q p : ℕ) → BelowAt x q → CountsAt x p → natAbs (term x z q p) ≤ b
+  pub behind : (q p : ℕ) → BelowAt x q → CountsAt x p → x .first + x .count ≤ factorPlace x q p
+  pub known : (q p : ℕ) → BelowAt x q → CountsAt x p → factorPlace x q p < length z
+  pub within : (q p : ℕ) → BelowAt x q → CountsAt x p → natAbs (wholeTerm x z q p) ≤ b
   pub few : (x .e - x .s) * b ≤ 2 ^ 53
 
 -- the sums of the rows below the diagonal are stored, and the entries behind the column are as they were
 pub record SumsDone (x : ColumnSums) (z₀ z : List ℤ) : Type 0 where
   pub long : length z ≡ length z₀
-  pub sums : (q : ℕ) → BelowAt x q → getD z (x .first + q) (pos 0) ≡ sumFrom (term x z₀ q) (x .s) (x .e)
+  pub sums : (q : ℕ) → BelowAt x q → getD z (x .first + q) (pos 0) ≡ sumFrom (wholeTerm x z₀ q) (x .s) (x .e)
   pub later : (p : ℕ) → x .first + x .count ≤ p → getD z p (pos 0) ≡ getD z₀ p (pos 0)
 
 -- the numbers from first to below last are 0, and those from last on as they were
@@ -116,7 +116,7 @@ pub record PartCleared (first last : ℕ) (z₀ z : List ℤ) : Type 0 where
 -- ---- one product
 
 -- the number at a place and the one whose position is the word, with which l is multiplied
-pub record AddAtInput (place word : ℕ) (l : ℤ) (scratch : List ℕ) (z : List ℤ) : Type 0 where
+pub record AddWholeAtInput (place word : ℕ) (l : ℤ) (scratch : List ℕ) (z : List ℤ) : Type 0 where
   pub fits : place < length z
   pub inside : word < length scratch
   pub known : getD scratch word 0 < length z
@@ -124,28 +124,28 @@ pub record AddAtInput (place word : ℕ) (l : ℤ) (scratch : List ℕ) (z : Lis
   pub sum-small : Small (getD z place (pos 0) +ℤ l *ℤ getD z (getD scratch word 0) (pos 0))
 
 -- the number at a place, with that product
-abbrev pub withProduct : ℕ → ℕ → ℤ → List ℕ → List ℤ → ℤ
-withProduct place word l scratch z = getD z place (pos 0) +ℤ l *ℤ getD z (getD scratch word 0) (pos 0)
+abbrev pub withWholeProduct : ℕ → ℕ → ℤ → List ℕ → List ℤ → ℤ
+withWholeProduct place word l scratch z = getD z place (pos 0) +ℤ l *ℤ getD z (getD scratch word 0) (pos 0)
 
 -- the sums from the row at `from` on and the inverse's entries for those rows, whose positions are `base` words past the rows
-pub record AddRowsInput (base first from count : ℕ) (l : ℤ) (listed scratch : List ℕ) (z : List ℤ) : Type 0 where
+pub record AddWholeRowsInput (base first from count : ℕ) (l : ℤ) (listed scratch : List ℕ) (z : List ℤ) : Type 0 where
   pub ordered : from ≤ count
   pub long : count ≤ length listed
   pub fits : first + count ≤ length z
-  pub words : (q : ℕ) → from ≤ q → q < count → AddAtInput (first + q) (base + row listed q) l scratch z
+  pub words : (q : ℕ) → from ≤ q → q < count → AddWholeAtInput (first + q) (base + row listed q) l scratch z
   pub behind : (q : ℕ) → from ≤ q → q < count → first + count ≤ getD scratch (base + row listed q) 0
 
 -- each of them with its product; all other numbers as they were
 pub record RowsAdded (base first from q : ℕ) (l : ℤ) (listed scratch : List ℕ) (z₀ z : List ℤ) : Type 0 where
   pub long : length z ≡ length z₀
-  pub added : (i : ℕ) → from ≤ i → i < q → getD z (first + i) (pos 0) ≡ withProduct (first + i) (base + row listed i) l scratch z₀
+  pub added : (i : ℕ) → from ≤ i → i < q → getD z (first + i) (pos 0) ≡ withWholeProduct (first + i) (base + row listed i) l scratch z₀
   pub before : (p : ℕ) → p < first + from → getD z p (pos 0) ≡ getD z₀ p (pos 0)
   pub after : (p : ℕ) → first + q ≤ p → getD z p (pos 0) ≡ getD z₀ p (pos 0)
 
 -- ---- the stored entries up to the sums' rows
 
 -- the stored entry at p, whose product may be added to the sums; the rows before q are less than its row
-pub record AddStoredInput (x : ColumnSums) (p q : ℕ) (z : List ℤ) : Type 0 where
+pub record AddWholeStoredInput (x : ColumnSums) (p q : ℕ) (z : List ℤ) : Type 0 where
   pub small : x .n ≤ maxDimension
   pub stored : p < length (x .rows)
   pub weighed : p < length (x .values)
@@ -157,10 +157,10 @@ pub record AddStoredInput (x : ColumnSums) (p q : ℕ) (z : List ℤ) : Type 0 w
   pub rows-inside : (i : ℕ) → i < x .count → (x .j ≤ row (x .listed) i) × (row (x .listed) i < x .n)
   pub ascends : Ascends (x .listed) 0 (x .count)
   pub passed : (i : ℕ) → i < q → row (x .listed) i < row (x .rows) p
-  pub behind : (i : ℕ) → BelowAt x i → keptAt x p ≡ true → x .first + x .count ≤ placeOf x i p
-  pub known : (i : ℕ) → BelowAt x i → keptAt x p ≡ true → placeOf x i p < length z
-  pub product-small : (i : ℕ) → BelowAt x i → keptAt x p ≡ true → Small (term x z i p)
-  pub sum-small : (i : ℕ) → BelowAt x i → keptAt x p ≡ true → row (x .rows) p ≤ row (x .listed) i → Small (getD z (x .first + i) (pos 0) +ℤ term x z i p)
+  pub behind : (i : ℕ) → BelowAt x i → entryCounts x p ≡ true → x .first + x .count ≤ factorPlace x i p
+  pub known : (i : ℕ) → BelowAt x i → entryCounts x p ≡ true → factorPlace x i p < length z
+  pub product-small : (i : ℕ) → BelowAt x i → entryCounts x p ≡ true → Small (wholeTerm x z i p)
+  pub sum-small : (i : ℕ) → BelowAt x i → entryCounts x p ≡ true → row (x .rows) p ≤ row (x .listed) i → Small (getD z (x .first + i) (pos 0) +ℤ wholeTerm x z i p)
 
 -- it is added to each sum whose row is not less; the rows from q to before m are less, and behind the sums all numbers are as they were
 pub record StoredAdded (x : ColumnSums) (p q m : ℕ) (z₀ z : List ℤ) : Type 0 where
@@ -173,7 +173,7 @@ pub record StoredAdded (x : ColumnSums) (p q m : ℕ) (z₀ z : List ℤ) : Type
 
 -- the sums are cleared
 pub record LowInput (x : ColumnSums) (b : ℕ) (z : List ℤ) : Type 0 where
-  pub sums : SumsInput x b z
+  pub sums : WholeSumsInput x b z
   pub cleared : (q : ℕ) → q < x .count → getD z (x .first + q) (pos 0) ≡ pos 0
 
 -- the sums over the stored entries before p, of which those up to the sum's row count
@@ -218,8 +218,8 @@ pub record AddHighInput (x : ColumnSums) (q f : ℕ) (z : List ℤ) : Type 0 whe
   pub from : x .s ≤ f
   pub upto : f ≤ x .e
   pub passed : (p : ℕ) → x .s ≤ p → p < f → row (x .rows) p ≤ row (x .listed) q
-  pub known : (p : ℕ) → BelowAt x q → CountsAt x p → placeOf x q p < length z
-  pub product-small : (p : ℕ) → BelowAt x q → CountsAt x p → Small (term x z q p)
+  pub known : (p : ℕ) → BelowAt x q → CountsAt x p → factorPlace x q p < length z
+  pub product-small : (p : ℕ) → BelowAt x q → CountsAt x p → Small (wholeTerm x z q p)
   pub sum-small : (p : ℕ) → BelowAt x q → x .s ≤ p → p ≤ x .e → Small (sumFrom (highTerm x z q) (x .s) p)
   pub total-small : BelowAt x q → Small (getD z (x .first + q) (pos 0) +ℤ sumFrom (highTerm x z q) (x .s) (x .e))
 
@@ -234,13 +234,13 @@ pub record HighAdded (x : ColumnSums) (q f m : ℕ) (z₀ z : List ℤ) : Type 0
 
 -- the sums have the products up to their rows
 pub record HighsInput (x : ColumnSums) (b : ℕ) (z : List ℤ) : Type 0 where
-  pub sums : SumsInput x b z
+  pub sums : WholeSumsInput x b z
   pub lows : (q : ℕ) → BelowAt x q → getD z (x .first + q) (pos 0) ≡ sumFrom (lowTerm x z q) (x .s) (x .e)
 
 -- the sums before q are whole; the others, and all numbers behind them, are as they were
 pub record HighsAdded (x : ColumnSums) (q : ℕ) (z₀ z : List ℤ) : Type 0 where
   pub long : length z ≡ length z₀
-  pub done : (i : ℕ) → BelowAt x i → i < q → getD z (x .first + i) (pos 0) ≡ sumFrom (term x z₀ i) (x .s) (x .e)
+  pub done : (i : ℕ) → BelowAt x i → i < q → getD z (x .first + i) (pos 0) ≡ sumFrom (wholeTerm x z₀ i) (x .s) (x .e)
   pub rest : (i : ℕ) → q ≤ i → i < x .count → getD z (x .first + i) (pos 0) ≡ getD z₀ (x .first + i) (pos 0)
   pub later : (k : ℕ) → x .first + x .count ≤ k → getD z k (pos 0) ≡ getD z₀ k (pos 0)
 
@@ -263,7 +263,7 @@ MostFrom first most size z = (p : ℕ) → first ≤ p → p < size → natAbs (
 
 -- the sum over column j's stored entries, with the inverse's entries in a list, of the row at q
 abbrev pub sumOf : ColumnSums → List ℤ → ℕ → Reply ℤ
-sumOf x z q = wholeSum (x .rows) (x .values) (x .j) (wholeAt (x .n) (x .scratch) z (row (x .listed) q)) (x .s) (x .e)
+sumOf x z q = wholeSum (x .rows) (x .values) (x .j) (wholeInverseAt (x .n) (x .scratch) z (row (x .listed) q)) (x .s) (x .e)
 
 -- if b, the sums of the rows below the diagonal are stored; the numbers behind the column are as they were
 pub record Summed (x : ColumnSums) (b : Bool) (z₀ z : List ℤ) : Type 0 where
@@ -272,5 +272,5 @@ pub record Summed (x : ColumnSums) (b : Bool) (z₀ z : List ℤ) : Type 0 where
   pub later : (p : ℕ) → x .first + x .count ≤ p → getD z p (pos 0) ≡ getD z₀ p (pos 0)
 
 -- if summed, the sum of each row below the diagonal, as the list has it, is the recurrence's
-abbrev pub SumsStored : ColumnSums → Bool → List ℤ → Type 0
-SumsStored x summed z = summed ≡ true → (q : ℕ) → BelowAt x q → answered (getD z (x .first + q) (pos 0)) ≡ sumOf x z q
+abbrev pub WholeSumsStored : ColumnSums → Bool → List ℤ → Type 0
+WholeSumsStored x summed z = summed ≡ true → (q : ℕ) → BelowAt x q → answered (getD z (x .first + q) (pos 0)) ≡ sumOf x z q

@@ -20,8 +20,8 @@ use Rattle.exact.specs.Checked.{checkedRun, checkedDot}
 use Rattle.columns.specs.WholeFactor.{wholeValue, wholeNonzero, wholeStored}
 
 -- the inverse's entry for the pair of i and k, at the position that stands behind the marks
-abbrev pub wholeAt : ℕ → List ℕ → List ℤ → ℕ → ℕ → ℤ
-wholeAt n s inverse i k = inverseAt (pos 0) n s inverse i k
+abbrev pub wholeInverseAt : ℕ → List ℕ → List ℤ → ℕ → ℕ → ℤ
+wholeInverseAt n s inverse i k = inverseAt (pos 0) n s inverse i k
 
 -- a sum, with the product of the entry at p where it is kept below the diagonal of column j; r k is the inverse's entry for the row k
 abbrev pub withEntry : List ℕ → List ℤ → ℕ → (ℕ → ℤ) → ℕ → Reply ℤ → Reply ℤ
@@ -41,7 +41,7 @@ pub record TermInput (n i j p : ℕ) (rows : List ℕ) (values : List ℤ) (scra
   pub room : queueStart n + pairTotal n ≤ length scratch
   pub known : keptBelow rows (wholeNonzero values) j p ≡ true → positionAt n scratch i (row rows p) < length inverse
   pub factor-small : keptBelow rows (wholeNonzero values) j p ≡ true → Small (wholeValue values p)
-  pub inverse-small : keptBelow rows (wholeNonzero values) j p ≡ true → Small (wholeAt n scratch inverse i (row rows p))
+  pub inverse-small : keptBelow rows (wholeNonzero values) j p ≡ true → Small (wholeInverseAt n scratch inverse i (row rows p))
 
 -- stored entries whose products can be taken
 pub record WholeSumInput (n i j s e : ℕ) (rows : List ℕ) (values : List ℤ) (scratch : List ℕ) (inverse : List ℤ) : Type 0 where
@@ -52,4 +52,4 @@ pub record WholeSumInput (n i j s e : ℕ) (rows : List ℕ) (values : List ℤ)
   pub room : queueStart n + pairTotal n ≤ length scratch
   pub known : (p : ℕ) → s ≤ p → p < e → keptBelow rows (wholeNonzero values) j p ≡ true → positionAt n scratch i (row rows p) < length inverse
   pub factor-small : (p : ℕ) → s ≤ p → p < e → keptBelow rows (wholeNonzero values) j p ≡ true → Small (wholeValue values p)
-  pub inverse-small : (p : ℕ) → s ≤ p → p < e → keptBelow rows (wholeNonzero values) j p ≡ true → Small (wholeAt n scratch inverse i (row rows p))
+  pub inverse-small : (p : ℕ) → s ≤ p → p < e → keptBelow rows (wholeNonzero values) j p ≡ true → Small (wholeInverseAt n scratch inverse i (row rows p))

@@ -8,7 +8,7 @@ ghost use lib.ListN.{length, set};
 ghost use mathlib.Core.Bool.{true};
 ghost use Rattle.pairs.specs.ColumnOrder.{columnMarking, setSize};
 ghost use Rattle.exact.specs.Multiple.{Small};
-ghost use Rattle.whole_route.specs.ColumnSums.{sumFrom, wordTerm, columnSums, withProduct, PartCleared, AddAtInput, AddRowsInput, RowsAdded, AddStoredInput, StoredAdded, LowInput, LowAdded, HighTermInput, HighSumInput, AddHighInput, HighAdded, HighsInput, HighsAdded, SumsInput, SumsDone, SizesWithin, SumsFit, MostFrom, Summed};
+ghost use Rattle.whole_route.specs.ColumnSums.{sumFrom, wordTerm, columnSums, withWholeProduct, PartCleared, AddWholeAtInput, AddWholeRowsInput, RowsAdded, AddWholeStoredInput, StoredAdded, LowInput, LowAdded, HighTermInput, HighSumInput, AddHighInput, HighAdded, HighsInput, HighsAdded, WholeSumsInput, SumsDone, SizesWithin, SumsFit, MostFrom, Summed};
 ghost use Rattle.whole_route.specs.Route.{RowsInput};
 use kept_entries::diagonal::first_from;
 use pair_places::positions::column_base;
@@ -43,8 +43,8 @@ fn clear_part(first: usize, last: usize, work: &mut [i64])
 
 // Adds to the number at a place the product of l and the number whose position is the word.
 fn add_at(place: usize, word: usize, l: i64, scratch: &[u32], work: &mut [i64])
-    requires { ⌜ AddAtInput place word l (now scratch) (now work) ⌝ }
-    ensures { λ _. ⌜ now (work .exit) ≡ set (now (work .entry)) place (withProduct place word l (now (scratch .entry)) (now (work .entry))) ⌝ }
+    requires { ⌜ AddWholeAtInput place word l (now scratch) (now work) ⌝ }
+    ensures { λ _. ⌜ now (work .exit) ≡ set (now (work .entry)) place (withWholeProduct place word l (now (scratch .entry)) (now (work .entry))) ⌝ }
 {
     let position = at(scratch, word);
     let total = plus_product(whole_at(work, place), l, whole_at(work, position));
@@ -62,7 +62,7 @@ fn add_rows(
     scratch: &[u32],
     work: &mut [i64],
 )
-    requires { ⌜ AddRowsInput base first from count l (now listed) (now scratch) (now work) ⌝ }
+    requires { ⌜ AddWholeRowsInput base first from count l (now listed) (now scratch) (now work) ⌝ }
     ensures { λ _. ⌜ RowsAdded base first from count l (now (listed .entry)) (now (scratch .entry)) (now (work .entry)) (now (work .exit)) ⌝ }
 {
     let mut q = from;
@@ -87,7 +87,7 @@ fn add_stored(
     scratch: &[u32],
     work: &mut [i64],
 ) -> usize
-    requires { ⌜ AddStoredInput (columnSums n j first count p (p + 1) (now listed) (now rows) (now values) (now scratch)) p q (now work) ⌝ }
+    requires { ⌜ AddWholeStoredInput (columnSums n j first count p (p + 1) (now listed) (now rows) (now values) (now scratch)) p q (now work) ⌝ }
     ensures { λ m. ⌜ StoredAdded (columnSums n j first count p (p + 1) (now (listed .entry)) (now (rows .entry)) (now (values .entry)) (now (scratch .entry))) p q m
         (now (work .entry)) (now (work .exit)) ⌝ }
 {
@@ -278,7 +278,7 @@ pub fn store_sums(
     scratch: &[u32],
     work: &mut [i64],
 )
-    requires { ⌜ ((b : ℕ) × SumsInput (columnSums n j first count s e (now listed) (now rows) (now values) (now scratch)) b (now work)) ⌝ }
+    requires { ⌜ ((b : ℕ) × WholeSumsInput (columnSums n j first count s e (now listed) (now rows) (now values) (now scratch)) b (now work)) ⌝ }
     ensures { λ _. ⌜ SumsDone (columnSums n j first count s e (now (listed .entry)) (now (rows .entry)) (now (values .entry)) (now (scratch .entry)))
         (now (work .entry)) (now (work .exit)) ⌝ }
 {

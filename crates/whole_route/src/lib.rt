@@ -12,8 +12,8 @@ ghost use Rattle.refusal.specs.Steps.{answered};
 ghost use Rattle.pairs.specs.ColumnOrder.{columnMarking, setSize};
 ghost use Rattle.entries.specs.Entries.{columnCount};
 ghost use Rattle.exact.specs.Multiple.{Small};
-ghost use Rattle.whole_route.specs.Sums.{wholeAt, wholeSum};
-ghost use Rattle.whole_route.specs.ColumnSums.{columnSums, MostFrom, SumsStored};
+ghost use Rattle.whole_route.specs.Sums.{wholeInverseAt, wholeSum};
+ghost use Rattle.whole_route.specs.ColumnSums.{columnSums, MostFrom, WholeSumsStored};
 ghost use Rattle.whole_route.specs.Route.{lastStep, StoreInput, EntryStored, EntryInput, EntryDone, RowsInput, RowsDone, WholeColumnInput, WholeRouteInput, RouteDone};
 use column_sums::greatest_size;
 use column_sums::sum_column;
@@ -89,7 +89,7 @@ fn summed_entry(
     work: &mut [i64],
 ) -> bool
     requires { ⌜ EntryInput n i j q s e (now starts) (now rows) (now values) (now scratch) (now work) ⌝ }
-    requires { ⌜ answered (getD (now work) q (pos 0)) ≡ wholeSum (now rows) (now values) j (wholeAt n (now scratch) (now work) i) s e ⌝ }
+    requires { ⌜ answered (getD (now work) q (pos 0)) ≡ wholeSum (now rows) (now values) j (wholeInverseAt n (now scratch) (now work) i) s e ⌝ }
     ensures { λ b. ⌜ EntryDone n i j q (now (starts .entry)) (now (rows .entry)) (now (values .entry)) (now (work .entry)) (now (work .exit)) b ⌝ }
 {
     let sum = whole_at(work, q);
@@ -112,7 +112,7 @@ fn next_entry(
     work: &mut [i64],
 ) -> bool
     requires { ⌜ EntryInput n i j q s e (now starts) (now rows) (now values) (now scratch) (now work) ⌝ }
-    requires { ⌜ (summed ≡ true → j < i → answered (getD (now work) q (pos 0)) ≡ wholeSum (now rows) (now values) j (wholeAt n (now scratch) (now work) i) s e) ⌝ }
+    requires { ⌜ (summed ≡ true → j < i → answered (getD (now work) q (pos 0)) ≡ wholeSum (now rows) (now values) j (wholeInverseAt n (now scratch) (now work) i) s e) ⌝ }
     ensures { λ b. ⌜ EntryDone n i j q (now (starts .entry)) (now (rows .entry)) (now (values .entry)) (now (work .entry)) (now (work .exit)) b ⌝ }
 {
     if summed {
@@ -141,7 +141,7 @@ fn whole_rows(
     work: &mut [i64],
 ) -> bool
     requires { ⌜ RowsInput n j first count s e (now listed) (now starts) (now rows) (now values) (now scratch) (now work) ⌝ }
-    requires { ⌜ SumsStored (columnSums n j first count s e (now listed) (now rows) (now values) (now scratch)) summed (now work) ⌝ }
+    requires { ⌜ WholeSumsStored (columnSums n j first count s e (now listed) (now rows) (now values) (now scratch)) summed (now work) ⌝ }
     ensures { λ b. ⌜ RowsDone n j first (now (starts .entry)) (now (rows .entry)) (now (values .entry)) (now (scratch .entry)) (now (work .entry)) (now (work .exit)) b ⌝ }
 {
     let mut q = count;

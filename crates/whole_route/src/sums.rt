@@ -7,7 +7,7 @@ ghost use Rattle.pairs.specs.ColumnOrder.{colStart};
 ghost use Rattle.exact.specs.Multiple.{Small};
 ghost use Rattle.exact.specs.Checked.{plusProduct};
 ghost use Rattle.whole_route.specs.Number.{numberReply, sumReply, SmallNumber};
-ghost use Rattle.whole_route.specs.Sums.{wholeAt, withEntry, wholeSum, TermInput, WholeSumInput};
+ghost use Rattle.whole_route.specs.Sums.{wholeInverseAt, withEntry, wholeSum, TermInput, WholeSumInput};
 use pair_places::positions::column_shift;
 use pair_places::positions::pair_position;
 use pair_places::scratch::queue_start;
@@ -70,7 +70,7 @@ fn add_entry(
 ) -> Number
     requires { ⌜ (positions ≡ queueStart n) × (base + i ≡ queueStart n + colStart n i) × SmallNumber (numberReply sum) ⌝ }
     requires { ⌜ TermInput n i j p (now rows) (now values) (now scratch) (now inverse) ⌝ }
-    ensures { λ x. ⌜ numberReply x ≡ withEntry (now (rows .entry)) (now (values .entry)) j (wholeAt n (now (scratch .entry)) (now (inverse .entry)) i) p (numberReply sum) ⌝ }
+    ensures { λ x. ⌜ numberReply x ≡ withEntry (now (rows .entry)) (now (values .entry)) j (wholeInverseAt n (now (scratch .entry)) (now (inverse .entry)) i) p (numberReply sum) ⌝ }
 {
     let k = at(rows, p);
     if k <= j {
@@ -96,7 +96,7 @@ pub fn entry_sum(
     inverse: &[i64],
 ) -> Number
     requires { ⌜ WholeSumInput n i j s e (now rows) (now values) (now scratch) (now inverse) ⌝ }
-    ensures { λ x. ⌜ numberReply x ≡ wholeSum (now (rows .entry)) (now (values .entry)) j (wholeAt n (now (scratch .entry)) (now (inverse .entry)) i) s e ⌝ }
+    ensures { λ x. ⌜ numberReply x ≡ wholeSum (now (rows .entry)) (now (values .entry)) j (wholeInverseAt n (now (scratch .entry)) (now (inverse .entry)) i) s e ⌝ }
 {
     let positions = queue_start(n);
     let base = positions + column_shift(n, i);

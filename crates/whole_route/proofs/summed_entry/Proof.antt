@@ -11,7 +11,7 @@ use Rattle.exact.specs.Multiple.{Small}
 use Rattle.exact.specs.Checked.{beyond}
 use Rattle.entries.specs.WholeTable.{wholeTable}
 use Rattle.whole_route.specs.Number.{SmallNumber}
-use Rattle.whole_route.specs.Sums.{wholeAt, wholeSum}
+use Rattle.whole_route.specs.Sums.{wholeInverseAt, wholeSum}
 use Rattle.whole_route.specs.Route.{lastStep}
 use Rattle.whole_route.proofs.SumLaws.{sum-small}
 use Rattle.whole_route.proofs.EntryLaws.{entry-place, entry-number}
@@ -27,7 +27,7 @@ number-is c = toZ-ofZ w64 (c .whole-at .result) (record { sfits = c .whole-at .o
 number-small : (s : tie.Start) → Small (getD (now (s .args .work)) (s .args .q) (pos 0))
 number-small s =
     let a = s .args in
-    subst SmallNumber (sym (s .pre .1)) (sum-small (now (a .rows)) (now (a .values)) (a .j) (wholeAt (a .n) (now (a .scratch)) (now (a .work)) (a .i)) (a .s) (a .e))
+    subst SmallNumber (sym (s .pre .1)) (sum-small (now (a .rows)) (now (a .values)) (a .j) (wholeInverseAt (a .n) (now (a .scratch)) (now (a .work)) (a .i)) (a .s) (a .e))
 
 whole-at-requires : tie.Need-whole-at-requires
 whole-at-requires c κs = entry-place (c .before .before .before .before .pre .0)
@@ -49,7 +49,7 @@ returns c =
     let a = s .args in
     let E = s .pre .0 in
     let N = entry-number E
-    (s .pre .1 ∙ ap₂ (wholeSum (now (a .rows)) (now (a .values)) (a .j) (wholeAt (a .n) (now (a .scratch)) (now (a .work)) (a .i))) (E .start-is) (E .end-is)) in
+    (s .pre .1 ∙ ap₂ (wholeSum (now (a .rows)) (now (a .values)) (a .j) (wholeInverseAt (a .n) (now (a .scratch)) (now (a .work)) (a .i))) (E .start-is) (E .end-is)) in
     let z : lastStep (a .i) (a .j) (toZ w64 (ofZ w64 (w .whole-at .result))) ≡ wholeTable (a .n) (now (a .starts)) (now (a .rows)) (now (a .values)) (a .i) (a .j) =
     ap (lastStep (a .i) (a .j)) (number-is w) ∙ N .0 in
     record {

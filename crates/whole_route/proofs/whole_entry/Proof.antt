@@ -13,7 +13,7 @@ use Rattle.exact.specs.Multiple.{Small}
 use Rattle.exact.specs.Checked.{beyond}
 use Rattle.entries.specs.WholeTable.{wholeTable}
 use Rattle.whole_route.specs.Number.{numberReply, SmallNumber}
-use Rattle.whole_route.specs.Sums.{wholeAt, wholeSum, WholeSumInput}
+use Rattle.whole_route.specs.Sums.{wholeInverseAt, wholeSum, WholeSumInput}
 use Rattle.whole_route.proofs.SumLaws.{sum-small}
 use Rattle.whole_route.specs.Route.{lastStep}
 use Rattle.whole_route.proofs.EntryLaws.{entry-sum-input, entry-stopped, entry-number}
@@ -31,12 +31,12 @@ begin m = m .before .before .before .before .before
 sum-is : (m : tie.After-entry-sum) →
     let a = begin m .args in
     numberReply (m .entry-sum .result)
-    ≡ wholeSum (now (a .rows)) (now (a .values)) (a .j) (wholeAt (a .n) (now (a .scratch)) (now (a .work)) (a .i)) (start (now (a .starts)) (a .j)) (start (now (a .starts)) (a .j + 1))
+    ≡ wholeSum (now (a .rows)) (now (a .values)) (a .j) (wholeInverseAt (a .n) (now (a .scratch)) (now (a .work)) (a .i)) (start (now (a .starts)) (a .j)) (start (now (a .starts)) (a .j + 1))
 sum-is m =
     let s = begin m in
     let a = s .args in
     m .entry-sum .ensures
-    ∙ ap₂ (wholeSum (now (a .rows)) (now (a .values)) (a .j) (wholeAt (a .n) (now (a .scratch)) (now (a .work)) (a .i))) (s .pre .start-is) (s .pre .end-is)
+    ∙ ap₂ (wholeSum (now (a .rows)) (now (a .values)) (a .j) (wholeInverseAt (a .n) (now (a .scratch)) (now (a .work)) (a .i))) (s .pre .start-is) (s .pre .end-is)
 
 -- where it is a number
 abbrev number : tie.After-known-told → ℤ
@@ -51,7 +51,7 @@ number-small t =
     let a = begin m .args in
     subst SmallNumber (ap numberReply (t .before .sum .given .1))
     (subst SmallNumber (sym (sum-is m))
-    (sum-small (now (a .rows)) (now (a .values)) (a .j) (wholeAt (a .n) (now (a .scratch)) (now (a .work)) (a .i)) (start (now (a .starts)) (a .j)) (start (now (a .starts)) (a .j + 1))))
+    (sum-small (now (a .rows)) (now (a .values)) (a .j) (wholeInverseAt (a .n) (now (a .scratch)) (now (a .work)) (a .i)) (start (now (a .starts)) (a .j)) (start (now (a .starts)) (a .j + 1))))
 
 entry-sum-requires : tie.Need-entry-sum-requires
 entry-sum-requires c κs =

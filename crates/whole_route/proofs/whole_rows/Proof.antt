@@ -10,7 +10,7 @@ use mathlib.Core.Bool.{true}
 use lib.ListN.{length, getD}
 use lib.IntN.{pos}
 use Rattle.refusal.specs.Steps.{answered}
-use Rattle.whole_route.specs.Sums.{wholeAt, wholeSum}
+use Rattle.whole_route.specs.Sums.{wholeInverseAt, wholeSum}
 use Rattle.whole_route.proofs.whole_rows.Statement.{statement}
 use Rattle.whole_route.proofs.whole_rows.Tie as tie
 
@@ -61,7 +61,7 @@ next-entry-requires c κs =
     subst
     (λ (x : ℕ). EntryInput (a .n) x (a .j) (a .first + (t .before .loop .q - 1)) (a .s) (a .e) (now (a .starts)) (now (a .rows)) (now (a .values)) (now (a .scratch)) (t .before .loop .work)
     × (a .summed ≡ true → a .j < x → answered (getD (t .before .loop .work) (a .first + (t .before .loop .q - 1)) (pos 0))
-    ≡ wholeSum (now (a .rows)) (now (a .values)) (a .j) (wholeAt (a .n) (now (a .scratch)) (t .before .loop .work) x) (a .s) (a .e)))
+    ≡ wholeSum (now (a .rows)) (now (a .values)) (a .j) (wholeInverseAt (a .n) (now (a .scratch)) (t .before .loop .work) x) (a .s) (a .e)))
     (sym (m .at .ensures)) (row-input (s .pre .0) (left t) (low t), row-sum (s .pre .0) (left t) (low t) (s .pre .1))
 
 same-length : tie.Need-same-length Inv-loop μ-loop

@@ -9,7 +9,7 @@ use mir.ValLaws.{toZ-ofZ}
 use denote.Ref.{now}
 use borrow.Author.Needs.{needs}
 use Rattle.exact.specs.Multiple.{Small}
-use Rattle.whole_route.specs.ColumnSums.{withProduct}
+use Rattle.whole_route.specs.ColumnSums.{withWholeProduct}
 use Rattle.whole_route.proofs.column_sums.add_at.Statement.{statement}
 use Rattle.whole_route.proofs.column_sums.add_at.Tie as tie
 
@@ -39,7 +39,7 @@ product-is c = let s = begin (c .before .before .before .before) in (λ i. facto
 total-is : (c : tie.After-whole-at2) →
     let a = begin (c .before .before .before .before) .args in
     toZ w64 (ofZ w64 (c .before .before .whole-at .result)) +ℤ toZ w64 (ofZ w64 (a .l)) *ℤ toZ w64 (ofZ w64 (c .whole-at2 .result))
-    ≡ withProduct (a .place) (a .word) (a .l) (now (a .scratch)) (now (a .work))
+    ≡ withWholeProduct (a .place) (a .word) (a .l) (now (a .scratch)) (now (a .work))
 total-is c = (λ i. number-is (c .before .before) i +ℤ product-is c i)
 
 at-requires : tie.Need-at-requires

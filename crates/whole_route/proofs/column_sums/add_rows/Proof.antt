@@ -9,7 +9,7 @@ use mir.ValLaws.{toZ-ofZ}
 use denote.Ref.{now}
 use borrow.Author.Needs.{needs}
 use Rattle.columns.specs.Columns.{row}
-use Rattle.whole_route.specs.ColumnSums.{AddAtInput, AddRowsInput, RowsAdded}
+use Rattle.whole_route.specs.ColumnSums.{AddWholeAtInput, AddWholeRowsInput, RowsAdded}
 use Rattle.whole_route.proofs.ColumnSumLaws.{rows-none, rows-more, row-input}
 use Rattle.whole_route.proofs.column_sums.add_rows.Statement.{statement}
 use Rattle.whole_route.proofs.column_sums.add_rows.Tie as tie
@@ -30,10 +30,10 @@ factor-is s = toZ-ofZ w64 (s .args .l) (s .fits .l)
 
 pre : (s : tie.Start Inv-loop μ-loop) →
     let a = s .args in
-    AddRowsInput (a .base) (a .first) (a .from) (a .count) (toZ w64 (ofZ w64 (a .l))) (now (a .listed)) (now (a .scratch)) (now (a .work))
+    AddWholeRowsInput (a .base) (a .first) (a .from) (a .count) (toZ w64 (ofZ w64 (a .l))) (now (a .listed)) (now (a .scratch)) (now (a .work))
 pre s =
     let a = s .args in
-    subst (λ (l : ℤ). AddRowsInput (a .base) (a .first) (a .from) (a .count) l (now (a .listed)) (now (a .scratch)) (now (a .work))) (sym (factor-is s)) (s .pre)
+    subst (λ (l : ℤ). AddWholeRowsInput (a .base) (a .first) (a .from) (a .count) l (now (a .listed)) (now (a .scratch)) (now (a .work))) (sym (factor-is s)) (s .pre)
 
 loop-holds : tie.Need-loop-holds Inv-loop μ-loop
 loop-holds c = let s = c .before .before in (refl, omega arith, s .pre .ordered, rows-none _ _ _ _ _ _ _)
@@ -48,7 +48,7 @@ at-requires c κs = let P = begin (c .before) .pre in omega (arith, P .long, c .
 asks : (t : tie.In-loop Inv-loop μ-loop) →
     let l = t .before .loop in
     let a = begin (t .before) .args in
-    AddAtInput (a .first + l .q) (a .base + row (now (a .listed)) (l .q)) (toZ w64 (ofZ w64 (a .l))) (now (a .scratch)) (l .work)
+    AddWholeAtInput (a .first + l .q) (a .base + row (now (a .listed)) (l .q)) (toZ w64 (ofZ w64 (a .l))) (now (a .scratch)) (l .work)
 asks t =
     let l = t .before .loop in
     row-input (pre (begin (t .before))) (l .inv .3) (l .inv .1) (t .loop-test .taken)
@@ -61,7 +61,7 @@ add-at-requires c κs =
     let t = c .before .before in
     let a = begin (t .before) .args in
     let l = t .before .loop in
-    subst (λ (k : ℕ). AddAtInput (a .first + l .q) (a .base + k) (toZ w64 (ofZ w64 (a .l))) (now (a .scratch)) (l .work)) (sym (c .before .at .ensures)) (asks t)
+    subst (λ (k : ℕ). AddWholeAtInput (a .first + l .q) (a .base + k) (toZ w64 (ofZ w64 (a .l))) (now (a .scratch)) (l .work)) (sym (c .before .at .ensures)) (asks t)
 
 add-q : tie.Need-add-q Inv-loop μ-loop
 add-q c = search needs

@@ -16,7 +16,7 @@ use Rattle.pairs.specs.ColumnOrder.{colStart}
 use Rattle.columns.specs.Columns.{row}
 use Rattle.columns.specs.Factor.{FirstFrom}
 use Rattle.columns.specs.WholeFactor.{notZero, wholeValue, wholeNonzero}
-use Rattle.whole_route.specs.ColumnSums.{ColumnSums, columnSums, keptAt, AddRowsInput}
+use Rattle.whole_route.specs.ColumnSums.{ColumnSums, columnSums, entryCounts, AddWholeRowsInput}
 use Rattle.whole_route.proofs.ColumnSumLaws.{stored-none, above-none, zero-none, stored-rows, stored-added}
 use Rattle.whole_route.proofs.column_sums.add_stored.Statement.{statement}
 use Rattle.whole_route.proofs.column_sums.add_stored.Tie as tie
@@ -40,7 +40,7 @@ value-is c = toZ-ofZ w64 (c .whole-at .result) (record { sfits = c .whole-at .ok
 tells : (c : tie.After-is-nonzero) → let a = begin (c .before .before .before) .args in wholeNonzero (now (a .values)) (a .p) ≡ c .is-nonzero .result
 tells c = ap notZero (sym (value-is (c .before))) ∙ sym (c .is-nonzero .ensures)
 
-kept : (c : tie.Then2) → keptAt (column (begin (c .before .before .before .before))) (begin (c .before .before .before .before) .args .p) ≡ true
+kept : (c : tie.Then2) → entryCounts (column (begin (c .before .before .before .before))) (begin (c .before .before .before .before) .args .p) ≡ true
 kept c =
     let e = c .before .before .before in
     let a = begin (e .before) .args in
@@ -94,7 +94,7 @@ add-rows-requires c κs =
     let v = t .before .before in
     let s = begin (v .before .before) in
     let a = s .args in
-    subst (λ (l : ℤ). AddRowsInput (b .column-base .result) (a .first) (f .first-from .result) (a .count) l (now (a .listed)) (now (a .scratch)) (now (a .work)))
+    subst (λ (l : ℤ). AddWholeRowsInput (b .column-base .result) (a .first) (f .first-from .result) (a .count) l (now (a .listed)) (now (a .scratch)) (now (a .work)))
     (sym (value-is v)) (stored-rows (s .pre) (kept t) (from f) (b .column-base .result) (base b))
 
 same-length : tie.Need-same-length

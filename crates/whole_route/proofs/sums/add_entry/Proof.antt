@@ -19,7 +19,7 @@ use Rattle.exact.specs.Multiple.{Small}
 use Rattle.exact.specs.Checked.{plusProduct}
 use Rattle.columns.specs.WholeFactor.{notZero, wholeValue, wholeNonzero}
 use Rattle.whole_route.specs.Number.{numberReply}
-use Rattle.whole_route.specs.Sums.{wholeAt}
+use Rattle.whole_route.specs.Sums.{wholeInverseAt}
 use Rattle.whole_route.proofs.SumLaws.{entry-above, entry-zero, entry-kept}
 use Rattle.whole_route.proofs.sums.add_entry.Statement.{statement}
 use Rattle.whole_route.proofs.sums.add_entry.Tie as tie
@@ -28,7 +28,7 @@ abbrev start : tie.After-at → tie.Start
 start a = a .before .before .before
 
 abbrev inverse-row : tie.Start → ℕ → ℤ
-inverse-row s = wholeAt (s .args .n) (now (s .args .scratch)) (now (s .args .inverse)) (s .args .i)
+inverse-row s = wholeInverseAt (s .args .n) (now (s .args .scratch)) (now (s .args .inverse)) (s .args .i)
 
 -- the entry is below the diagonal
 under : (c : tie.Else1) → start (c .before) .args .j < row (now (start (c .before) .args .rows)) (start (c .before) .args .p)

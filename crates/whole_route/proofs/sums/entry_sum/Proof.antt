@@ -7,14 +7,14 @@ use borrow.Author.Needs.{needs}
 use Rattle.refusal.specs.Steps.{Reply}
 use Rattle.pair_places.specs.Position.{shift-fits}
 use Rattle.whole_route.specs.Number.{numberReply, SmallNumber}
-use Rattle.whole_route.specs.Sums.{wholeAt, withEntry, wholeSum}
+use Rattle.whole_route.specs.Sums.{wholeInverseAt, withEntry, wholeSum}
 use Rattle.whole_route.proofs.SumLaws.{sum-none, sum-next, entry-small, term-input}
 use Rattle.whole_route.proofs.sums.entry_sum.Statement.{statement}
 use Rattle.whole_route.proofs.sums.entry_sum.Tie as tie
 
 abbrev Inv-loop : tie.InvT-loop
 Inv-loop n i j s e rows values scratch inverse positions base sum₀ p₀ sum p =
-    (s ≤ p) × (p ≤ e) × (numberReply sum ≡ wholeSum rows values j (wholeAt n scratch inverse i) s p) × SmallNumber (numberReply sum)
+    (s ≤ p) × (p ≤ e) × (numberReply sum ≡ wholeSum rows values j (wholeInverseAt n scratch inverse i) s p) × SmallNumber (numberReply sum)
 
 abbrev μ-loop : tie.MeasureT-loop
 μ-loop n i j s e rows values scratch inverse positions base sum₀ p₀ sum p = e - p
@@ -58,7 +58,7 @@ loop-again c =
     let t = c .before in
     let l = t .before .loop in
     let a = begin (t .before) .args in
-    let r = wholeAt (a .n) (now (a .scratch)) (now (a .inverse)) (a .i) in (
+    let r = wholeInverseAt (a .n) (now (a .scratch)) (now (a .inverse)) (a .i) in (
       omega (arith, l .inv .0),
       omega (arith, t .loop-test .taken),
       c .add-entry .ensures ∙ ap (λ (x : Reply ℤ). withEntry (now (a .rows)) (now (a .values)) (a .j) r (l .p) x) (l .inv .2)
@@ -71,7 +71,7 @@ returns c =
     let l = c .before .loop in
     let a = begin (c .before) .args in
     let e : l .p ≡ a .e = omega (arith, c .loop-test .left, l .inv .1) in
-    l .inv .2 ∙ ap (wholeSum (now (a .rows)) (now (a .values)) (a .j) (wholeAt (a .n) (now (a .scratch)) (now (a .inverse)) (a .i)) (a .s)) e
+    l .inv .2 ∙ ap (wholeSum (now (a .rows)) (now (a .values)) (a .j) (wholeInverseAt (a .n) (now (a .scratch)) (now (a .inverse)) (a .i)) (a .s)) e
 
 pub entry-sum-spec : {M : Type 1} → statement M
 entry-sum-spec =
