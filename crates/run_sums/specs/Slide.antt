@@ -5,7 +5,7 @@ use native.Mathlib.Omega.{arith}
 use native.Mathlib.Nat.{add-zero}
 use mathlib.Core.Path.{_≡_, refl, sym, ap, ap₂, _∙_}
 use lib.IntN.{ℤ, pos, _+ℤ_, _-ℤ_, +ℤ-assoc, +ℤ-comm, +ℤ-idl, +ℤ-idr, +ℤ-negℤ-cancel}
-use Rattle.integers.specs.Sum.{Σℤ, sum-cong, sum-add}
+use Rattle.integers.specs.Sum.{Σℤ, sum-cong, sum-add, sum-first}
 use Rattle.integers.specs.Size.{SizeWithin, size-sums}
 use Rattle.run_sums.specs.Runs.{blockSum}
 
@@ -16,11 +16,6 @@ lineSum E p f m = Σℤ m (λ b. E p (f + b))
 -- what the cell at place p adds to the m cells from f on: its own entry, and twice those with them
 abbrev pub strip : (ℕ → ℕ → ℤ) → ℕ → ℕ → ℕ → ℤ
 strip E p f m = E p p +ℤ (lineSum E p f m +ℤ lineSum E p f m)
-
--- the first term of a sum by itself
-pub sum-first : (n : ℕ) (g : ℕ → ℤ) → Σℤ (suc n) g ≡ g 0 +ℤ Σℤ n (λ k. g (suc k))
-sum-first zero g = +ℤ-idl (g 0) ∙ sym (+ℤ-idr (g 0))
-sum-first (suc n) g = ap (λ (x : ℤ). x +ℤ g (suc n)) (sum-first n g) ∙ +ℤ-assoc (g 0) (Σℤ n (λ k. g (suc k))) (g (suc n))
 
 -- a + s + (s′ + b) as a + (b + (s + s′))
 at-end : (x s t b : ℤ) → (x +ℤ s) +ℤ (t +ℤ b) ≡ x +ℤ (b +ℤ (s +ℤ t))
