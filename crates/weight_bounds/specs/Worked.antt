@@ -5,7 +5,7 @@ use lib.IntN.{ℤ, pos, negsuc}
 use lib.Signed.{_≤ℤ_}
 use Rattle.weight_bounds.specs.Bounds.{InRange, Scaled, lowBound, highBound, variance}
 use Rattle.weight_bounds.specs.Within.{bounds-hold, bounds-scaled}
-use Rattle.weight_bounds.specs.TermBounds.{Term, leastTerm-attained, term-holds}
+use Rattle.weight_bounds.specs.TermBounds.{Term, leastTerm-attained, greatestTerm-attained, term-holds}
 use Rattle.weight_bounds.specs.Wider.{Wider, lowBound-wider, highBound-wider}
 use Rattle.weight_bounds.specs.Single.{lowBound-single}
 use Rattle.weight_bounds.specs.Examples.{F2-entry, lowEnd, highEnd}
@@ -42,6 +42,10 @@ halves-hold = bounds-scaled lowEnd highEnd F2-entry 2 2 halves halves-in-range
 -- the least term of the two places is attained: 2 · 3 · -2
 least-attained : Term lowEnd highEnd F2-entry 0 1 (negsuc 11)
 least-attained = leastTerm-attained lowEnd highEnd F2-entry 0 1 (record { le = tt }) (record { le = tt })
+
+-- and the greatest: -1 · 3 · -2
+greatest-attained : Term lowEnd highEnd F2-entry 0 1 (pos 6)
+greatest-attained = greatestTerm-attained lowEnd highEnd F2-entry 0 1 (record { le = tt }) (record { le = tt })
 
 -- one choice of both: 1 · 1 · -2
 choice : Term lowEnd highEnd F2-entry 0 1 (negsuc 1)
