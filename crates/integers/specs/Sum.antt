@@ -1,9 +1,10 @@
--- Finite sums of integers: equal terms, zero terms, linearity, exchange of two sums, one term. Assumes nothing.
+-- Finite sums of integers: equal terms, zero terms, linearity, exchange of two sums, one term, the last and the first term by themselves. Assumes nothing.
 use mathlib.Core.Path.{_≡_, refl, sym, _∙_, ap, ap₂}
 use mathlib.Core.Logic.{_⊎_, inl, inr, _≢_}
-use Prim.Native.Nat.{ℕ, zero, suc, _<_}
+use Prim.Native.Nat.{ℕ, zero, suc, _+_, _<_}
+use native.Mathlib.Numerals.{add-one}
 use native.Mathlib.Nat.{le-refl, le-step, le-of-suc-le-suc, eq-or-lt-of-le, not-suc-le-zero, ne-of-lt}
-use lib.IntN.{ℤ, pos, negℤ, _+ℤ_, _*ℤ_, +ℤ-idl, +ℤ-idr, negℤ-+ℤ, *ℤ-zero, zero-*ℤ}
+use lib.IntN.{ℤ, pos, negℤ, _+ℤ_, _*ℤ_, +ℤ-assoc, +ℤ-idl, +ℤ-idr, negℤ-+ℤ, *ℤ-zero, zero-*ℤ}
 use Rattle.integers.specs.Integer.{+ℤ-interchange, *ℤ-+ℤ, +ℤ-*ℤ}
 
 -- f 0 + f 1 + .. + f (n - 1)
@@ -54,3 +55,11 @@ sum-single (suc n) j f h z = go (eq-or-lt-of-le (le-of-suc-le-suc h)) (λ l. sum
         ap (λ (x : ℤ). x +ℤ f n) (sum-zero n f (λ k l. z k (le-step l) (λ q. ne-of-lt l (q ∙ e)))) ∙ +ℤ-idl (f n) ∙ ap f (sym e)
     go (inr l) r =
         ap (λ (x : ℤ). Σℤ n f +ℤ x) (z n (le-refl (suc n)) (λ q. ne-of-lt l (sym q))) ∙ +ℤ-idr (Σℤ n f) ∙ r l
+
+-- the last term by itself, and the first
+pub sum-next : (f : ℕ → ℤ) (n : ℕ) → Σℤ (n + 1) f ≡ Σℤ n f +ℤ f n
+sum-next f n = ap (λ (m : ℕ). Σℤ m f) (add-one n)
+
+pub sum-first : (n : ℕ) (f : ℕ → ℤ) → Σℤ (suc n) f ≡ f 0 +ℤ Σℤ n (λ k. f (suc k))
+sum-first zero f = +ℤ-idl (f 0) ∙ sym (+ℤ-idr (f 0))
+sum-first (suc n) f = ap (λ (x : ℤ). x +ℤ f (suc n)) (sum-first n f) ∙ +ℤ-assoc (f 0) (Σℤ n (λ k. f (suc k))) (f (suc n))

@@ -7,7 +7,7 @@ use mathlib.Core.Bool.{Bool, true, false, cond, _&&_, false≢true}
 use mathlib.Core.Logic.{_↔_}
 use mathlib.Core.List.{List, [], _∷_}
 use lib.ListN.{take}
-use lib.IntN.{ℤ, pos}
+use lib.IntN.{ℤ, pos, ℤ-discrete}
 use borrow.Author.Tests.{le-leb, leb-true}
 use Rattle.lists.specs.Test.{and-left, and-right, and-both}
 use Rattle.refusal.specs.Steps.{Step, Reply, refused, answered, Passed, first-hit, passed-front, passed-back, passed-append, append-passed, clear-passed, passed-clear}
@@ -196,3 +196,17 @@ module _ (x : WholeCall) (lent : WholeLent) {reply : Selected} {left : WholeLent
 
         over : (wholeComplete x && exceeds (x .factor .n) (x .factor .starts) (x .factor .rows) (x .factor .values) (wholeSet x)) ≡ true
         over = hit _ not-passed
+
+-- ---- what a lookup finds after a Complete call is X's entry
+answered-same : {y z : ℤ} → answered y ≡ answered z → y ≡ z
+answered-same e = cc
+
+not-refused : {k : ℕ} {z : ℤ} → refused k ≡ answered z → ⊥
+not-refused e = let q : _≡_ {A = ℕ} 0 1 = cc in omega arith
+
+pub reads-found : (x : WholeCall) (left : LentOf ℤ) (X : Matrix) → ReadsWhole x left X → wholeAnswer x .status ≡ Complete
+    → (row col : ℕ) {z : ℤ} → wholeFound x left row col ≡ answered z → z ≡ X row col
+reads-found x left X R complete row col {z} found = elim (ℤ-discrete z (X row col)) [
+  | yes e ↦ e
+  | no n ↦ absurd (not-refused (sym (R .others complete row col (λ p. n (answered-same (sym found ∙ R .members complete row col p)))) ∙ found))
+]

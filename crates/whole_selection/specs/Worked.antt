@@ -45,7 +45,7 @@ use Rattle.whole_selection.specs.ReadBack.{wholeFound, wholeMatrix, With
 use Rattle.whole_selection.specs.Agree.{floatCall}
 use Rattle.whole_selection.specs.Engines.{Agrees, converted, engines-complete}
 
-abbrev F2 : WholeCall
+abbrev pub F2 : WholeCall
 F2 = wholeCall 2 F2-starts F2-rows (pos 1 ∷ pos 2 ∷ pos 1 ∷ []) 2 (0 ∷ []) (0 ∷ []) 3
 
 -- twelve words
@@ -53,14 +53,14 @@ abbrev words : ℕ → List ℕ
 words w = w ∷ w ∷ w ∷ w ∷ w ∷ w ∷ w ∷ w ∷ w ∷ w ∷ w ∷ w ∷ []
 
 -- lists that held other numbers, a place longer than need be
-abbrev before : WholeLent
+abbrev pub before : WholeLent
 before = wholeLent (8 ∷ 8 ∷ 8 ∷ 8 ∷ []) (9 ∷ 9 ∷ 9 ∷ 9 ∷ []) (pos 7 ∷ pos 7 ∷ pos 7 ∷ pos 7 ∷ []) (words 6) (pos 5 ∷ pos 5 ∷ pos 5 ∷ pos 5 ∷ [])
 
 -- Z(0, 0) = 5, Z(1, 0) = -2, Z(1, 1) = 1; scratch and work 0 in their lengths
-abbrev left : WholeLent
+abbrev pub left : WholeLent
 left = wholeLent (0 ∷ 2 ∷ 3 ∷ 8 ∷ []) (0 ∷ 1 ∷ 1 ∷ 9 ∷ []) (pos 5 ∷ negsuc 1 ∷ pos 1 ∷ pos 7 ∷ []) (words 0) (pos 0 ∷ pos 0 ∷ pos 0 ∷ pos 5 ∷ [])
 
-F2-entries : WholeEntries F2 before (Answered (wholeAnswer F2)) left
+pub F2-entries : WholeEntries F2 before (Answered (wholeAnswer F2)) left
 unfolding any anyIn sumTo picked select cells cellCount tabulate overwrite filled factorPairs reach member requested diagnosisOf
     first after pairTotal bitWords scratchWords boundSteps brokenSteps startsSteps rowsSteps columnSteps requestSteps unitSteps missingSteps roomSteps workSteps
     checkSteps exceedSteps setExceeds wholeTable
@@ -80,10 +80,10 @@ unfolding any anyIn placeFrom first columnFaults searchSteps entrySteps entryOf
 F2-outside = refl
 
 -- ---- `whole-reply`: a Complete answer is exact
-F2-exact : (X : Matrix) → WholeInverse 2 (wholeMatrix F2) X → ReadsWhole F2 (left .lists) X
+pub F2-exact : (X : Matrix) → WholeInverse 2 (wholeMatrix F2) X → ReadsWhole F2 (left .lists) X
 F2-exact X is = whole-reply F2 before F2-entries refl X is .1
 
-F2-complete : wholeAnswer F2 .status ≡ Complete
+pub F2-complete : wholeAnswer F2 .status ≡ Complete
 unfolding any sumTo picked select cellCount reach member requested diagnosisOf diagnosis
 F2-complete = refl
 

@@ -54,3 +54,7 @@ beyond-below m (negsuc n) e = same (ltb m n) refl
     same : (b : Bool) → ltb m n ≡ b → ltb m n ≡ ltb (suc m) (suc n)
     same true p = p ∙ sym (lt-ltb (suc m) (suc n) (let l = ltb-true m n p in omega arith))
     same false p = p ∙ sym (le-ltb (suc m) (suc n) (let l = ltb-false m n p in omega arith))
+
+-- and what is read back is of its size
+pub held-size : {z y : ℤ} {k : ℕ} → k ≤ 4611686018427387904 → z ≡ y → SizeWithin k y → SizeWithin k (toZ w64 (ofZ w64 z))
+held-size b e h = size-is (sym (held b e h)) h
