@@ -65,6 +65,7 @@ mod patterns;
 mod permutations;
 mod results;
 mod selected_entries;
+mod whole_variances;
 mod wholes;
 
 pub use chains::dependency_chain;
@@ -82,6 +83,7 @@ pub use selected_entries::{
     selected_inverse_diag_with_diagnostics, selected_inverse_entries, selected_inverse_entries_with_limit,
     selected_inverse_transformed_covariances, selected_inverse_transformed_diag,
 };
+pub use whole_variances::variance_bounds_whole;
 pub use wholes::{
     check_whole_factor, get_whole, selected_inverse_entries_whole, selected_inverse_entries_whole_with_limit,
 };
