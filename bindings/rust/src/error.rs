@@ -76,13 +76,14 @@ pub enum Error {
     /// 19: a diagonal entry other than 1 in a factor of whole numbers; an entry of 0 counts as none.
     DiagonalNotOne,
     /// 20: in whole numbers, an entry of the factor, or a product, running sum or entry of the recurrence, that is beyond
-    /// 2^53 in size; or an entry at cells of a row with ranges that is beyond 2^30.
+    /// 2^53 in size; an entry at cells of a row with ranges that is beyond 2^30, or of a track's run that is beyond 2^40.
     NumberTooLarge,
     /// 21: weights within ranges, with a low one above its high one, one beyond ±1,024, or more than 64 terms.
     BadWeights,
-    /// 22: a width of 0, above 1,024, or above the length of the track. No call gives it yet, nor one of those below.
+    /// 22: a width of 0, above 1,024, or above the length of the track.
     BadWidth,
-    /// 23: a diagonal entry other than 1 in a factor with pivots; an entry of 0.0 counts as none.
+    /// 23: a diagonal entry other than 1 in a factor with pivots; an entry of 0.0 counts as none. No call gives it yet, nor
+    /// the one below.
     PivotDiagonalNotOne,
     /// 24: requests without a pair, of a dimension above 0, that are to be written as a file, where they would mean all
     /// diagonals.
@@ -207,7 +208,8 @@ impl Error {
             Error::DiagonalNotOne => "a diagonal entry of a factor of whole numbers is not 1",
             Error::NumberTooLarge => {
                 "a number is too large in size to be exact: beyond 2^53 an entry of a factor of whole numbers, or a product, \
-                 a running sum or an entry of the recurrence; beyond 2^30 an entry at cells of a row with ranges"
+                 a running sum or an entry of the recurrence; beyond 2^30 an entry at cells of a row with ranges; beyond 2^40 \
+                 one at cells of a track's run"
             }
             Error::BadWeights => {
                 "bad weights: a low one is above its high one, one is beyond 1,024 in size, or there are more than 64"

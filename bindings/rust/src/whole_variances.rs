@@ -1,6 +1,6 @@
-//! Variances over exact entries: bounds of a row whose weights are known within ranges.
+//! Variances over exact entries: bounds of a row whose weights are known within ranges, and the runs of a track.
 
-use crate::index::word;
+use crate::index::{word, words};
 use crate::{lent, Error, WholeSelectedInverse};
 
 /// Bounds on the variance of a row whose weights are known within ranges.
@@ -47,5 +47,30 @@ impl WholeSelectedInverse {
         let lows = ranges.iter().map(|(_, low, _)| *low).collect::<Vec<_>>();
         let highs = ranges.iter().map(|(_, _, high)| *high).collect::<Vec<_>>();
         lent::variance_bounds_whole(self.lists(), &columns, &lows, &highs)
+    }
+    /// The variance of each run of `width` consecutive cells along a track, such as a fairway: the first is that of the sum
+    /// of the track's first `width` cells, the last that of its last. Cells are in the factor's order; one that is listed
+    /// twice counts twice. The track may be of any length.
+    ///
+    /// Refuses with [`Error::BadWidth`] for a width of 0, above 1,024 or above the track's length; with
+    /// [`Error::NotCovered`] for a pair of cells of one run that is not in the closed set, as it is for a cell outside; and
+    /// with [`Error::NumberTooLarge`] for an entry of some run beyond 2^40 in size.
+    ///
+    /// ```
+    /// use redstartgilt::{selected_inverse_entries_whole, SparseSymmetricPattern, WholeFactor};
+    ///
+    /// // The inverse is (10, 3; 3, 1).
+    /// let factor = WholeFactor::new(2, vec![0, 2, 3], vec![0, 1, 1], vec![1, -3, 1])?;
+    /// let selected = selected_inverse_entries_whole(&factor, &SparseSymmetricPattern::diagonal(2))?;
+    /// let inverse = selected.inverse.unwrap();
+    ///
+    /// // 10 + 3 + 3 + 1, then four times 1.
+    /// assert_eq!(inverse.track_variances(&[0, 1, 1], 2)?, [17, 4]);
+    /// # Ok::<(), redstartgilt::Error>(())
+    /// ```
+    pub fn track_variances(&self, track: &[usize], width: usize) -> Result<Vec<i64>, Error> {
+        let mut output = vec![0; lent::track_runs(track.len(), width)];
+        lent::track_variances_whole(self.lists(), &words(track), width, &mut output)?;
+        Ok(output)
     }
 }

@@ -158,7 +158,7 @@ fn sizes_of_bounds() {
             );
         }
         // A square is from 0 to 2^20, each other product from -2^20 on.
-        let (least, most) = (64 * 63 << 50, 1 << 62);
+        let (least, most) = ((64 * 63) << 50, 1 << 62);
         let expected = if sign > 0 { (-least, most) } else { (-most, least) };
         let found = lent::variance_bounds_whole(entries, &columns, &ends[0], &ends[1]).unwrap();
         assert_eq!((found.low, found.high), expected);

@@ -1,4 +1,5 @@
-//! Variances over a result of whole numbers: bounds of a row whose weights are known within ranges.
+//! Variances over a result of whole numbers: bounds of a row whose weights are known within ranges, and the runs
+//! of a track.
 
 use super::EntryLists;
 use crate::{Error, VarianceBounds};
@@ -31,4 +32,31 @@ pub fn variance_bounds_whole(
         low: reply.low,
         high: reply.high,
     })
+}
+
+/// The variance of each run of `width` consecutive cells along a track: `output[i]` is that of the sum of the cells
+/// `track[i]` to `track[i + width - 1]`. A cell that is listed twice counts twice.
+///
+/// `output` needs a place for each run, [`track_runs`](super::track_runs). Refuses with 2 and 3 as
+/// [`check_result`](super::check_result); with 22 for a width of 0, above 1,024 or above the track's length; with 8 for a
+/// pair of cells of one run that is absent, as it is for a cell outside; with 20 for an entry of some run beyond 2^40 in
+/// size; and with 7. Each is told of the whole track before the next, and `output` is then as it was.
+///
+/// ```
+/// use redstartgilt::lent::{self, EntryLists};
+///
+/// // The inverse (10, 3; 3, 1).
+/// let entries = EntryLists { starts: &[0, 2, 3], rows: &[0, 1, 1], values: &[10, 3, 1] };
+/// let mut output = [0; 2];
+/// lent::track_variances_whole(entries, &[0, 1, 1], 2, &mut output)?;
+/// assert_eq!(output, [17, 4]);
+/// # Ok::<(), redstartgilt::Error>(())
+/// ```
+pub fn track_variances_whole(
+    entries: EntryLists<'_, i64>,
+    track: &[u32],
+    width: usize,
+    output: &mut [i64],
+) -> Result<(), Error> {
+    Error::check(lend!(redstartgilt_track_variances_whole: entries(entries) [track] (width) {output}))
 }
