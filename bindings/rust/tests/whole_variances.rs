@@ -252,3 +252,100 @@ fn bounds_by_all_choices() {
     // The bounds are often no variance of a choice.
     assert!(corners_met < met - 100, "{corners_met} of {met}");
 }
+
+/// The answer along a track, with the output of so many places, each 7, afterwards.
+fn along(entries: EntryLists<'_, i64>, track: &[u32], width: usize, places: usize) -> (Result<(), Error>, Vec<i64>) {
+    let mut output = vec![7; places];
+    let answer = lent::track_variances_whole(entries, track, width, &mut output);
+    (answer, output)
+}
+
+#[test]
+fn refusals_of_tracks_in_order() {
+    assert_eq!(along(ENTRIES, &[0, 1, 1], 2, 3), (Ok(()), vec![17, 4, 7]));
+    let refused = |entries, track: &[u32], width, places, error| {
+        assert_eq!(
+            along(entries, track, width, places),
+            (Err(error), vec![7; places]),
+            "{track:?} {width}"
+        );
+    };
+    let no_starts = EntryLists { starts: &[], ..ENTRIES };
+    let falling = EntryLists {
+        rows: &[1, 0, 1],
+        ..ENTRIES
+    };
+    for (track, width) in [(&[][..], 0), (&[0, 9], 2), (&[0], 1)] {
+        refused(no_starts, track, width, 3, Error::BrokenStarts);
+        refused(falling, track, width, 3, Error::BrokenRows);
+    }
+    // 22 before 8 and 7; a width is not cut to 32 bits.
+    for (track, width) in [
+        (&[][..], 0),
+        (&[], 1),
+        (&[9, 0], 0),
+        (&[9, 0], 3),
+        (&[9, 0], (1 << 32) + 1),
+        (&[9; 2000], 1025),
+        (&[9, 0], usize::MAX),
+    ] {
+        refused(ENTRIES, track, width, 0, Error::BadWidth);
+    }
+    // 8 before 20, also of a later run; (1, 0) is absent.
+    let gap = EntryLists {
+        starts: &[0, 1, 2],
+        rows: &[0, 1],
+        values: &[(1 << 40) + 1, 1],
+    };
+    refused(gap, &[0, 0, 0, 1], 2, 0, Error::NotCovered);
+    refused(gap, &[0, 0, 0, 2], 1, 0, Error::NotCovered);
+    refused(gap, &[0, u32::MAX], 1, 2, Error::NotCovered);
+    refused(gap, &[1, 1, 0], 1, 0, Error::NumberTooLarge);
+    let large = EntryLists {
+        values: &[-1 << 40, 1 << 40, 1 << 40],
+        ..ENTRIES
+    };
+    assert_eq!(along(large, &[0, 1, 1], 2, 2), (Ok(()), vec![2 << 40, 4 << 40]));
+    // Cells too far apart need no entry, whatever stands there; an entry above the diagonal is none.
+    assert_eq!(along(gap, &[1, 1], 1, 2), (Ok(()), vec![1, 1]));
+    let above = EntryLists {
+        starts: &[0, 1, 3],
+        rows: &[0, 0, 1],
+        values: &[1, 1, 1],
+    };
+    refused(above, &[0, 1], 2, 2, Error::NotCovered);
+    // 7 is last.
+    refused(ENTRIES, &[0, 1, 1], 2, 1, Error::TooShort);
+    refused(ENTRIES, &[0], 1, 0, Error::TooShort);
+    assert_eq!(lent::track_runs(3, 2), 2);
+    assert_eq!(lent::track_runs(3, 4), 0);
+}
+
+/// Each run by the full sum over its entries, on tracks with cells that come again.
+#[test]
+fn runs_by_full_sums() {
+    let mut numbers = Numbers(10);
+    for _ in 0..200 {
+        let n = 1 + numbers.below(7) as usize;
+        let (inverse, full) = inverse(&mut numbers, n);
+        let cells = 1 + numbers.below(30) as usize;
+        let track = (0..cells).map(|_| numbers.below(n as u64) as usize).collect::<Vec<_>>();
+        for width in 1..=cells {
+            let runs = track.windows(width).map(|run| {
+                let entries = run.iter().flat_map(|one| run.iter().map(|other| full[*one][*other]));
+                entries.sum::<i64>()
+            });
+            assert_eq!(inverse.track_variances(&track, width), Ok(runs.collect()));
+        }
+        assert_eq!(inverse.track_variances(&track, cells + 1), Err(Error::BadWidth));
+        assert_eq!(inverse.track_variances(&[n], 1), Err(Error::NotCovered));
+    }
+    // The widest run, all of the largest entry: 2^60.
+    let entries = EntryLists {
+        starts: &[0, 1],
+        rows: &[0],
+        values: &[1 << 40],
+    };
+    let answer = along(entries, &[0; 1026], 1024, 4);
+    assert_eq!(answer, (Ok(()), vec![1 << 60, 1 << 60, 1 << 60, 7]));
+}

@@ -7,6 +7,7 @@ mod operators;
 mod pictures;
 mod ranges;
 mod requests;
+mod tracks;
 mod usage;
 mod variances;
 mod wholes;

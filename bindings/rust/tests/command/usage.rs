@@ -48,6 +48,25 @@ fn bad_usage() {
         (&["f2.mtx", "--whole", "--whole"], "--whole is given twice"),
         (&["f2.mtx", "--whole", "--why=1,2"], "--why does not go with --whole"),
         (&["--demo", "--whole"], "--demo does not go with --whole"),
+        (
+            &["f2.mtx", "--whole", "--track=t.txt"],
+            "--track and --width need each other",
+        ),
+        (
+            &["f2.mtx", "--whole", "--width=2"],
+            "--track and --width need each other",
+        ),
+        (&["f2.mtx", "--track=t.txt", "--width=2"], "--track needs --whole"),
+        (&["f2.mtx", "--width", "two"], "--width needs a whole number, not two"),
+        (&["f2.mtx", "--width=-1"], "--width needs a whole number, not -1"),
+        (
+            &["f2.mtx", "--whole", "--track=t.txt", "--width=2", "--requests=a.txt"],
+            "--track does not go with --requests",
+        ),
+        (
+            &["f2.mtx", "--whole", "--track=t.txt", "--width=2", "--ranges=r.txt"],
+            "--track does not go with --ranges",
+        ),
         (&["f2.mtx", "--whole", "--ranges"], "--ranges needs a value"),
         (&["f2.mtx", "--ranges=r.txt"], "--ranges needs --whole"),
         (
@@ -137,6 +156,8 @@ fn help_and_version() {
         "--entries",
         "--whole",
         "--ranges",
+        "--track",
+        "--width",
         "--why",
         "--csv",
         "--svg",
@@ -149,7 +170,7 @@ fn help_and_version() {
     }
     for error in redstartgilt::Error::ALL {
         let listed = help.contains(&format!("  {}  {error}\n", 10 + error.number()));
-        assert_eq!(listed, error.number() <= 21, "{error}");
+        assert_eq!(listed, error.number() <= 22, "{error}");
     }
     assert!(help.contains(&format!("\n  {HEADER}\n")));
     assert_eq!(

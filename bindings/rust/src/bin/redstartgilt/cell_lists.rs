@@ -1,4 +1,4 @@
-//! Requests, row pairs, ranges and permutations from files of whole numbers.
+//! Requests, row pairs, ranges, tracks and permutations from files of whole numbers.
 
 use crate::failure::Failure;
 use crate::lines::Lines;
@@ -163,6 +163,12 @@ pub fn ranges(file: &Path) -> Result<BTreeMap<usize, Vec<Range>>, Failure> {
         });
     }
     Ok(rows)
+}
+
+/// The cells of a track, counted from 0, each after its line.
+pub fn track(file: &Path) -> Result<Vec<(usize, usize)>, Failure> {
+    let lines = indices::<1>(file, &text_of(file)?, "one cell")?;
+    Ok(lines.into_iter().map(|(line, [cell])| (line, cell)).collect())
 }
 
 /// The permutation of a file, for a factor of this dimension.

@@ -12,6 +12,7 @@ Usage:
   redstartgilt [OPTIONS] FACTOR
   redstartgilt --whole [--requests FILE] [--permutation FILE] [--limit N] [--entries] [--csv] [--grid WxH ..] FACTOR
   redstartgilt --whole --ranges FILE [--permutation FILE] [--limit N] [--csv] FACTOR
+  redstartgilt --whole --track FILE --width K [--permutation FILE] [--limit N] [--csv] [--grid WxH ..] FACTOR
   redstartgilt --operator FILE [--with FILE [--pairs FILE]] [--permutation FILE] [--csv] FACTOR
   redstartgilt --demo [--requests FILE] [--why R,C] [--csv] [--svg FILE] [--html FILE]
 
@@ -47,6 +48,13 @@ Options:
                       ends give the variance itself. A cell twice in a row is refused with 9, more than 64 cells in a
                       row, an end beyond 1,024 in size or a low end above its high end with 21, an entry beyond 2^30 in
                       size with 20; the message has the line or the entry
+  --track FILE        with --whole and --width: print the variance of each run of K consecutive cells along a track, such
+                      as a fairway, and which is the largest, and not the variances of the cells. One cell a line, in the
+                      order of the track; a cell may be on it more than once, and counts each time. The pairs of cells
+                      of each run are requested. A cell that the factor has not is refused with 8, an entry beyond 2^40
+                      in size with 20; the message has the line or the entry. With --svg or --html the map shows the
+                      track and the largest run, and at each cell the variance of the run that begins there
+  --width K           the cells of a run: from 1 to 1,024, and no more than the track has. Another is refused with 22
   --why R,C           print why the pair of the cells R and C is computed, and not the variances: a chain of pairs from
                       one that was requested to this one, each needed for the one before and none shorter, with the
                       entry of the factor that leads to each; or that the pair is not in the set. A chain has no limit,
@@ -92,7 +100,7 @@ Exit status:
 ";
 
 /// The last refusal that the help lists: no call gives a later one yet.
-const LAST_REFUSAL: u32 = redstartgilt::sys::REDSTARTGILT_BAD_WEIGHTS;
+const LAST_REFUSAL: u32 = redstartgilt::sys::REDSTARTGILT_BAD_WIDTH;
 
 /// The help with the list of refusals.
 pub fn help() -> String {
@@ -118,6 +126,8 @@ pub struct Options {
     pub entries: bool,
     pub whole: bool,
     pub ranges: Option<PathBuf>,
+    pub track: Option<PathBuf>,
+    pub width: Option<usize>,
     /// Two cells, counted from 0.
     pub why: Option<(usize, usize)>,
     pub csv: bool,
@@ -146,6 +156,8 @@ pub fn read(words: impl IntoIterator<Item = OsString>) -> Result<Command, Failur
         entries: false,
         whole: false,
         ranges: None,
+        track: None,
+        width: None,
         why: None,
         csv: false,
         svg: None,
@@ -176,6 +188,8 @@ pub fn read(words: impl IntoIterator<Item = OsString>) -> Result<Command, Failur
                 | "--pairs"
                 | "--limit"
                 | "--ranges"
+                | "--track"
+                | "--width"
                 | "--why"
                 | "--svg"
                 | "--html"
@@ -195,8 +209,10 @@ pub fn read(words: impl IntoIterator<Item = OsString>) -> Result<Command, Failur
             "--operator" => options.operator.replace(value.into()).is_some(),
             "--with" => options.with.replace(value.into()).is_some(),
             "--pairs" => options.pairs.replace(value.into()).is_some(),
-            "--limit" => options.limit.replace(number(&value)?).is_some(),
+            "--limit" => options.limit.replace(number(name, &value)?).is_some(),
             "--ranges" => options.ranges.replace(value.into()).is_some(),
+            "--track" => options.track.replace(value.into()).is_some(),
+            "--width" => options.width.replace(number(name, &value)?).is_some(),
             "--why" => options.why.replace(pair(&value)?).is_some(),
             "--svg" => options.svg.replace(value.into()).is_some(),
             "--html" => options.html.replace(value.into()).is_some(),
@@ -263,6 +279,22 @@ fn checked(options: Options, demo: bool) -> Result<Command, Failure> {
             return Err(Failure::usage("--ranges needs --whole"));
         }
     }
+    if options.track.is_some() {
+        let others = [
+            ("--requests", options.requests.is_some()),
+            ("--ranges", options.ranges.is_some()),
+            ("--operator", options.operator.is_some()),
+            ("--entries", options.entries),
+            ("--why", options.why.is_some()),
+        ];
+        alone("--track", &others)?;
+        if !options.whole {
+            return Err(Failure::usage("--track needs --whole"));
+        }
+    }
+    if options.track.is_some() != options.width.is_some() {
+        return Err(Failure::usage("--track and --width need each other"));
+    }
     if options.operator.is_some() {
         let others = [
             ("--requests", options.requests.is_some()),
@@ -295,11 +327,11 @@ fn checked(options: Options, demo: bool) -> Result<Command, Failure> {
     Ok(Command::Run(Box::new(options)))
 }
 
-fn number(value: &OsString) -> Result<usize, Failure> {
+fn number(name: &str, value: &OsString) -> Result<usize, Failure> {
     value
         .to_str()
         .and_then(|text| text.parse().ok())
-        .ok_or_else(|| Failure::usage(format!("--limit needs a whole number, not {}", value.to_string_lossy())))
+        .ok_or_else(|| Failure::usage(format!("{name} needs a whole number, not {}", value.to_string_lossy())))
 }
 
 /// Two cells as in 5,3, counted from 1.

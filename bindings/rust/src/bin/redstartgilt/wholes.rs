@@ -4,6 +4,7 @@ use crate::failure::Failure;
 use crate::map::{Map, Placed};
 use crate::matrix_market::{self, Entry};
 use crate::options::Options;
+use crate::track::{self, Track};
 use crate::{cell_lists, cell_of, check_grid, entries_of_cells, name_of, print, ranges, requested, write_map, Found};
 use redstartgilt::lent::default_limit;
 use redstartgilt::{
@@ -67,10 +68,43 @@ impl<'a> Whole<'a> {
     }
 
     /// The variance of each cell that has one, in the order of the cells.
-    pub fn variances(&self, inverse: &WholeSelectedInverse) -> Vec<Option<i64>> {
+    fn variances(&self, inverse: &WholeSelectedInverse) -> Vec<Option<i64>> {
         let diagonal = inverse.diag();
         let places = self.permutation.orig_to_perm.iter();
         places.map(|place| diagonal[*place]).collect()
+    }
+
+    /// Writes a map of the variances, with a file's track on it, where that is asked for.
+    pub fn draw(
+        &self,
+        inverse: &WholeSelectedInverse,
+        diagnostics: &SelectedInverseDiagnostics,
+        track: Option<(&Path, &Track)>,
+        options: &Options,
+    ) -> Result<(), Failure> {
+        let Some(grid) = options.grid else {
+            return Ok(());
+        };
+        // Up to 2^53 a float is the whole number itself.
+        let variances = self.variances(inverse).into_iter();
+        let cells = variances.map(|variance| cell_of(variance.map(|whole| whole as f64)));
+        let factor = name_of(self.file);
+        let map = Map {
+            title: &match track {
+                Some((list, _)) => format!("Exact variances of {factor} along {}", name_of(list)),
+                None => format!("Exact variances of {factor}"),
+            },
+            unit: None,
+            cells: &cells.collect::<Vec<_>>(),
+            placed: &Placed {
+                grid,
+                cells: &(0..self.dimension()).collect::<Vec<_>>(),
+            },
+            why: None,
+            track: track.map(|(_, track)| track),
+            diagnostics,
+        };
+        write_map(options, &map)
     }
 }
 
@@ -80,30 +114,15 @@ pub fn run(output: &mut impl Write, file: &Path, options: &Options) -> Result<()
     if let Some(list) = &options.ranges {
         return ranges::run(output, &whole, list, options);
     }
+    if let (Some(list), Some(width)) = (&options.track, options.width) {
+        return track::run(output, &whole, (list, width), options);
+    }
     let requested = requested(&whole.permutation, options)?;
     let (inverse, diagnostics) = whole.select(&requested, options)?;
-    let variances = whole.variances(&inverse);
-    if let Some(grid) = options.grid {
-        // Up to 2^53 a float is the whole number itself.
-        let cells = variances
-            .iter()
-            .map(|variance| cell_of(variance.map(|whole| whole as f64)));
-        let map = Map {
-            title: &format!("Exact variances of {}", name_of(file)),
-            unit: None,
-            cells: &cells.collect::<Vec<_>>(),
-            placed: &Placed {
-                grid,
-                cells: &(0..whole.dimension()).collect::<Vec<_>>(),
-            },
-            why: None,
-            diagnostics: &diagnostics,
-        };
-        write_map(options, &map)?;
-    }
+    whole.draw(&inverse, &diagnostics, None, options)?;
     let found = Found {
         diagnostics,
-        variances,
+        variances: whole.variances(&inverse),
         entries: if options.entries {
             entries_of_cells(inverse.entries(), &whole.permutation)
         } else {
