@@ -1,10 +1,10 @@
 -- A run grows by one cell at its end, and loses its first: by that cell's strip, its own entry and twice those with the cells of the rest. So a run slides by one cell
 -- with the strip of the one that leaves and of the one that comes. Assumes nothing.
-use Prim.Native.Nat.{ℕ, zero, suc, _+_, _*_, _<_}
+use Prim.Native.Nat.{ℕ, suc, _+_, _*_, _<_}
 use native.Mathlib.Omega.{arith}
 use native.Mathlib.Nat.{add-zero}
-use mathlib.Core.Path.{_≡_, refl, sym, ap, ap₂, _∙_}
-use lib.IntN.{ℤ, pos, _+ℤ_, _-ℤ_, +ℤ-assoc, +ℤ-comm, +ℤ-idl, +ℤ-idr, +ℤ-negℤ-cancel}
+use mathlib.Core.Path.{_≡_, sym, ap, ap₂, _∙_}
+use lib.IntN.{ℤ, _+ℤ_, _-ℤ_, +ℤ-assoc, +ℤ-comm, +ℤ-idr, +ℤ-negℤ-cancel}
 use Rattle.integers.specs.Integer.{+ℤ-interchange}
 use Rattle.integers.specs.Sum.{Σℤ, sum-cong, sum-add, sum-first}
 use Rattle.integers.specs.Size.{SizeWithin, size-sums}
@@ -35,9 +35,6 @@ at-front : (x s t b : ℤ) → (b +ℤ s) +ℤ (t +ℤ x) ≡ x +ℤ (b +ℤ (s 
 at-front x s t b = +ℤ-assoc b s (t +ℤ x) ∙ ap (λ (y : ℤ). b +ℤ y) (sym (+ℤ-assoc s t x)) ∙ sym (+ℤ-assoc b (s +ℤ t) x) ∙ +ℤ-comm (b +ℤ (s +ℤ t)) x
 
 module _ (E : ℕ → ℕ → ℤ) (symmetric : (p q : ℕ) → E p q ≡ E q p) where
-  pub block-none : (i : ℕ) → blockSum E 0 i ≡ pos 0
-  block-none i = refl
-
   -- one cell more at the end
   pub block-more : (m i : ℕ) → blockSum E (suc m) i ≡ blockSum E m i +ℤ strip E (i + m) i m
   block-more m i =

@@ -16,7 +16,7 @@ use Rattle.refusal.specs.Groups.{groups-passed, grouped-refused, grouped-last}
 use Rattle.refusal.specs.Bounds.{outputSteps}
 use Rattle.result.specs.Lookup.{lookupOf, resultSteps}
 use Rattle.result.specs.Laws.{resultSteps-sound}
-use Rattle.whole_pairs.specs.Entry.{entryOrZero, entryOrZero-symmetric, absentPair-symmetric, present-found}
+use Rattle.whole_pairs.specs.Entry.{entryOrZero-symmetric, absentPair-symmetric, present-found}
 use Rattle.whole_pairs.specs.Faults.{all-absent, all-either, fault-steps}
 use Rattle.run_sums.specs.Runs.{runs, blockSum, cellEntry, runSum, runSums}
 use Rattle.track_variances.specs.Track.{trackEntry, maxWidth, maxTrackEntry, widthSteps, runSteps, trackSteps, somePlaces, someRun, absentAt, beyondAt, trackFault}
@@ -94,6 +94,26 @@ module _ (starts rows : List ℕ) (values : List ℤ) (track : List ℕ) (width 
   unfolding runSteps
   small-entry p = run-test (beyondAt starts rows values track) (passed-clear ofRuns p .1 .0)
 
+  -- ---- the groups, one after the other
+  module _ (result : Passed ofResult) where
+    pub track-width : {k : ℕ} → verdict ofWidth ≡ refused k → refused k ≡ verdict (trackSteps starts rows values track width room)
+    unfolding trackSteps
+    track-width e = sym (grouped-refused (ofResult ∷ []) ofWidth (ofRuns ∷ ofOutput ∷ []) (result, tt) e)
+
+    module _ (width-passes : Passed ofWidth) where
+      pub track-runs : {k : ℕ} → verdict ofRuns ≡ refused k → refused k ≡ verdict (trackSteps starts rows values track width room)
+      unfolding trackSteps
+      track-runs e = sym (grouped-refused (ofResult ∷ ofWidth ∷ []) ofRuns (ofOutput ∷ []) (result, (width-passes, tt)) e)
+
+      pub track-room : Passed ofRuns → verdict ofOutput ≡ verdict (trackSteps starts rows values track width room)
+      unfolding trackSteps
+      track-room runs-pass = sym (grouped-last (ofResult ∷ ofWidth ∷ ofRuns ∷ []) ofOutput (result, (width-passes, (runs-pass, tt))))
+
+  pub track-result : {k : ℕ} → verdict ofResult ≡ refused k → refused k ≡ verdict (trackSteps starts rows values track width room)
+  unfolding trackSteps
+  track-result e = sym (grouped-refused [] ofResult (ofWidth ∷ ofRuns ∷ ofOutput ∷ []) tt e)
+
+  -- ---- all of them
   pub runs-ready : Passed (trackSteps starts rows values track width room) → RunsReady starts rows values track width × (runs (length track) width ≤ room)
   unfolding trackSteps
   runs-ready p =
@@ -109,25 +129,6 @@ module _ (starts rows : List ℕ) (values : List ℤ) (track : List ℕ) (width 
         },
         ltb-false room (runs (length track) width) (passed-clear ofOutput (g .1 .1 .1 .0) .0),
       )
-
-  -- ---- the groups, one after the other
-  pub track-result : {k : ℕ} → verdict ofResult ≡ refused k → refused k ≡ verdict (trackSteps starts rows values track width room)
-  unfolding trackSteps
-  track-result e = sym (grouped-refused [] ofResult (ofWidth ∷ ofRuns ∷ ofOutput ∷ []) tt e)
-
-  module _ (result : Passed ofResult) where
-    pub track-width : {k : ℕ} → verdict ofWidth ≡ refused k → refused k ≡ verdict (trackSteps starts rows values track width room)
-    unfolding trackSteps
-    track-width e = sym (grouped-refused (ofResult ∷ []) ofWidth (ofRuns ∷ ofOutput ∷ []) (result, tt) e)
-
-    module _ (width-passes : Passed ofWidth) where
-      pub track-runs : {k : ℕ} → verdict ofRuns ≡ refused k → refused k ≡ verdict (trackSteps starts rows values track width room)
-      unfolding trackSteps
-      track-runs e = sym (grouped-refused (ofResult ∷ ofWidth ∷ []) ofRuns (ofOutput ∷ []) (result, (width-passes, tt)) e)
-
-      pub track-room : Passed ofRuns → verdict ofOutput ≡ verdict (trackSteps starts rows values track width room)
-      unfolding trackSteps
-      track-room runs-pass = sym (grouped-last (ofResult ∷ ofWidth ∷ ofRuns ∷ []) ofOutput (result, (width-passes, (runs-pass, tt))))
 
 -- ---- 22, case by case
 module _ (cells width : ℕ) where

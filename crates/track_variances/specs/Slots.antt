@@ -82,14 +82,14 @@ slots-none E k l e = record { runs-are = λ t h a. first t (omega arith); strips
 
 -- the run before, without the cell that leaves it
 module _ (E : ℕ → ℕ → ℤ) (symmetric : (p q : ℕ) → E p q ≡ E q p) (k c : ℕ) (l : List ℤ) (S : Slots E k c l) (wide : 0 < k) where
-  pub kept-growing : c < k → 0 < length l → wholeValue l 0 ≡ blockSum E (c - (c + 1 - k)) (c + 1 - k)
-  kept-growing h n =
+  pub before-growing : c < k → 0 < length l → wholeValue l 0 ≡ blockSum E (c - (c + 1 - k)) (c + 1 - k)
+  before-growing h n =
       let q : min c k ≡ c - (c + 1 - k) = omega arith in
       let z : 0 ≡ c + 1 - k = omega arith in
       S .runs-are 0 n (omega arith) ∙ ap₂ (blockSum E) q z
 
-  pub kept-sliding : k ≤ c → c - k + 1 < length l → wholeValue l (c - k) -ℤ wholeValue l (c - k + 1) ≡ blockSum E (c - (c + 1 - k)) (c + 1 - k)
-  kept-sliding h n = slid (c - k) (omega arith) n
+  pub before-sliding : k ≤ c → c - k + 1 < length l → wholeValue l (c - k) -ℤ wholeValue l (c - k + 1) ≡ blockSum E (c - (c + 1 - k)) (c + 1 - k)
+  before-sliding h n = slid (c - k) (omega arith) n
     where
       whole : min c k ≡ suc (k - 1)
       whole = omega arith

@@ -1,10 +1,10 @@
 -- Small tracks over the result of F2: what the call replies and leaves, by computation, and what the theorems say of it.
 -- Assumes nothing.
-use Prim.Native.Nat.{ℕ, _+_, _<_, _^_}
+use Prim.Native.Nat.{ℕ, _+_, _^_}
 use native.Mathlib.Omega.{arith}
 use mathlib.Core.Path.{_≡_, refl}
 use mathlib.Core.List.{List, [], _∷_}
-use lib.IntN.{ℤ, pos, negsuc}
+use lib.IntN.{ℤ, pos, negsuc, _+ℤ_, _-ℤ_}
 use Rattle.lists.specs.Test.{any, anyIn}
 use Rattle.lists.specs.Place.{placeFrom}
 use Rattle.lists.specs.Tabulate.{tabulate}
@@ -13,13 +13,14 @@ use Rattle.refusal.specs.Steps.{refused, answered, first, after, each}
 use Rattle.integers.specs.Matrix.{Matrix}
 use Rattle.integers.specs.Inverse.{WholeInverse}
 use Rattle.columns.specs.WholeFactor.{wholeValue}
-use Rattle.result.specs.Lookup.{columnFaults, searchSteps, entrySteps, entryOf, resultSteps}
+use Rattle.result.specs.Lookup.{columnFaults, searchSteps, entrySteps, entryOf, lookupOf, resultSteps}
 use Rattle.whole_pairs.specs.Entry.{entryOrZero, absentPair}
 use Rattle.run_sums.specs.Runs.{runSum, runSums}
+use Rattle.run_sums.specs.Slide.{strip}
 use Rattle.whole_selection.specs.ReadBack.{wholeMatrix}
 use Rattle.whole_selection.specs.Worked.{F2, left, F2-exact, F2-complete}
-use Rattle.track_variances.specs.Track.{widthSteps, runSteps, trackSteps, VariancesAlong}
-use Rattle.track_variances.specs.Promise.{along-later}
+use Rattle.track_variances.specs.Track.{trackEntry, widthSteps, runSteps, trackSteps, VariancesAlong}
+use Rattle.track_variances.specs.Promise.{along-found, along-later, along-slide}
 use Rattle.track_variances.specs.Exact.{AlongAfter, inverse-run}
 
 -- F2's entries 5, -2, 1 with the rows 0 1 1 in two columns
@@ -89,7 +90,20 @@ F2-run : (X : Matrix) → WholeInverse 2 (wholeMatrix F2) X → pos 4 ≡ runSum
 F2-run X is =
     inverse-run F2 (left .lists) X (F2-exact X is) F2-complete (0 ∷ 1 ∷ 1 ∷ []) 2 (pos 9 ∷ pos 9 ∷ pos 9 ∷ []) (pos 2 ∷ pos 4 ∷ pos 9 ∷ []) F2-answered 1 (omega arith)
 
+-- the pair (1, 1) of the second run is found
+F2-found : lookupOf (pos 0) (0 ∷ 2 ∷ 3 ∷ []) (0 ∷ 1 ∷ 1 ∷ 9 ∷ []) (pos 5 ∷ negsuc 1 ∷ pos 1 ∷ pos 7 ∷ []) 1 1 ≡ answered (pos 1)
+unfolding any anyIn placeFrom first columnFaults searchSteps entrySteps entryOf entryOrZero
+F2-found =
+    along-found (0 ∷ 2 ∷ 3 ∷ []) (0 ∷ 1 ∷ 1 ∷ 9 ∷ []) (pos 5 ∷ negsuc 1 ∷ pos 1 ∷ pos 7 ∷ []) (0 ∷ 1 ∷ 1 ∷ []) 2 (pos 9 ∷ pos 9 ∷ pos 9 ∷ []) (pos 2 ∷ pos 4 ∷ pos 9 ∷ [])
+    F2-answered 1 0 1 (omega arith) (omega arith) (omega arith)
+
 F2-later : wholeValue (pos 2 ∷ pos 4 ∷ pos 9 ∷ []) 2 ≡ wholeValue (pos 9 ∷ pos 9 ∷ pos 9 ∷ []) 2
 F2-later =
     along-later (0 ∷ 2 ∷ 3 ∷ []) (0 ∷ 1 ∷ 1 ∷ 9 ∷ []) (pos 5 ∷ negsuc 1 ∷ pos 1 ∷ pos 7 ∷ []) (0 ∷ 1 ∷ 1 ∷ []) 2 (pos 9 ∷ pos 9 ∷ pos 9 ∷ []) (pos 2 ∷ pos 4 ∷ pos 9 ∷ [])
     F2-answered 2 (omega arith)
+
+-- 4 is 2 without 5 - 4 of the cell 0 that leaves, and with 1 + 2 of the cell 1 that comes
+F2-slide : let E = trackEntry (0 ∷ 2 ∷ 3 ∷ []) (0 ∷ 1 ∷ 1 ∷ 9 ∷ []) (pos 5 ∷ negsuc 1 ∷ pos 1 ∷ pos 7 ∷ []) (0 ∷ 1 ∷ 1 ∷ []) in pos 4 ≡ (pos 2 -ℤ strip E 0 1 1) +ℤ strip E 2 1 1
+F2-slide =
+    along-slide (0 ∷ 2 ∷ 3 ∷ []) (0 ∷ 1 ∷ 1 ∷ 9 ∷ []) (pos 5 ∷ negsuc 1 ∷ pos 1 ∷ pos 7 ∷ []) (0 ∷ 1 ∷ 1 ∷ []) 2 (pos 9 ∷ pos 9 ∷ pos 9 ∷ []) (pos 2 ∷ pos 4 ∷ pos 9 ∷ [])
+    F2-answered 1 0 refl (omega arith)

@@ -9,7 +9,8 @@ use checks::check_call;
 use refusal::Checked;
 use runs::write_runs;
 
-// Writes the variance of each run of `width` cells to the front of the output.
+// Writes the variance of each run of `width` cells to the front of the output. Each pair of places less than `width` apart is looked up twice:
+// for 8 and 20, and when the later of its two cells comes.
 pub fn track_variances_whole(
     starts: &[u32],
     rows: &[u32],

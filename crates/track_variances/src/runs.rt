@@ -13,7 +13,7 @@ use whole_steps::sum;
 use whole_steps::whole_at;
 
 // The run that the cell at place c joins, without the cell that leaves for it: the run so far while it grows, else the one before less its first cell's strip.
-fn kept(
+fn run_before(
     starts: &[u32],
     rows: &[u32],
     values: &[i64],
@@ -57,7 +57,7 @@ fn next_cell(
     ensures { λ _. ⌜ Slots (trackEntry (now (starts .entry)) (now (rows .entry)) (now (values .entry)) (now (track .entry))) k (c + 1) (now (list .exit)) ⌝ }
 {
     let f = joined(c, k);
-    let before = kept(starts, rows, values, track, k, c, list);
+    let before = run_before(starts, rows, values, track, k, c, list);
     let strip = come(starts, rows, values, track, k, c, f, list);
     list[f] = sum(before, strip);
 }

@@ -19,25 +19,25 @@ product-high : greatestProduct (negsuc 0) (pos 2) (negsuc 2) (pos 1) ≡ pos 3
 product-high = refl
 
 -- F2 of document 01: entries 5, -2, -2, 1; weights from -1 to 2 and from 1 to 3: squares 0 to 4 and 1 to 9, product -3 to 6
-abbrev pub entry : ℕ → ℕ → ℤ
-entry zero zero = pos 5
-entry zero (suc b) = negsuc 1
-entry (suc a) zero = negsuc 1
-entry (suc a) (suc b) = pos 1
+abbrev pub F2-entry : ℕ → ℕ → ℤ
+F2-entry zero zero = pos 5
+F2-entry zero (suc b) = negsuc 1
+F2-entry (suc a) zero = negsuc 1
+F2-entry (suc a) (suc b) = pos 1
 
-abbrev pub low : ℕ → ℤ
-low zero = negsuc 0
-low (suc a) = pos 1
+abbrev pub lowEnd : ℕ → ℤ
+lowEnd zero = negsuc 0
+lowEnd (suc a) = pos 1
 
-abbrev pub high : ℕ → ℤ
-high zero = pos 2
-high (suc a) = pos 3
+abbrev pub highEnd : ℕ → ℤ
+highEnd zero = pos 2
+highEnd (suc a) = pos 3
 
 -- 0 - 12 - 12 + 1 and 20 + 6 + 6 + 9
-F2-low : lowBound low high entry 2 ≡ negsuc 22
+F2-low : lowBound lowEnd highEnd F2-entry 2 ≡ negsuc 22
 F2-low = refl
 
-F2-high : highBound low high entry 2 ≡ pos 41
+F2-high : highBound lowEnd highEnd F2-entry 2 ≡ pos 41
 F2-high = refl
 
 -- an entry below 0 exchanges the ends: 2 to 3 with itself, times -1

@@ -5,7 +5,7 @@ use lib.Signed.{_≤ℤ_}
 use Rattle.integers.specs.Order.{≤ℤ-trans, sum-le}
 use Rattle.integers.specs.Sum.{Σℤ}
 use Rattle.weight_bounds.specs.Bounds.{InRange, leastTerm, greatestTerm, lowBound, highBound}
-use Rattle.weight_bounds.specs.Attained.{Term, leastTerm-attained, greatestTerm-attained, term-holds}
+use Rattle.weight_bounds.specs.TermBounds.{Term, leastTerm-attained, greatestTerm-attained, term-holds}
 
 -- of n places, the range from lo to hi lies in that from lo′ to hi′
 pub record Wider (lo hi lo′ hi′ : ℕ → ℤ) (n : ℕ) : Type 0 where

@@ -1,9 +1,8 @@
 -- The steps of the bounds of a row: what holds past them; 8 and 20 by the worst fault. Assumes nothing.
 use Prim.Native.Nat.{ℕ, _≤_, _<_}
-use native.Mathlib.Omega.{arith}
 use mathlib.Core.Path.{_≡_, refl, sym, ap, ap₂, _∙_}
 use mathlib.Core.Bool.{Bool, true, false, not, cond, _&&_, _||_, false≢true}
-use mathlib.Core.List.{List, [], _∷_, _++_}
+use mathlib.Core.List.{List, [], _∷_}
 use lib.Dec.{ltb, leb}
 use lib.ListN.{length}
 use lib.IntN.{ℤ, pos, negsuc, natAbs, _*ℤ_}
@@ -89,6 +88,26 @@ module _ (starts rows : List ℕ) (values : List ℤ) (columns : List ℕ) (lows
   unfolding pairSteps
   small-entry p = pair-test (beyondPair maxRangeEntry starts rows values) (passed-clear ofPairs p .1 .0)
 
+  -- ---- the groups, one after the other
+  module _ (result : Passed ofResult) where
+    pub range-row : {k : ℕ} → verdict ofRow ≡ refused k → refused k ≡ verdict (rangeSteps starts rows values columns lows highs)
+    unfolding rangeSteps
+    range-row e = sym (grouped-refused (ofResult ∷ []) ofRow (ofWeights ∷ ofPairs ∷ []) (result, tt) e)
+
+    module _ (row : Passed ofRow) where
+      pub range-weights : {k : ℕ} → verdict ofWeights ≡ refused k → refused k ≡ verdict (rangeSteps starts rows values columns lows highs)
+      unfolding rangeSteps
+      range-weights e = sym (grouped-refused (ofResult ∷ ofRow ∷ []) ofWeights (ofPairs ∷ []) (result, (row, tt)) e)
+
+      pub range-pairs : Passed ofWeights → verdict ofPairs ≡ verdict (rangeSteps starts rows values columns lows highs)
+      unfolding rangeSteps
+      range-pairs weights = sym (grouped-last (ofResult ∷ ofRow ∷ ofWeights ∷ []) ofPairs (result, (row, (weights, tt))))
+
+  pub range-result : {k : ℕ} → verdict ofResult ≡ refused k → refused k ≡ verdict (rangeSteps starts rows values columns lows highs)
+  unfolding rangeSteps
+  range-result e = sym (grouped-refused [] ofResult (ofRow ∷ ofWeights ∷ ofPairs ∷ []) tt e)
+
+  -- ---- all of them
   pub ranges-ready : Passed (rangeSteps starts rows values columns lows highs) → RangesReady starts rows values columns lows highs
   unfolding rangeSteps
   ranges-ready p =
@@ -104,31 +123,12 @@ module _ (starts rows : List ℕ) (values : List ℤ) (columns : List ℕ) (lows
         high = λ a l. record {
           size =
               ltb-false maxWeight (natAbs (wholeValue highs a))
-              (or-neither-left (ltb maxWeight (natAbs (wholeValue highs a))) (ltZ (wholeValue highs a) (wholeValue lows a))
+              (or-neither-left (ltb maxWeight (natAbs (wholeValue highs a))) _
               (or-neither-right (ltb maxWeight (natAbs (wholeValue lows a))) _ (w a l)));
         };
         found = present-pair (g .1 .1 .1 .0);
         entry = λ a b h l. record { size = ltb-false maxRangeEntry _ (small-entry (g .1 .1 .1 .0) a b h l) };
       }
-
-  -- ---- the groups, one after the other
-  pub range-result : {k : ℕ} → verdict ofResult ≡ refused k → refused k ≡ verdict (rangeSteps starts rows values columns lows highs)
-  unfolding rangeSteps
-  range-result e = sym (grouped-refused [] ofResult (ofRow ∷ ofWeights ∷ ofPairs ∷ []) tt e)
-
-  module _ (result : Passed ofResult) where
-    pub range-row : {k : ℕ} → verdict ofRow ≡ refused k → refused k ≡ verdict (rangeSteps starts rows values columns lows highs)
-    unfolding rangeSteps
-    range-row e = sym (grouped-refused (ofResult ∷ []) ofRow (ofWeights ∷ ofPairs ∷ []) (result, tt) e)
-
-    module _ (row : Passed ofRow) where
-      pub range-weights : {k : ℕ} → verdict ofWeights ≡ refused k → refused k ≡ verdict (rangeSteps starts rows values columns lows highs)
-      unfolding rangeSteps
-      range-weights e = sym (grouped-refused (ofResult ∷ ofRow ∷ []) ofWeights (ofPairs ∷ []) (result, (row, tt)) e)
-
-      pub range-pairs : Passed ofWeights → verdict ofPairs ≡ verdict (rangeSteps starts rows values columns lows highs)
-      unfolding rangeSteps
-      range-pairs weights = sym (grouped-last (ofResult ∷ ofRow ∷ ofWeights ∷ []) ofPairs (result, (row, (weights, tt))))
 
 -- ---- 9, case by case
 module _ (n : ℕ) (columns : List ℕ) (lows highs : ℕ) where

@@ -12,14 +12,14 @@ use Rattle.refusal.specs.Steps.{Reply, refused, answered, first, each}
 use Rattle.integers.specs.Matrix.{Matrix}
 use Rattle.integers.specs.Inverse.{WholeInverse}
 use Rattle.columns.specs.WholeFactor.{wholeValue}
-use Rattle.result.specs.Lookup.{columnFaults, searchSteps, entrySteps, entryOf, resultSteps}
+use Rattle.result.specs.Lookup.{columnFaults, searchSteps, entrySteps, entryOf, lookupOf, resultSteps}
 use Rattle.whole_pairs.specs.Entry.{entryOrZero, absentPair}
 use Rattle.weight_bounds.specs.Bounds.{InRange, Scaled}
 use Rattle.weight_bounds.specs.Wider.{Wider}
 use Rattle.whole_selection.specs.ReadBack.{wholeMatrix}
 use Rattle.whole_selection.specs.Worked.{F2, left, F2-exact, F2-complete}
 use Rattle.weight_ranges.specs.Ranges.{rangeRowSteps, weightSteps, pairSteps, rangeSteps, rangeBounds}
-use Rattle.weight_ranges.specs.Promise.{rowVariance, answer-wider}
+use Rattle.weight_ranges.specs.Promise.{rowVariance, answer-found, answer-wider}
 use Rattle.weight_ranges.specs.Exact.{BoundsAfter, inverse-holds, inverse-scaled, inverse-single}
 
 -- what the call replies over a result with the rows 0 1 1 in two columns
@@ -97,6 +97,13 @@ unsorted-column = refl
 F2-answered : BoundsAfter F2 (left .lists) (0 ∷ 1 ∷ []) (negsuc 0 ∷ pos 1 ∷ []) (pos 2 ∷ pos 3 ∷ []) (negsuc 22) (pos 41)
 unfolding any anyIn placeFrom first each columnFaults searchSteps entrySteps entryOf resultSteps entryOrZero absentPair rangeRowSteps weightSteps pairSteps rangeSteps
 F2-answered = refl
+
+-- the pair (0, 1) is found
+F2-found : lookupOf (pos 0) (0 ∷ 2 ∷ 3 ∷ []) (0 ∷ 1 ∷ 1 ∷ 9 ∷ []) (pos 5 ∷ negsuc 1 ∷ pos 1 ∷ pos 7 ∷ []) 0 1 ≡ answered (negsuc 1)
+unfolding any anyIn placeFrom first columnFaults searchSteps entrySteps entryOf entryOrZero
+F2-found =
+    answer-found (0 ∷ 2 ∷ 3 ∷ []) (0 ∷ 1 ∷ 1 ∷ 9 ∷ []) (pos 5 ∷ negsuc 1 ∷ pos 1 ∷ pos 7 ∷ []) (0 ∷ 1 ∷ []) (negsuc 0 ∷ pos 1 ∷ []) (pos 2 ∷ pos 3 ∷ []) F2-answered 0 1
+    (omega arith) (omega arith)
 
 -- the weights 2 and 3
 abbrev chosen : ℕ → ℤ

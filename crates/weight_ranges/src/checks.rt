@@ -7,7 +7,6 @@ ghost use Rattle.refusal.specs.Steps.{verdict};
 ghost use Rattle.refusal.specs.Refusal.{replyOf};
 ghost use Rattle.result.specs.Lookup.{WellFormed};
 ghost use Rattle.lists.specs.Test.{any};
-ghost use Rattle.whole_pairs.specs.Worst.{worst};
 ghost use Rattle.weight_ranges.specs.Ranges.{repeatedAt, repeated, badRange, rangeRowSteps, weightSteps, pairSteps, rangeSteps, rowFault};
 use column_search::result_check::check_result;
 use refusal::Checked;

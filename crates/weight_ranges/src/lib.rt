@@ -18,7 +18,8 @@ pub enum VarianceBounds {
     Refused(Refusal),
 }
 
-// The low and the high bound on the variance of the row with these columns, each weight from its low to its high end.
+// The low and the high bound on the variance of the row with these columns, each weight from its low to its high end: the sums of each term's least
+// and greatest value. Every choice of weights falls within, and no one choice need attain a bound.
 pub fn variance_bounds_whole(
     starts: &[u32],
     rows: &[u32],

@@ -2,7 +2,6 @@
 ghost use mathlib.Core.Path.{_≡_};
 ghost use Prim.Native.Nat.{_<_};
 ghost use lib.ListN.{length};
-ghost use lib.IntN.{pos};
 ghost use Rattle.integers.specs.Size.{SizeWithin};
 ghost use Rattle.weight_bounds.specs.Bounds.{leastTimes, greatestTimes, leastProduct, greatestProduct, leastSquare, greatestSquare};
 ghost use Rattle.columns.specs.WholeFactor.{wholeValue};

@@ -53,11 +53,6 @@ module _ (starts rows : List ℕ) (values : List ℤ) where
   unfolding absentPair entryOrZero
   present-found row col e = found-of (lookupOf (pos 0) starts rows values row col) e
 
-  -- what the lookup finds is the entry
-  pub found-entry : (row col : ℕ) {z : ℤ} → lookupOf (pos 0) starts rows values row col ≡ answered z → entryOrZero starts rows values row col ≡ z
-  unfolding entryOrZero
-  found-entry row col e = ap (settle (pos 0)) e
-
   module _ (W : WellFormed starts rows (length values)) (row col : ℕ) where
     -- of a pair's place, or none
     place-lookup : (r : Reply ℕ) → lookupPlaceWithin starts rows (length values) row col ≡ r → lookupOf (pos 0) starts rows values row col ≡ valueAt (pos 0) values r

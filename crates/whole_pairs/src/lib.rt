@@ -7,7 +7,6 @@ ghost use Rattle.result.specs.Lookup.{WellFormed};
 ghost use Rattle.whole_pairs.specs.Entry.{entryOrZero};
 use column_search::pair_place::PairPlace;
 use column_search::within::pair_place_within;
-use refusal::Refusal;
 use whole_steps::whole_at;
 
 // The entry of a pair, 0 where it is absent.

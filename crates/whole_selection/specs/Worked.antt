@@ -41,7 +41,7 @@ use Rattle.selection.specs.Diagnosis.{diagnosisOf}
 use Rattle.selection.specs.Selection.{Lent, lists, roomOf, roomSteps, fillingOf, ResultLists}
 use Rattle.selection.specs.Call.{selectionOf, selectedSteps}
 use Rattle.whole_selection.specs.Call.{WholeCall, WholeLent, wholeCall, wholeLent, wholeRoomOf, wholeSize, wholeAnswer, workSteps, checkSteps, exceedSteps, WholeEntries}
-use Rattle.whole_selection.specs.ReadBack.{wholeFound, wholeMatrix, Within53, ReadsWhole, whole-reply, twenty-told, told-twenty}
+use Rattle.whole_selection.specs.ReadBack.{wholeFound, wholeMatrix, Within53, ReadsWhole, whole-reply, reads-found, twenty-told, told-twenty}
 use Rattle.whole_selection.specs.Agree.{floatCall}
 use Rattle.whole_selection.specs.Engines.{Agrees, converted, engines-complete}
 
@@ -86,6 +86,10 @@ F2-exact X is = whole-reply F2 before F2-entries refl X is .1
 pub F2-complete : wholeAnswer F2 .status ≡ Complete
 unfolding any sumTo picked select cellCount reach member requested diagnosisOf diagnosis
 F2-complete = refl
+
+-- ---- `reads-found`: what the lookup finds is X's entry
+F2-read : (X : Matrix) → WholeInverse 2 (wholeMatrix F2) X → negsuc 1 ≡ X 0 1
+F2-read X is = reads-found F2 (left .lists) X (F2-exact X is) F2-complete 0 1 F2-found
 
 -- ---- `engines-complete`: selected entries of the same factor in f64, in lists of 0
 abbrev floats-before : Lent

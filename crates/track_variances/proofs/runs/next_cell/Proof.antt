@@ -36,8 +36,8 @@ module _ (d : tie.After-come) where
   f-is : d .before .before .before .before .joined .result ≡ f
   f-is = d .before .before .before .before .joined .ensures
 
-  kept-is : toZ w64 (ofZ w64 (d .before .before .kept .result)) ≡ blockSum (entries s) (s .args .c - f) f
-  kept-is = held (omega arith) (d .before .before .kept .ensures) (joined-small (s .pre))
+  before-is : toZ w64 (ofZ w64 (d .before .before .run-before .result)) ≡ blockSum (entries s) (s .args .c - f) f
+  before-is = held (omega arith) (d .before .before .run-before .ensures) (joined-small (s .pre))
 
   strip-is : toZ w64 (ofZ w64 (d .come .result)) ≡ strip (entries s) (s .args .c) f (s .args .c - f)
   strip-is = held (omega arith) (d .come .ensures .0 ∙ ap (λ (i : ℕ). strip (entries s) (s .args .c) i (s .args .c - i)) f-is) (coming-small (s .pre))
@@ -48,14 +48,14 @@ module _ (d : tie.After-come) where
 joined-requires : tie.Need-joined-requires
 joined-requires c κs = search needs
 
-kept-requires : tie.Need-kept-requires
-kept-requires c κs = search needs
+run-before-requires : tie.Need-run-before-requires
+run-before-requires c κs = search needs
 
 come-requires : tie.Need-come-requires
 come-requires c κs = search needs
 
 sum-requires : tie.Need-sum-requires
-sum-requires c κs = fits-both _+ℤ_ (kept-is (c .before)) (strip-is (c .before)) (omega arith) (sum-fits (c .before))
+sum-requires c κs = fits-both _+ℤ_ (before-is (c .before)) (strip-is (c .before)) (omega arith) (sum-fits (c .before))
 
 slice-set-from-list : tie.Need-slice-set-from-list
 slice-set-from-list c =
@@ -74,14 +74,14 @@ returns c =
     let b = s d in
     let a = b .args in
     slots-next (entries b) (symmetric b) (a .k) (a .c) (a .list .now) (b .pre .slots) (b .pre .ready .wide) _ (f-is d) (d .come .ensures .1)
-    (held (omega arith) (c .sum .ensures ∙ ap₂ _+ℤ_ (kept-is d) (strip-is d)) (sum-fits d) ∙ come-joins (entries b) (symmetric b) (a .k) (a .c) (b .pre .ready .wide))
+    (held (omega arith) (c .sum .ensures ∙ ap₂ _+ℤ_ (before-is d) (strip-is d)) (sum-fits d) ∙ come-joins (entries b) (symmetric b) (a .k) (a .c) (b .pre .ready .wide))
 
 pub next-cell-spec : {M : Type 1} → statement M
 next-cell-spec =
     tie.close
     (tie.spec
     joined-requires
-    kept-requires
+    run-before-requires
     come-requires
     sum-requires
     mul-t16

@@ -1,7 +1,7 @@
 use borrow.Author.Needs.{needs}
 use native.Mathlib.Omega.{arith}
 use Prim.Native.Nat.{ℕ, _+_, _-_, _≤_, _<_}
-use mathlib.Core.Path.{_≡_, ap₂, sym, _∙_}
+use mathlib.Core.Path.{_≡_, ap₂, _∙_}
 use lib.ListN.{length}
 use lib.IntN.{ℤ, _-ℤ_}
 use mir.Syntax.{w64}
@@ -11,10 +11,10 @@ use Rattle.integers.specs.Size.{SizeWithin, size-minus}
 use Rattle.columns.specs.WholeFactor.{wholeValue}
 use Rattle.whole_steps.specs.Machine.{held, fits-both}
 use Rattle.track_variances.specs.Track.{trackEntry}
-use Rattle.track_variances.specs.Slots.{kept-growing, kept-sliding, run-small, slot-small, joined-small}
+use Rattle.track_variances.specs.Slots.{before-growing, before-sliding, run-small, slot-small, joined-small}
 use Rattle.track_variances.specs.Laws.{entries-symmetric}
-use Rattle.track_variances.proofs.runs.kept.Statement.{statement}
-use Rattle.track_variances.proofs.runs.kept.Tie as tie
+use Rattle.track_variances.proofs.runs.run_before.Statement.{statement}
+use Rattle.track_variances.proofs.runs.run_before.Tie as tie
 
 abbrev entries : tie.Start → ℕ → ℕ → ℤ
 entries s = trackEntry (s .args .starts .now) (s .args .rows .now) (s .args .values .now) (s .args .track .now)
@@ -37,7 +37,7 @@ returns c =
     let s = t .before .before .before .before in
     let a = s .args in
     toZ-ofZ w64 (c .whole-at .result) (record { sfits = c .whole-at .ok }) ∙ c .whole-at .ensures
-    ∙ kept-growing (entries s) (symmetric s) (a .k) (a .c) (a .list .now) (s .pre .slots) (s .pre .ready .wide) (t .if1 .taken) (some s)
+    ∙ before-growing (entries s) (symmetric s) (a .k) (a .c) (a .list .now) (s .pre .slots) (s .pre .ready .wide) (t .if1 .taken) (some s)
 
 abbrev start : tie.Else1 → tie.Start
 start c = c .before .before .before .before
@@ -75,11 +75,11 @@ returns-2 c =
     let a = s .args in
     held (omega arith)
     (c .minus .ensures ∙ ap₂ _-ℤ_ (first-is (d .before)) (left-is d)
-    ∙ kept-sliding (entries s) (symmetric s) (a .k) (a .c) (a .list .now) (s .pre .slots) (s .pre .ready .wide) (t .if1 .left) (room s (t .if1 .left)))
+    ∙ before-sliding (entries s) (symmetric s) (a .k) (a .c) (a .list .now) (s .pre .slots) (s .pre .ready .wide) (t .if1 .left) (room s (t .if1 .left)))
     (joined-small (s .pre))
 
-pub kept-spec : {M : Type 1} → statement M
-kept-spec =
+pub run-before-spec : {M : Type 1} → statement M
+run-before-spec =
     tie.close
     (tie.spec
     whole-at-requires
