@@ -129,7 +129,7 @@ fn the_track_on_maps() {
         "<title>column 1, row 1: 19.0, run 3, variance 76; run 4, variance 33</title>",
         "<title>column 2, row 1: 2.0, run 2, variance 33</title>",
         "<title>column 3, row 1: 1.0, run 1, variance 1</title>",
-        ">run of the largest variance</text>",
+        ">run of largest variance</text>",
     ] {
         assert!(picture.contains(text), "{text}");
     }

@@ -13,7 +13,7 @@ pub struct Fairway<'a> {
 }
 
 /// Lines that a legend explains: whether they are of the run of the largest variance.
-pub const SIGNS: [(bool, &str); 2] = [(false, "track"), (true, "run of the largest variance")];
+pub const SIGNS: [(bool, &str); 2] = [(false, "track"), (true, "run of largest variance")];
 
 /// A line as elements, for cells of this side.
 pub fn line(points: &[Point], side: f64, largest: bool) -> String {

@@ -14,6 +14,8 @@ const LEGEND_ROOM: usize = 190;
 const BAR_WIDTH: usize = 20;
 const KEY_ROOM: usize = 22;
 const LINE_ROOM: usize = 20;
+/// About the width of a letter.
+const LETTER_ROOM: usize = 7;
 /// The least and the largest height of the text of marks.
 const MARK_TEXTS: (f64, f64) = (7.0, 12.0);
 /// That of a mark in the legend.
@@ -39,7 +41,8 @@ pub fn draw(map: &Map<'_>) -> String {
         KEY_ROOM * trail.signs().len() + LINE_ROOM * trail.number_words().len()
     });
     let track_room = fairway.as_ref().map_or(0, |_| KEY_ROOM * SIGNS.len());
-    let whole_width = map_width + LEGEND_ROOM + 2 * MARGIN;
+    let subtitle_room = subtitle.as_ref().map_or(0, |words| words.chars().count() * LETTER_ROOM);
+    let whole_width = (map_width + LEGEND_ROOM).max(subtitle_room) + 2 * MARGIN;
     let whole_height = top + bar_height + 16 + KEY_ROOM * map.patterns().count() + trail_room + track_room + MARGIN;
     let scale = map.scale();
     let title = escaped(map.title);
