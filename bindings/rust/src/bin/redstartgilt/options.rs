@@ -26,8 +26,8 @@ none may be NaN or infinite, or too large for a 64-bit float: it is refused with
 
 Options:
   --requests FILE     the pairs whose entries are wanted; without it all diagonals. Two indices a line, in either order;
-                      lines that are empty or begin with % or # are passed over, here and in the next. Or a Matrix
-                      Market file, see below
+                      lines that are empty or begin with % or # are passed over, here and in every other list. Or
+                      a Matrix Market file, see below
   --permutation FILE  the order of the factor: line i has the place of cell i in the factor. Requests and output are
                       then in the order of the cells, not of the factor
   --limit N           give no entries if the requests and what the recurrence needs for them are more than N pairs;
@@ -35,11 +35,11 @@ Options:
   --entries           print row, column and value of every entry that was computed, by column then row, and not the
                       variances
   --whole             compute in whole numbers, exactly: FACTOR is an integer file with 1 on its diagonal. The answer
-                      says that it is exact: in text by a line, with --csv by the names exact_variance and exact_value,
-                      on maps by the title. Another diagonal is refused with 19, a number beyond 2^53 in size with 20.
-                      The message of 20 has the line of an entry of the file that is beyond it; or else, where no more
-                      than 1,048,576 pairs are to be computed, the column of the factor in which the recurrence, which
-                      goes from the last column to the first, comes upon such a number
+                      says that it is exact: in text by a line, with --csv by names that begin with exact_, as in
+                      exact_variance, on maps by the title. Another diagonal is refused with 19, a number beyond 2^53 in
+                      size with 20. The message of 20 has the line of an entry of the file that is beyond it; or else,
+                      where no more than 1,048,576 pairs are to be computed, the column of the factor in which the
+                      recurrence, which goes from the last column to the first, comes upon such a number
   --ranges FILE       with --whole: print bounds on the variance of weighted sums of cells whose weights are known within
                       ranges, and not the variances of the cells. Four whole numbers a line, in any order of the lines:
                       row, cell, and the low and the high end of the weight of that cell in that row's sum. The pairs of
