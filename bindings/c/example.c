@@ -191,6 +191,33 @@ int main(void)
         (long long)whole_result[0], (long long)whole_result[1], (long long)whole_result[2]);
     printf("lookup (0, 1): refusal %u, %lld\n", (unsigned)whole_entry.refusal, (long long)whole_entry.value);
 
+    /* Cell 0 with a weight from -1 to 2, and cell 1 with a weight of 1: bounds on the variance of the sum. No choice of the
+     * weight has a variance below 0, which the bounds do not tell. A low end above its high end is refused with 21. */
+    const uint32_t cells_of_row[] = {0, 1};
+    const int64_t lows[] = {-1, 1};
+    const int64_t highs[] = {2, 1};
+    redstartgilt_variance_bounds bounds = redstartgilt_variance_bounds_whole(
+        result_starts, COUNT(result_starts), result_rows, COUNT(result_rows), whole_result, COUNT(whole_result),
+        cells_of_row, COUNT(cells_of_row), lows, COUNT(lows), highs, COUNT(highs));
+    printf("weights within ranges: refusal %u, variance from %lld to %lld\n",
+        (unsigned)bounds.refusal, (long long)bounds.low, (long long)bounds.high);
+    bounds = redstartgilt_variance_bounds_whole(
+        result_starts, COUNT(result_starts), result_rows, COUNT(result_rows), whole_result, COUNT(whole_result),
+        cells_of_row, COUNT(cells_of_row), highs, COUNT(highs), lows, COUNT(lows));
+    printf("ends exchanged: refusal %u\n", (unsigned)bounds.refusal);
+
+    /* Along the cells 0, 1, 1, the variances of the runs of two cells; runs of four are refused with 22. */
+    const uint32_t track[] = {0, 1, 1};
+    int64_t along[2]; /* the cells less the width, and one more */
+    refusal = redstartgilt_track_variances_whole(
+        result_starts, COUNT(result_starts), result_rows, COUNT(result_rows), whole_result, COUNT(whole_result),
+        track, COUNT(track), 2, along, COUNT(along));
+    printf("runs of two cells: refusal %u, %lld %lld\n", (unsigned)refusal, (long long)along[0], (long long)along[1]);
+    refusal = redstartgilt_track_variances_whole(
+        result_starts, COUNT(result_starts), result_rows, COUNT(result_rows), whole_result, COUNT(whole_result),
+        track, COUNT(track), 4, along, COUNT(along));
+    printf("runs of four cells: refusal %u\n", (unsigned)refusal);
+
     /* A diagonal of 2 is refused with 19. The square of 2^27 is beyond 2^53: 20, and the result is as it was. */
     const int64_t other_diagonal[] = {1, -3, 2};
     const int64_t too_steep[] = {1, 134217728, 1};

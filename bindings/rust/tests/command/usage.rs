@@ -49,6 +49,39 @@ fn bad_usage() {
         (&["f2.mtx", "--whole", "--why=1,2"], "--why does not go with --whole"),
         (&["--demo", "--whole"], "--demo does not go with --whole"),
         (
+            &["f2.mtx", "--whole", "--track=t.txt"],
+            "--track and --width need each other",
+        ),
+        (
+            &["f2.mtx", "--whole", "--width=2"],
+            "--track and --width need each other",
+        ),
+        (&["f2.mtx", "--track=t.txt", "--width=2"], "--track needs --whole"),
+        (&["f2.mtx", "--width", "two"], "--width needs a whole number, not two"),
+        (&["f2.mtx", "--width=-1"], "--width needs a whole number, not -1"),
+        (
+            &["f2.mtx", "--whole", "--track=t.txt", "--width=2", "--requests=a.txt"],
+            "--track does not go with --requests",
+        ),
+        (
+            &["f2.mtx", "--whole", "--track=t.txt", "--width=2", "--ranges=r.txt"],
+            "--track does not go with --ranges",
+        ),
+        (&["f2.mtx", "--whole", "--ranges"], "--ranges needs a value"),
+        (&["f2.mtx", "--ranges=r.txt"], "--ranges needs --whole"),
+        (
+            &["f2.mtx", "--whole", "--ranges=r.txt", "--requests=a.txt"],
+            "--ranges does not go with --requests",
+        ),
+        (
+            &["f2.mtx", "--whole", "--ranges=r.txt", "--entries"],
+            "--ranges does not go with --entries",
+        ),
+        (
+            &["f2.mtx", "--whole", "--ranges=r.txt", "--grid=2x1", "--svg=map.svg"],
+            "--ranges does not go with --grid",
+        ),
+        (
             &["f2.mtx", "--whole", "--operator=a.mtx"],
             "--operator does not go with --whole",
         ),
@@ -122,6 +155,9 @@ fn help_and_version() {
         "--limit",
         "--entries",
         "--whole",
+        "--ranges",
+        "--track",
+        "--width",
         "--why",
         "--csv",
         "--svg",
@@ -134,7 +170,7 @@ fn help_and_version() {
     }
     for error in redstartgilt::Error::ALL {
         let listed = help.contains(&format!("  {}  {error}\n", 10 + error.number()));
-        assert_eq!(listed, error.number() <= 20, "{error}");
+        assert_eq!(listed, error.number() <= 22, "{error}");
     }
     assert!(help.contains(&format!("\n  {HEADER}\n")));
     assert_eq!(

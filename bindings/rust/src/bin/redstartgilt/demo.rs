@@ -343,6 +343,7 @@ pub fn run(output: &mut impl Write, options: &Options) -> Result<(), Failure> {
         cells: &harbour.map_cells(&found.variances),
         placed: &placed,
         why: why.as_ref(),
+        track: None,
         diagnostics: &found.diagnostics,
     };
     write_map(options, &map)?;

@@ -3,6 +3,7 @@
 //! The numbers stand in the document, on the map's cells and in a table; the script only moves between cells and shows
 //! what stands there. So the page can be read without the script, without colour and without a pointer.
 
+use crate::fairway::{sign, Fairway, SIGNS};
 use crate::grid::Grid;
 use crate::map::{deviation, fill, Cell, Fill, Map};
 use crate::markup::{escaped, fill_value, pattern};
@@ -45,6 +46,7 @@ pub fn page(map: &Map<'_>) -> String {
     legend(&mut html, map, scale.as_ref());
     diagnosis(&mut html, map);
     why(&mut html, map);
+    runs(&mut html, map);
     table(&mut html, map);
     let _ = write!(html, "</main>\n<script>\n{SCRIPT}</script>\n</body>\n</html>\n");
     html
@@ -65,18 +67,15 @@ fn screen_side(grid: Grid) -> usize {
     (SCREEN_MAP / grid.width.max(grid.height)).clamp(least, largest)
 }
 
-/// The chain in the map's own units.
-fn trail<'a>(map: &'a Map<'a>) -> Option<Trail<'a>> {
+/// The map's own units.
+fn frame(map: &Map<'_>) -> Frame {
     let least_text = MARK_TEXTS.0 * SIDE as f64 / screen_side(map.placed.grid) as f64;
-    Trail::new(
-        map,
-        Frame {
-            left: 0.0,
-            top: 0.0,
-            side: SIDE as f64,
-            texts: (least_text, MARK_TEXTS.1.max(least_text)),
-        },
-    )
+    Frame {
+        left: 0.0,
+        top: 0.0,
+        side: SIDE as f64,
+        texts: (least_text, MARK_TEXTS.1.max(least_text)),
+    }
 }
 
 fn drawing(html: &mut String, map: &Map<'_>, scale: Option<&Scale>) {
@@ -94,7 +93,8 @@ fn drawing(html: &mut String, map: &Map<'_>, scale: Option<&Scale>) {
     );
     html.extend(map.patterns().map(|used| pattern(used, SIDE)));
     html.push_str("</defs>\n<g id=\"cells\">\n");
-    for (((place, cell), number), pairs) in map.cells.iter().enumerate().zip(numbers(map)).zip(pairs_of_cells(map)) {
+    let beside = pairs_of_cells(map).into_iter().zip(map.runs_of_cells());
+    for (((place, cell), number), (pairs, runs)) in map.cells.iter().enumerate().zip(numbers(map)).zip(beside) {
         let (column, row) = map.placed.grid.place(place);
         let _ = write!(
             html,
@@ -110,6 +110,7 @@ fn drawing(html: &mut String, map: &Map<'_>, scale: Option<&Scale>) {
             ("deviation", cell.deviation()),
             ("chain", pairs.as_ref().map(|(_, words)| words.clone())),
             ("chain-order", pairs.map(|(order, _)| order.to_string())),
+            ("runs", runs),
         ];
         for (name, value) in of_cell {
             if let Some(value) = value {
@@ -118,8 +119,11 @@ fn drawing(html: &mut String, map: &Map<'_>, scale: Option<&Scale>) {
         }
         html.push_str("/>\n");
     }
-    if let Some(trail) = trail(map) {
+    if let Some(trail) = Trail::new(map, frame(map)) {
         html.push_str(&trail.drawn());
+    }
+    if let Some(fairway) = Fairway::new(map, frame(map)) {
+        html.push_str(&fairway.drawn());
     }
     for cursor in ["pointed", "selected"] {
         let _ = writeln!(
@@ -174,6 +178,9 @@ fn readout(html: &mut String, map: &Map<'_>) {
     ];
     if map.chain().is_some() {
         lines.push(("on-chain", "chain".to_string()));
+    }
+    if map.track.is_some() {
+        lines.push(("runs", "run from here".to_string()));
     }
     for (id, name) in lines {
         let _ = writeln!(
@@ -240,12 +247,13 @@ fn legend(html: &mut String, map: &Map<'_>, scale: Option<&Scale>) {
         html.push_str("</ul>\n");
     }
     chain_legend(html, map);
+    track_legend(html, map);
     html.push_str("</section>\n");
 }
 
 /// The signs of the chain, and what its numbers are.
 fn chain_legend(html: &mut String, map: &Map<'_>) {
-    let Some(trail) = trail(map) else {
+    let Some(trail) = Trail::new(map, frame(map)) else {
         return;
     };
     html.push_str("<ul id=\"chain-legend\">\n");
@@ -254,6 +262,45 @@ fn chain_legend(html: &mut String, map: &Map<'_>) {
         let _ = writeln!(html, "<li>{} {}</li>", drawn_swatch(drawn.trim_end()), sign.words);
     }
     let _ = writeln!(html, "</ul>\n<p>{}</p>", trail.number_words().join(" "));
+}
+
+/// The lines of the track.
+fn track_legend(html: &mut String, map: &Map<'_>) {
+    if map.track.is_none() {
+        return;
+    }
+    html.push_str("<ul id=\"track-legend\">\n");
+    for (largest, words) in SIGNS {
+        let drawn = sign(largest, (0.0, 0.0), (32.0, 20.0));
+        let _ = writeln!(html, "<li>{} {words}</li>", drawn_swatch(drawn.trim_end()));
+    }
+    html.push_str("</ul>\n");
+}
+
+/// The runs of the track, the largest named.
+fn runs(html: &mut String, map: &Map<'_>) {
+    let Some(track) = map.track else {
+        return;
+    };
+    let _ = writeln!(
+        html,
+        "<section id=\"track-runs\" aria-labelledby=\"track-title\">\n<h2 id=\"track-title\">Track</h2>\n<p>{}.</p>\n\
+         <details>\n<summary>All runs as a table</summary>\n<table>\n<thead><tr><th scope=\"col\">run</th>\
+         <th scope=\"col\">first cell</th><th scope=\"col\">last cell</th><th scope=\"col\">{}</th></tr></thead>\n<tbody>",
+        track.summary(),
+        escaped(&map.variance_name())
+    );
+    for (run, variance) in track.variances.iter().enumerate() {
+        let (first, last) = track.ends(run);
+        let _ = writeln!(
+            html,
+            "<tr><th scope=\"row\">{}</th><td>{}</td><td>{}</td><td>{variance}</td></tr>",
+            run + 1,
+            first + 1,
+            last + 1
+        );
+    }
+    html.push_str("</tbody>\n</table>\n</details>\n</section>\n");
 }
 
 /// The answer for the pair that is asked about.

@@ -4,6 +4,7 @@ mod calibration;
 mod cell_lists;
 mod demo;
 mod failure;
+mod fairway;
 mod grid;
 mod html;
 mod lines;
@@ -12,9 +13,11 @@ mod markup;
 mod matrix_market;
 mod operators;
 mod options;
+mod ranges;
 mod report;
 mod scale;
 mod svg;
+mod track;
 mod trail;
 mod wholes;
 mod why;
@@ -112,6 +115,7 @@ fn run_factor(output: &mut impl Write, file: &Path, options: &Options) -> Result
             cells: &cells.collect::<Vec<_>>(),
             placed,
             why: why.as_ref(),
+            track: None,
             diagnostics: &found.diagnostics,
         };
         write_map(options, &map)?;

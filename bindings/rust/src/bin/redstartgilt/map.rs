@@ -2,6 +2,7 @@
 
 use crate::grid::Grid;
 use crate::scale::{short, Scale};
+use crate::track::Track;
 use crate::why::{OnChain, Why};
 use redstartgilt::SelectedInverseDiagnostics;
 
@@ -38,6 +39,8 @@ pub struct Map<'a> {
     pub placed: &'a Placed<'a>,
     /// The chain to a pair, where it is asked for.
     pub why: Option<&'a Why>,
+    /// The track, where there is one.
+    pub track: Option<&'a Track>,
     pub diagnostics: &'a SelectedInverseDiagnostics,
 }
 
@@ -151,6 +154,25 @@ impl Map<'_> {
             found[self.placed.cells[on_chain.cell]] = Some((order, on_chain));
         }
         found
+    }
+
+    /// The runs that begin at each cell of the grid, in words, where it is on the track.
+    pub fn runs_of_cells(&self) -> Vec<Option<String>> {
+        let mut found = vec![None; self.cells.len()];
+        if let Some(track) = self.track {
+            for (cell, words) in track.runs_of_cells(self.placed.cells.len()).into_iter().enumerate() {
+                found[self.placed.cells[cell]] = words;
+            }
+        }
+        found
+    }
+
+    /// What is told beside the variances, in one line: the pair whose chain is asked for, or the largest run.
+    pub fn subtitle(&self) -> Option<String> {
+        match self.track {
+            Some(track) => Some(track.summary()),
+            None => self.why.map(Why::title),
+        }
     }
 
     /// The scale of the finite variances, if there is one.

@@ -11,6 +11,8 @@ redstartgilt: variances from a sparse Cholesky factor, by a proved selected inve
 Usage:
   redstartgilt [OPTIONS] FACTOR
   redstartgilt --whole [--requests FILE] [--permutation FILE] [--limit N] [--entries] [--csv] [--grid WxH ..] FACTOR
+  redstartgilt --whole --ranges FILE [--permutation FILE] [--limit N] [--csv] FACTOR
+  redstartgilt --whole --track FILE --width K [--permutation FILE] [--limit N] [--csv] [--grid WxH ..] FACTOR
   redstartgilt --operator FILE [--with FILE [--pairs FILE]] [--permutation FILE] [--csv] FACTOR
   redstartgilt --demo [--requests FILE] [--why R,C] [--csv] [--svg FILE] [--html FILE]
 
@@ -24,8 +26,8 @@ none may be NaN or infinite, or too large for a 64-bit float: it is refused with
 
 Options:
   --requests FILE     the pairs whose entries are wanted; without it all diagonals. Two indices a line, in either order;
-                      lines that are empty or begin with % or # are passed over, here and in the next. Or a Matrix
-                      Market file, see below
+                      lines that are empty or begin with % or # are passed over, here and in every other list. Or
+                      a Matrix Market file, see below
   --permutation FILE  the order of the factor: line i has the place of cell i in the factor. Requests and output are
                       then in the order of the cells, not of the factor
   --limit N           give no entries if the requests and what the recurrence needs for them are more than N pairs;
@@ -33,11 +35,26 @@ Options:
   --entries           print row, column and value of every entry that was computed, by column then row, and not the
                       variances
   --whole             compute in whole numbers, exactly: FACTOR is an integer file with 1 on its diagonal. The answer
-                      says that it is exact: in text by a line, with --csv by the names exact_variance and exact_value,
-                      on maps by the title. Another diagonal is refused with 19, a number beyond 2^53 in size with 20.
-                      The message of 20 has the line of an entry of the file that is beyond it; or else, where no more
-                      than 1,048,576 pairs are to be computed, the column of the factor in which the recurrence, which
-                      goes from the last column to the first, comes upon such a number
+                      says that it is exact: in text by a line, with --csv by names that begin with exact_, as in
+                      exact_variance, on maps by the title. Another diagonal is refused with 19, a number beyond 2^53 in
+                      size with 20. The message of 20 has the line of an entry of the file that is beyond it; or else,
+                      where no more than 1,048,576 pairs are to be computed, the column of the factor in which the
+                      recurrence, which goes from the last column to the first, comes upon such a number
+  --ranges FILE       with --whole: print bounds on the variance of weighted sums of cells whose weights are known within
+                      ranges, and not the variances of the cells. Four whole numbers a line, in any order of the lines:
+                      row, cell, and the low and the high end of the weight of that cell in that row's sum. The pairs of
+                      each row's cells are requested. Every choice of weights within the ranges has its variance from
+                      the low to the high bound; the bounds need not be the variance of one choice of all weights. Equal
+                      ends give the variance itself. A cell twice in a row is refused with 9, more than 64 cells in a
+                      row, an end beyond 1,024 in size or a low end above its high end with 21, an entry beyond 2^30 in
+                      size with 20; the message has the line or the entry
+  --track FILE        with --whole and --width: print the variance of each run of K consecutive cells along a track, such
+                      as a fairway, and which is the largest, and not the variances of the cells. One cell a line, in the
+                      order of the track; a cell may be on it more than once, and counts each time. The pairs of cells
+                      of each run are requested. A cell that the factor has not is refused with 8, an entry beyond 2^40
+                      in size with 20; the message has the line or the entry. With --svg or --html the map shows the
+                      track and the largest run, and at each cell the variance of the run that begins there
+  --width K           the cells of a run: from 1 to 1,024, and no more than the track has. Another is refused with 22
   --why R,C           print why the pair of the cells R and C is computed, and not the variances: a chain of pairs from
                       one that was requested to this one, each needed for the one before and none shorter, with the
                       entry of the factor that leads to each; or that the pair is not in the set. A chain has no limit,
@@ -83,7 +100,7 @@ Exit status:
 ";
 
 /// The last refusal that the help lists: no call gives a later one yet.
-const LAST_REFUSAL: u32 = redstartgilt::sys::REDSTARTGILT_NUMBER_TOO_LARGE;
+const LAST_REFUSAL: u32 = redstartgilt::sys::REDSTARTGILT_BAD_WIDTH;
 
 /// The help with the list of refusals.
 pub fn help() -> String {
@@ -108,6 +125,9 @@ pub struct Options {
     pub limit: Option<usize>,
     pub entries: bool,
     pub whole: bool,
+    pub ranges: Option<PathBuf>,
+    pub track: Option<PathBuf>,
+    pub width: Option<usize>,
     /// Two cells, counted from 0.
     pub why: Option<(usize, usize)>,
     pub csv: bool,
@@ -135,6 +155,9 @@ pub fn read(words: impl IntoIterator<Item = OsString>) -> Result<Command, Failur
         limit: None,
         entries: false,
         whole: false,
+        ranges: None,
+        track: None,
+        width: None,
         why: None,
         csv: false,
         svg: None,
@@ -164,6 +187,9 @@ pub fn read(words: impl IntoIterator<Item = OsString>) -> Result<Command, Failur
                 | "--with"
                 | "--pairs"
                 | "--limit"
+                | "--ranges"
+                | "--track"
+                | "--width"
                 | "--why"
                 | "--svg"
                 | "--html"
@@ -183,7 +209,10 @@ pub fn read(words: impl IntoIterator<Item = OsString>) -> Result<Command, Failur
             "--operator" => options.operator.replace(value.into()).is_some(),
             "--with" => options.with.replace(value.into()).is_some(),
             "--pairs" => options.pairs.replace(value.into()).is_some(),
-            "--limit" => options.limit.replace(number(&value)?).is_some(),
+            "--limit" => options.limit.replace(number(name, &value)?).is_some(),
+            "--ranges" => options.ranges.replace(value.into()).is_some(),
+            "--track" => options.track.replace(value.into()).is_some(),
+            "--width" => options.width.replace(number(name, &value)?).is_some(),
             "--why" => options.why.replace(pair(&value)?).is_some(),
             "--svg" => options.svg.replace(value.into()).is_some(),
             "--html" => options.html.replace(value.into()).is_some(),
@@ -204,9 +233,17 @@ pub fn read(words: impl IntoIterator<Item = OsString>) -> Result<Command, Failur
     checked(options, demo)
 }
 
+/// That none of the others, each with whether it is given, stands beside an option.
+fn alone(name: &str, others: &[(&str, bool)]) -> Result<(), Failure> {
+    match others.iter().find(|(_, given)| *given) {
+        Some((other, _)) => Err(Failure::usage(format!("{name} does not go with {other}"))),
+        None => Ok(()),
+    }
+}
+
 fn checked(options: Options, demo: bool) -> Result<Command, Failure> {
     if demo {
-        let other = [
+        let others = [
             ("a factor", options.factor.is_some()),
             ("--permutation", options.permutation.is_some()),
             ("--operator", options.operator.is_some()),
@@ -215,9 +252,7 @@ fn checked(options: Options, demo: bool) -> Result<Command, Failure> {
             ("--whole", options.whole),
             ("--grid", options.grid.is_some()),
         ];
-        if let Some((name, _)) = other.iter().find(|(_, given)| *given) {
-            return Err(Failure::usage(format!("--demo does not go with {name}")));
-        }
+        alone("--demo", &others)?;
     } else {
         if options.factor.is_none() {
             return Err(Failure::usage("no factor is given"));
@@ -231,8 +266,37 @@ fn checked(options: Options, demo: bool) -> Result<Command, Failure> {
             return Err(Failure::usage("--grid needs --svg or --html"));
         }
     }
+    if options.ranges.is_some() {
+        let others = [
+            ("--requests", options.requests.is_some()),
+            ("--operator", options.operator.is_some()),
+            ("--entries", options.entries),
+            ("--why", options.why.is_some()),
+            ("--grid", options.grid.is_some()),
+        ];
+        alone("--ranges", &others)?;
+        if !options.whole {
+            return Err(Failure::usage("--ranges needs --whole"));
+        }
+    }
+    if options.track.is_some() {
+        let others = [
+            ("--requests", options.requests.is_some()),
+            ("--ranges", options.ranges.is_some()),
+            ("--operator", options.operator.is_some()),
+            ("--entries", options.entries),
+            ("--why", options.why.is_some()),
+        ];
+        alone("--track", &others)?;
+        if !options.whole {
+            return Err(Failure::usage("--track needs --whole"));
+        }
+    }
+    if options.track.is_some() != options.width.is_some() {
+        return Err(Failure::usage("--track and --width need each other"));
+    }
     if options.operator.is_some() {
-        let other = [
+        let others = [
             ("--requests", options.requests.is_some()),
             ("--limit", options.limit.is_some()),
             ("--entries", options.entries),
@@ -240,9 +304,7 @@ fn checked(options: Options, demo: bool) -> Result<Command, Failure> {
             ("--why", options.why.is_some()),
             ("--grid", options.grid.is_some()),
         ];
-        if let Some((name, _)) = other.iter().find(|(_, given)| *given) {
-            return Err(Failure::usage(format!("--operator does not go with {name}")));
-        }
+        alone("--operator", &others)?;
     }
     if options.why.is_some() && options.whole {
         return Err(Failure::usage("--why does not go with --whole"));
@@ -265,11 +327,11 @@ fn checked(options: Options, demo: bool) -> Result<Command, Failure> {
     Ok(Command::Run(Box::new(options)))
 }
 
-fn number(value: &OsString) -> Result<usize, Failure> {
+fn number(name: &str, value: &OsString) -> Result<usize, Failure> {
     value
         .to_str()
         .and_then(|text| text.parse().ok())
-        .ok_or_else(|| Failure::usage(format!("--limit needs a whole number, not {}", value.to_string_lossy())))
+        .ok_or_else(|| Failure::usage(format!("{name} needs a whole number, not {}", value.to_string_lossy())))
 }
 
 /// Two cells as in 5,3, counted from 1.

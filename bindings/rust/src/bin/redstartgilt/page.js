@@ -19,13 +19,16 @@
     };
 
     const spokenText = (place) => {
-        const { coverage, variance, deviation, chain } = cells[place].dataset;
+        const { coverage, variance, deviation, chain, runs } = cells[place].dataset;
         const parts = [`${placeText(place)}: ${coverage}`];
         if (variance !== undefined) {
             parts.push(`variance ${variance}`, `deviation ${deviation ?? "none"}`);
         }
         if (chain !== undefined) {
             parts.push(`chain: ${chain}`);
+        }
+        if (runs !== undefined) {
+            parts.push(runs);
         }
         return parts.join(", ");
     };
@@ -40,6 +43,10 @@
         const onChain = byId("on-chain");
         if (onChain !== null) {
             onChain.textContent = data.chain ?? missing;
+        }
+        const runs = byId("runs");
+        if (runs !== null) {
+            runs.textContent = data.runs ?? missing;
         }
     };
 

@@ -1,5 +1,6 @@
 //! A map as a picture.
 
+use crate::fairway::{sign, Fairway, SIGNS};
 use crate::grid::Grid;
 use crate::map::{fill, Fill, Map};
 use crate::markup::{escaped, fill_value, pattern};
@@ -13,6 +14,8 @@ const LEGEND_ROOM: usize = 190;
 const BAR_WIDTH: usize = 20;
 const KEY_ROOM: usize = 22;
 const LINE_ROOM: usize = 20;
+/// About the width of a letter.
+const LETTER_ROOM: usize = 7;
 /// The least and the largest height of the text of marks.
 const MARK_TEXTS: (f64, f64) = (7.0, 12.0);
 /// That of a mark in the legend.
@@ -24,21 +27,23 @@ pub fn draw(map: &Map<'_>) -> String {
     let side = (720 / width.max(height)).clamp(4, 40);
     let (map_width, map_height) = (width * side, height * side);
     let bar_height = map_height.max(120);
-    let top = TITLE_ROOM + if map.why.is_some() { LINE_ROOM } else { 0 };
-    let trail = Trail::new(
-        map,
-        Frame {
-            left: MARGIN as f64,
-            top: top as f64,
-            side: side as f64,
-            texts: MARK_TEXTS,
-        },
-    );
+    let subtitle = map.subtitle();
+    let top = TITLE_ROOM + if subtitle.is_some() { LINE_ROOM } else { 0 };
+    let frame = || Frame {
+        left: MARGIN as f64,
+        top: top as f64,
+        side: side as f64,
+        texts: MARK_TEXTS,
+    };
+    let trail = Trail::new(map, frame());
+    let fairway = Fairway::new(map, frame());
     let trail_room = trail.as_ref().map_or(0, |trail| {
         KEY_ROOM * trail.signs().len() + LINE_ROOM * trail.number_words().len()
     });
-    let whole_width = map_width + LEGEND_ROOM + 2 * MARGIN;
-    let whole_height = top + bar_height + 16 + KEY_ROOM * map.patterns().count() + trail_room + MARGIN;
+    let track_room = fairway.as_ref().map_or(0, |_| KEY_ROOM * SIGNS.len());
+    let subtitle_room = subtitle.as_ref().map_or(0, |words| words.chars().count() * LETTER_ROOM);
+    let whole_width = (map_width + LEGEND_ROOM).max(subtitle_room) + 2 * MARGIN;
+    let whole_height = top + bar_height + 16 + KEY_ROOM * map.patterns().count() + trail_room + track_room + MARGIN;
     let scale = map.scale();
     let title = escaped(map.title);
     let (cells, missing) = map.not_computed();
@@ -53,8 +58,8 @@ pub fn draw(map: &Map<'_>) -> String {
          <text x=\"{MARGIN}\" y=\"30\" font-size=\"18\">{title}</text>\n\
          <text x=\"{MARGIN}\" y=\"52\">{missing} of {cells} cells not computed</text>\n"
     );
-    if let Some(why) = map.why {
-        let _ = writeln!(svg, "<text x=\"{MARGIN}\" y=\"74\">{}</text>", escaped(&why.title()));
+    if let Some(subtitle) = subtitle {
+        let _ = writeln!(svg, "<text x=\"{MARGIN}\" y=\"74\">{}</text>", escaped(&subtitle));
     }
     if map.patterns().next().is_some() {
         svg.push_str("<defs>\n");
@@ -62,11 +67,15 @@ pub fn draw(map: &Map<'_>) -> String {
         svg.push_str("</defs>\n");
     }
     svg.push_str("<g stroke=\"#ffffff\" stroke-width=\"0.5\">\n");
-    for ((number, cell), on_chain) in map.cells.iter().enumerate().zip(map.on_chain()) {
+    let beside = map.on_chain().into_iter().zip(map.runs_of_cells());
+    for ((number, cell), (on_chain, runs)) in map.cells.iter().enumerate().zip(beside) {
         let (column, row) = map.placed.grid.place(number);
         let mut words = cell.variance().unwrap_or_else(|| cell.coverage().to_string());
         if let (Some(why), Some((_, on_chain))) = (map.why, on_chain) {
             let _ = write!(words, ", chain: {}", why.pairs_of(&on_chain));
+        }
+        if let Some(runs) = runs {
+            let _ = write!(words, ", {runs}");
         }
         let _ = writeln!(
             svg,
@@ -83,10 +92,16 @@ pub fn draw(map: &Map<'_>) -> String {
     if let Some(trail) = &trail {
         svg.push_str(&trail.drawn());
     }
+    if let Some(fairway) = &fairway {
+        svg.push_str(&fairway.drawn());
+    }
     let corner = (MARGIN + map_width + 24, top);
     let below = legend(&mut svg, map, scale.as_ref(), corner, bar_height);
     if let Some(trail) = &trail {
         trail_legend(&mut svg, trail, (corner.0, below));
+    }
+    if fairway.is_some() {
+        track_legend(&mut svg, (corner.0, below));
     }
     svg.push_str("</svg>\n");
     svg
@@ -139,6 +154,20 @@ fn legend(
         top += KEY_ROOM;
     }
     top
+}
+
+/// The lines of the track.
+fn track_legend(svg: &mut String, (left, top): (usize, usize)) {
+    for (number, (largest, words)) in SIGNS.into_iter().enumerate() {
+        let top = top + KEY_ROOM * number;
+        let _ = writeln!(
+            svg,
+            "{}<text x=\"{}\" y=\"{}\">{words}</text>",
+            sign(largest, (left as f64, top as f64), (BAR_WIDTH as f64, 14.0)),
+            left + BAR_WIDTH + 8,
+            top + 12
+        );
+    }
 }
 
 /// The signs of the chain, and what its numbers are.

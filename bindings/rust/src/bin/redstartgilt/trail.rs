@@ -10,7 +10,7 @@ use crate::why::{Coupling, OnChain, Why};
 use std::collections::HashMap;
 
 /// A place on the picture.
-type Point = (f64, f64);
+pub type Point = (f64, f64);
 
 /// Where a map's cells are on a picture, and between which heights the text of marks is.
 pub struct Frame {
@@ -22,7 +22,7 @@ pub struct Frame {
 
 impl Frame {
     /// The middle of a cell by its column and row.
-    fn middle(&self, (column, row): (usize, usize)) -> Point {
+    pub fn middle(&self, (column, row): (usize, usize)) -> Point {
         (
             self.left + (column as f64 + 0.5) * self.side,
             self.top + (row as f64 + 0.5) * self.side,
