@@ -36,6 +36,8 @@ of `chain_of` below, which follows document 02's text, and the set is made here.
 numbers: the answers of kinds `wentries` and `wget` are those of `whole_answer` and `lookups` below, with Python's
 numbers, which have no bound, and both sets are made here. Where the answer to `wentries` is Complete, the Rust is
 asked for the entries of the same factor as doubles; its entries must be equal as numbers, and the rest of its answer the same.
+Nor has it weights in ranges or variances along a track: the answers of kinds `bounds` and `track` are those of
+`variance_bounds` and `track_variances` below, and both sets are made here.
 """
 import collections, itertools, math, os, random, re, struct, subprocess, sys
 
@@ -57,6 +59,8 @@ SETS = {
     "chain": (60, 1500, 4),
     "wentries": (160, 2500, 12),
     "wget": (60, 1500, 8),
+    "bounds": (100, 2500, 12),
+    "track": (100, 2500, 12),
     "floor": (90, 2000, 12),
     "least": (60, 2000, 12),
     "perm": (90, 2000, 12),
@@ -85,6 +89,8 @@ LENT = {
     "get": {},
     "wentries": WHOLE,
     "wget": {},
+    "bounds": {},
+    "track": {"lwout": ROOM},
     "search": {},
     "diag": MARKED,
     "patfactor": PATTERN,
@@ -107,6 +113,8 @@ READ = {
     "get": FACTOR[1:] + ("prows", "pcols"),
     "wentries": WHOLE_FACTOR + ("rdim", "rrows", "rcols", "limit", "prows", "pcols"),
     "wget": WHOLE_FACTOR[1:] + ("prows", "pcols"),
+    "bounds": WHOLE_FACTOR[1:] + ("cols", "lows", "highs"),
+    "track": WHOLE_FACTOR[1:] + ("cells", "width"),
     "search": ("rows", "sought"),
     "diag": FACTOR[1:],
     "patfactor": FACTOR,
@@ -124,9 +132,9 @@ READ = {
     "mmread": ("file",),
 }
 FIELDS = {kind: (*LENT[kind], *READ[kind]) for kind in READ}
-SCALARS = ("n", "rdim", "limit", "ncols", "ancols", "bncols", "prow", "pcol", "floor", "scale")
+SCALARS = ("n", "rdim", "limit", "ncols", "ancols", "bncols", "prow", "pcol", "width", "floor", "scale")
 VALUES = ("values", "oweights", "aweights", "bweights", "input", "lvalues", "lout")
-WHOLES = ("wvalues", "lwvalues", "lwork")
+WHOLES = ("wvalues", "lwvalues", "lwork", "lows", "highs", "lwout")
 BYTES = ("file",)
 MARKS = ("marks", "lmarks")
 # what the program has room for: ROOM items of a list, so many pairs, bytes of a case, and this dimension where it lends its own lists
@@ -475,13 +483,17 @@ def column_refusals(starts, rows, values, c):
         yield 3
 
 
-def diag_refusals(f):
-    starts = f["starts"]
-    if not starts:
+def result_refusals(f):
+    """The lookup's 2 and 3 for every column, one after the other."""
+    if not f["starts"]:
         yield 2
-    for c in range(len(starts) - 1):
-        yield from column_refusals(starts, f["rows"], f["values"], c)
-    if min(room("diag", f, "lout"), room("diag", f, "lmarks")) < len(starts) - 1:
+    for c in range(len(f["starts"]) - 1):
+        yield from column_refusals(f["starts"], f["rows"], values_of(f), c)
+
+
+def diag_refusals(f):
+    yield from result_refusals(f)
+    if min(room("diag", f, "lout"), room("diag", f, "lmarks")) < len(f["starts"]) - 1:
         yield 7
 
 
@@ -715,6 +727,100 @@ def check_doubles(f, got, doubles):
             assert value == whole if "none" in (whole, value) else int(whole) == number_of(value), f
 
 
+# ---- document 02: a result of whole numbers: the bounds on a row's variance with weights in ranges, and the variances along a track
+
+MOST_TERMS, MOST_WEIGHT, MOST_ROW_ENTRY = 64, 1024, 2**30
+MOST_WIDTH, MOST_TRACK_ENTRY = 1024, 2**40
+# to this number of terms every choice of ends is made too
+EVERY_CORNER = 6
+
+
+def result_entries(f):
+    """The entries of a result by their pairs; rows above the diagonal or from n on are of no pair."""
+    n, starts = len(f["starts"]) - 1, f["starts"]
+    places = ((f["rows"][p], c, p) for c in range(n) for p in range(starts[c], starts[c + 1]))
+    return {(r, c): f["wvalues"][p] for r, c, p in places if c <= r < n}
+
+
+def entry_refusals(f, pairs, most):
+    """8 and 20 for the pairs that a call needs."""
+    entry = result_entries(f)
+    if any(pair not in entry for pair in pairs):
+        yield 8
+    if any(abs(entry[pair]) > most for pair in pairs):
+        yield 20
+
+
+def bounds_refusals(f):
+    cols, lows, highs = (f[x] for x in ("cols", "lows", "highs"))
+    yield from result_refusals(f)
+    outside = any(c >= len(f["starts"]) - 1 for c in cols)
+    if not len(cols) == len(lows) == len(highs) or len(set(cols)) < len(cols) or outside:
+        yield 9
+    if len(cols) > MOST_TERMS or any(a > b or max(abs(a), abs(b)) > MOST_WEIGHT for a, b in zip(lows, highs)):
+        yield 21
+    yield from entry_refusals(f, {ordered(a, b) for a in cols for b in cols}, MOST_ROW_ENTRY)
+
+
+def variance(entry, cols, weights):
+    """The sum over ordered pairs of columns, each weight as often as its column stands there."""
+    terms = list(zip(cols, weights))
+    return sum(v * w * entry[ordered(a, b)] for a, v in terms for b, w in terms)
+
+
+def variance_bounds(f):
+    """The bounds of an accepted case: of a square every weight in the range is tried, of other terms the ends."""
+    entry, cols, ends = result_entries(f), f["cols"], list(zip(f["lows"], f["highs"]))
+    low = high = 0
+    for i, a in enumerate(cols):
+        for j, b in enumerate(cols):
+            if i == j:
+                products = [w * w for w in range(ends[i][0], ends[i][1] + 1)]
+            else:
+                products = [v * w for v in ends[i] for w in ends[j]]
+            term = [x * entry[ordered(a, b)] for x in products]
+            low, high = low + min(term), high + max(term)
+    if len(cols) <= EVERY_CORNER:
+        corners = [variance(entry, cols, weights) for weights in itertools.product(*ends)]
+        assert low <= min(corners) and max(corners) <= high, f
+        assert f["lows"] != f["highs"] or [low, high] == [corners[0]] * 2, f
+    return low, high
+
+
+def bounds_answer(f):
+    """The answer to an accepted case, as the Rust tells those of other kinds."""
+    low, high = variance_bounds(f)
+    return {"reply": ["ok"], "low": [str(low)], "high": [str(high)]}
+
+
+def track_runs(f):
+    """The cells of each run along a track."""
+    cells, width = f["cells"], f["width"]
+    return [cells[i : i + width] for i in range(len(cells) - width + 1)]
+
+
+def track_refusals(f):
+    yield from result_refusals(f)
+    if not 0 < f["width"] <= min(MOST_WIDTH, len(f["cells"])):
+        yield 22
+    pairs = {ordered(a, b) for run in map(set, track_runs(f)) for a in run for b in run}
+    yield from entry_refusals(f, pairs, MOST_TRACK_ENTRY)
+    if room("track", f, "lwout") < len(track_runs(f)):
+        yield 7
+
+
+def track_variances(f):
+    """The full sum of each run of an accepted case."""
+    entry = result_entries(f)
+    return [variance(entry, run, [1] * len(run)) for run in track_runs(f)]
+
+
+def track_answer(f):
+    """The answer to an accepted case, as the Rust tells those of other kinds."""
+    found = track_variances(f)
+    return {"reply": ["ok"], "wout": [str(len(found))] + [str(x) for x in found]}
+
+
 # ---- document 02: the search in a column
 
 
@@ -915,6 +1021,8 @@ REFUSALS = {
     "get": no_refusals,
     "wentries": wentries_refusals,
     "wget": no_refusals,
+    "bounds": bounds_refusals,
+    "track": track_refusals,
     "search": no_refusals,
     "diag": diag_refusals,
     "patfactor": patfactor_refusals,
@@ -994,6 +1102,7 @@ TOLD = {
     "opvar": DIAGNOSIS,
     "covar": DIAGNOSIS,
     "chain": ("chain",),
+    "bounds": ("low", "high"),
     "floor": ("floor", "hits"),
     "least": ("negative", "least"),
     "mmread": ("rdim", "requests"),
@@ -1072,6 +1181,10 @@ def get_answer(f, got):
     return ["reply ok", gets_line(f)], difference
 
 
+# the answers to accepted cases of which the Rust is not asked
+ANSWERS = {"mmread": mmread_answer, "chain": chain_answer, "bounds": bounds_answer, "track": track_answer}
+
+
 def expected(kind, f, answer):
     """The lines of the answer that the program must write, and how the Rust differs; the answer is None where the Rust was not asked."""
     got = {x.split()[0]: x.split()[1:] for x in answer or []}
@@ -1082,12 +1195,10 @@ def expected(kind, f, answer):
     if kind == "wget":
         return ["reply ok", gets_line(f)], None
     number, difference = refusal(kind, f), None
-    if kind == "mmread" and not number:
-        got = mmread_answer(f)
+    if kind in ANSWERS and not number:
+        got = ANSWERS[kind](f)
     if kind == "covar" and not number:
         got = covar_answer(f, got)
-    if kind == "chain" and not number:
-        got = chain_answer(f)
     if kind == "wentries" and not number:
         doubles, got = got, whole_answer(f)
         check_doubles(f, got, doubles)
@@ -1476,7 +1587,16 @@ def some_whole_lookup(chance):
     columns = [sorted({chance.below(n + 1) for _ in range(chance.below(5))}) for _ in range(n)]
     f = {"starts": [0, *itertools.accumulate(map(len, columns))], "rows": [r for column in columns for r in column]}
     f["wvalues"] = [chance.pick((0, some_whole(chance, 3), some_whole(chance, 3))) for _ in f["rows"]]
-    which = chance.below(12)
+    spoil_result(chance, f, 12)
+    count = chance.pick((0, 1, 3, 6, 9))
+    index = lambda: 2**32 - 1 if chance.one_of(9) else chance.below(n + 1)
+    f["prows"], f["pcols"] = ([index() for _ in range(count)] for _ in range(2))
+    return f
+
+
+def spoil_result(chance, f, odds):
+    """Four times in so many, a fault of the lists."""
+    which = chance.below(odds)
     if which == 0:
         f["starts"] = chance.pick(([], f["starts"][::-1], f["starts"][:-1], f["starts"] + [2**32 - 1], f["starts"] + [0]))
     elif which == 1:
@@ -1486,10 +1606,6 @@ def some_whole_lookup(chance):
     elif which == 3 and len(f["rows"]) > 1:
         at = 1 + chance.below(len(f["rows"]) - 1)
         f["rows"][at] = f["rows"][at - 1]
-    count = chance.pick((0, 1, 3, 6, 9))
-    index = lambda: 2**32 - 1 if chance.one_of(9) else chance.below(n + 1)
-    f["prows"], f["pcols"] = ([index() for _ in range(count)] for _ in range(2))
-    return f
 
 
 def some_whole_lookups(seed=1):
@@ -1498,8 +1614,131 @@ def some_whole_lookups(seed=1):
         yield "wget-%d" % k, some_whole_lookup(chance)
 
 
+# how many cases each of the sets bounds and track has
+RESULT_CASES = 3000
+
+
+def some_entry(chance, most, odd):
+    """An entry of a result: small, now and then at the bound, at odd ones beyond it."""
+    if chance.one_of(odd):
+        return chance.pick((most + 1, -most - 1, 2**53, *BEYOND))
+    if chance.one_of(6):
+        return chance.pick((most, -most, most - 1, 1 - most))
+    return chance.below(41) - 20
+
+
+def some_inverse(chance, n):
+    """The result with every pair of a factor with 1 on its diagonal."""
+    factor = {"n": n, "rows": [], "wvalues": [], "starts": [0]}
+    for c in range(n):
+        factor["rows"] += range(c, n)
+        factor["wvalues"] += [1] + [chance.below(7) - 3 for _ in range(c + 1, n)]
+        factor["starts"].append(len(factor["rows"]))
+    inverse = whole_inverse(factor)
+    return {**{x: factor[x] for x in ("starts", "rows")}, "wvalues": [inverse[i][c] for c in range(n) for i in range(c, n)]}
+
+
+def some_result(chance, n, most):
+    """A result with most of its pairs, now and then a row above the diagonal or from n on, and places past the last start."""
+    if n <= EVERY_INVERSE and chance.one_of(4):
+        return some_inverse(chance, n)
+    gap, odd = chance.pick((10**9, 10**9, 10**9, 30, 4)), chance.pick((10**9, 10**9, 10**9, 20))
+    columns = []
+    for c in range(n):
+        rows = {r for r in range(c, n) if not chance.one_of(gap)}
+        if chance.one_of(8):
+            rows.add(chance.pick((chance.below(c + 1), n, n + 1 + chance.below(9), 2**32 - 1)))
+        columns.append(sorted(rows))
+    f = {"starts": [0, *itertools.accumulate(map(len, columns))], "rows": [r for column in columns for r in column]}
+    f["wvalues"] = [some_entry(chance, most, odd) for _ in f["rows"]]
+    for name in ("rows", "wvalues"):
+        if chance.one_of(12):
+            f[name] += [chance.pick((0, 2**32 - 1))] * (1 + chance.below(2))
+    return f
+
+
+def some_of(chance, cells, count):
+    """So many different ones of the cells, in any order; all where there are not so many."""
+    rest = list(cells)
+    return [rest.pop(chance.below(len(rest))) for _ in range(min(count, len(rest)))]
+
+
+def some_ends(chance):
+    """The ends of a weight's range: small ones, often equal, now and then at the bound."""
+    edge = chance.one_of(6)
+    ends = [chance.pick((1024, -1024, 1023, 0)) if edge else chance.below(13) - 6 for _ in range(2)]
+    return (ends[0], ends[0]) if chance.one_of(4) else (min(ends), max(ends))
+
+
+def spoil_row(chance, f, n):
+    """One fault of the row, or something that looks like one."""
+    which, name = chance.below(6), chance.pick(("cols", "lows", "highs"))
+    if which == 0:
+        f[name] = f[name][:-1] if f[name] and chance.one_of(2) else f[name] + [0]
+    elif which == 1 and f["cols"]:
+        f["cols"][chance.below(len(f["cols"]))] = chance.pick((n, n + 1, 2**32 - 1, 0, 0))
+    elif which == 2 and f["lows"] and f["highs"]:
+        f["lows"][-1], f["highs"][-1] = f["highs"][-1], f["lows"][-1]
+    elif f["lows"] and f["highs"]:
+        ends = f[chance.pick(("lows", "highs"))]
+        ends[chance.below(len(ends))] = chance.pick((1025, -1025, 1024, -1024, 2**32, 2**63 - 1, -(2**63)))
+
+
+def some_row(chance):
+    """A result and a row with weights in ranges."""
+    n = chance.pick((0, 1, 1, 2, 2, 3, 3, 4, 5, 6, 7, 9)) if not chance.one_of(40) else chance.pick((63, 64, 65, 66))
+    f = some_result(chance, n, MOST_ROW_ENTRY)
+    f["cols"] = some_of(chance, range(n), n if n > 60 else chance.pick((0, 1, 2, 2, 3, 4, 6, 8)))
+    ends = [some_ends(chance) for _ in f["cols"]]
+    f["lows"], f["highs"] = ([end[k] for end in ends] for k in (0, 1))
+    spoil_result(chance, f, 40)
+    for _ in range(chance.pick((0, 0, 0, 0, 0, 1, 1, 2))):
+        spoil_row(chance, f, n)
+    return f
+
+
+def some_row_cases(seed=1):
+    chance = Chance(int(seed))
+    for k in range(RESULT_CASES):
+        yield "bounds-%d" % k, some_row(chance)
+
+
+def some_track(chance):
+    """A result, a track over its cells, also with repeats, a width, and often an output, mostly as long as needed or longer."""
+    n = chance.pick((0, 1, 1, 2, 3, 4, 5, 6, 8, 12))
+    f = some_result(chance, n, MOST_TRACK_ENTRY)
+    length = chance.pick((0, 1, 2, 3, 4, 6, 9, 15, 30)) if n else chance.pick((0, 0, 1))
+    f["cells"] = [chance.below(max(n, 1)) for _ in range(length)]
+    if chance.one_of(2):
+        f["cells"] = [k % max(n, 1) for k in range(length)]
+    if f["cells"] and chance.one_of(16):
+        f["cells"][chance.below(length)] = chance.pick((n, n + 1, 2**32 - 1))
+    f["width"] = min(1 + chance.below(chance.pick((1, 2, 3, 4, 30))), max(length, 1))
+    if chance.one_of(10):
+        f["width"] = chance.pick((0, length, length + 1, 1024, 1025, 2**32, 2**32 + 1, 2**32 + length, 2**64 - 1))
+    spoil_result(chance, f, 40)
+    if not chance.one_of(3):
+        count = max(length - f["width"] + 1, 0)
+        places = max(count + (-1 if chance.one_of(6) else chance.pick((0, 0, 1, 3))), 0)
+        f["lwout"] = [chance.pick((7777, -7777)) for _ in range(places)]
+    return f
+
+
+def some_tracks(seed=1):
+    chance = Chance(int(seed))
+    for k in range(RESULT_CASES):
+        yield "track-%d" % k, some_track(chance)
+
+
 # the sets that are made here, of the kind of the same name, of which the Rust is not asked
-MADE = {"mmread": some_files, "search": some_searches, "chain": some_chains, "wget": some_whole_lookups}
+MADE = {
+    "mmread": some_files,
+    "search": some_searches,
+    "chain": some_chains,
+    "wget": some_whole_lookups,
+    "bounds": some_row_cases,
+    "track": some_tracks,
+}
 
 
 def some_marked(programs, *seed):
@@ -1652,6 +1891,9 @@ def given(programs):
         elif kind == "chain":
             number = [refusal(kind, f)]
             number += [] if number[0] else [index for pair in chain_of(f) for index in pair]
+        elif kind in ("bounds", "track"):
+            number = [refusal(kind, f)]
+            number += [] if number[0] else variance_bounds(f) if kind == "bounds" else track_variances(f)
         elif kind == "wentries":
             number = [refusal(kind, f)]
             if not number[0]:

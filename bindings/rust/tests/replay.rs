@@ -311,6 +311,57 @@ fn wholes(answer: &mut String, case: &Case<'_>) {
     }
 }
 
+/// Bounds on the variance of a row with weights in ranges.
+fn bounds(answer: &mut String, case: &Case<'_>) {
+    let (starts, rows, values) = (case.words("starts"), case.words("rows"), case.wholes("wvalues"));
+    let (columns, lows, highs) = (case.words("cols"), case.wholes("lows"), case.wholes("highs"));
+    let reply = unsafe {
+        sys::redstartgilt_variance_bounds_whole(
+            starts.as_ptr(),
+            starts.len(),
+            rows.as_ptr(),
+            rows.len(),
+            values.as_ptr(),
+            values.len(),
+            columns.as_ptr(),
+            columns.len(),
+            lows.as_ptr(),
+            lows.len(),
+            highs.as_ptr(),
+            highs.len(),
+        )
+    };
+    if put_reply(answer, reply.refusal) {
+        let _ = write!(answer, "low {}\nhigh {}\n", reply.low, reply.high);
+    } else {
+        assert_eq!((reply.low, reply.high), (0, 0));
+    }
+}
+
+/// Variances along a track.
+fn tracks(answer: &mut String, case: &Case<'_>) {
+    let (starts, rows, values) = (case.words("starts"), case.words("rows"), case.wholes("wvalues"));
+    let track = case.words("cells");
+    let mut output = case.lent_wholes("lwout", 4_608);
+    let refusal = unsafe {
+        sys::redstartgilt_track_variances_whole(
+            starts.as_ptr(),
+            starts.len(),
+            rows.as_ptr(),
+            rows.len(),
+            values.as_ptr(),
+            values.len(),
+            track.as_ptr(),
+            track.len(),
+            case.number("width"),
+            output.as_mut_ptr(),
+            output.len(),
+        )
+    };
+    put_reply(answer, refusal);
+    put_wholes(answer, "wout", &output);
+}
+
 /// Entries, the diagonal in original order, operator variances and covariances: all take a factor and fill result lists.
 fn selected(answer: &mut String, case: &Case<'_>) {
     let n = case.number("n");
@@ -771,6 +822,8 @@ fn answer(case: &Case<'_>) -> String {
             let (starts, rows, values) = (case.words("starts"), case.words("rows"), case.wholes("wvalues"));
             put_whole_gets(&mut answer, &starts, &rows, &values, case);
         }
+        "bounds" => bounds(&mut answer, case),
+        "track" => tracks(&mut answer, case),
         "search" => searches(&mut answer, case),
         "diag" => diagonals(&mut answer, case),
         "mmread" => request_files(&mut answer, case),
@@ -810,7 +863,7 @@ fn every_answer_is_that_of_the_proved_program() {
     let (stdin, stdout) = (text("stdin"), text("stdout"));
     let (cases, expected) = (cases(&stdin), cases(&stdout));
     assert_eq!(cases.len(), expected.len());
-    assert!(cases.len() >= 3_169);
+    assert!(cases.len() >= 3_639);
     for (lines, expected) in cases.iter().zip(expected) {
         let fields = lines[1..lines.len() - 1].iter().map(|line| {
             let mut words = line.split_whitespace();

@@ -7,6 +7,7 @@ use super::put_value;
 use super::put_value_line;
 use super::put_values;
 use super::put_whole;
+use super::put_whole_line;
 use super::put_wholes;
 use super::put_words;
 use dependency_chain::ChainPairs;
@@ -21,6 +22,7 @@ use refusal::Checked;
 use refusal::Refusal;
 use requests_reader::ReadRequests;
 use verdicts::refusal_number;
+use weight_ranges::VarianceBounds;
 
 pub fn put_ok() {
     put(b"reply ok\n");
@@ -209,6 +211,25 @@ pub fn put_whole_result(
     put_wholes(b"wvalues ", values);
     put_scratch(scratch);
     put_wholes(b"work ", work);
+}
+
+fn put_range(low: i64, high: i64) {
+    put_ok();
+    put_whole_line(b"low ", low);
+    put_whole_line(b"high ", high);
+}
+
+// The bounds on a row's variance.
+pub fn put_bounds(answer: VarianceBounds) {
+    match answer {
+        VarianceBounds::Bounds(low, high) => put_range(low, high),
+        VarianceBounds::Refused(why) => put_refused(why),
+    }
+}
+
+// The variances along a track, after the call.
+pub fn put_whole_output(output: &[i64]) {
+    put_wholes(b"wout ", output);
 }
 
 fn put_variance(floor: f64, hits: usize) {

@@ -53,6 +53,13 @@ pub fn put_whole(x: i64) {
     put_count(size(x));
 }
 
+// A line of a label and a whole number.
+pub fn put_whole_line(label: &[u8], x: i64) {
+    put(label);
+    put_whole(x);
+    put_line_end();
+}
+
 // How often the item before it stood, where more than once.
 fn put_times(k: usize) {
     if k > 1 {

@@ -102,6 +102,10 @@ pub fn lent_output<'a>(text: &[u8], list: &'a mut [f64]) -> &'a mut [f64] {
     lent_values(text, b"\nlout ", list)
 }
 
+pub fn lent_whole_output<'a>(text: &[u8], list: &'a mut [i64]) -> &'a mut [i64] {
+    lent_wholes(text, b"\nlwout ", list)
+}
+
 pub fn lent_marks<'a>(text: &[u8], list: &'a mut [u8]) -> &'a mut [u8] {
     lent_bytes(text, b"\nlmarks ", list)
 }

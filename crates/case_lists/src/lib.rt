@@ -128,3 +128,25 @@ pub fn permutation<'a>(text: &[u8], list: &'a mut [u32]) -> &'a [u32] {
 pub fn input<'a>(text: &[u8], list: &'a mut [f64]) -> &'a [f64] {
     values_of(text, b"\ninput ", list)
 }
+
+// One operator row: its columns, and the least and the greatest weight at each.
+pub fn columns<'a>(text: &[u8], list: &'a mut [u32]) -> &'a [u32] {
+    words_of(text, b"\ncols ", list)
+}
+
+pub fn lows<'a>(text: &[u8], list: &'a mut [i64]) -> &'a [i64] {
+    wholes_of(text, b"\nlows ", list)
+}
+
+pub fn highs<'a>(text: &[u8], list: &'a mut [i64]) -> &'a [i64] {
+    wholes_of(text, b"\nhighs ", list)
+}
+
+// A track: its cells, and how many of them a run has.
+pub fn cells<'a>(text: &[u8], list: &'a mut [u32]) -> &'a [u32] {
+    words_of(text, b"\ncells ", list)
+}
+
+pub fn width(text: &[u8]) -> usize {
+    number_field(text, b"\nwidth ")
+}

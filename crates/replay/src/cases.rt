@@ -15,6 +15,7 @@ use replay_lookups::of_lookups;
 use replay_patterns::of_patterns;
 use replay_variances::of_variances;
 use replay_whole::of_whole;
+use replay_whole_results::of_whole_results;
 
 // The call of the kind that is named at `name`, and its answer.
 fn call(text: &[u8], name: usize) {
@@ -22,6 +23,9 @@ fn call(text: &[u8], name: usize) {
         return;
     }
     if of_whole(text, name) {
+        return;
+    }
+    if of_whole_results(text, name) {
         return;
     }
     if of_variances(text, name) {
