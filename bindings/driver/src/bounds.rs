@@ -10,9 +10,10 @@ use crate::random::Random;
 use crate::refusals::{MOST_COLUMNS, MOST_ENTRIES};
 use crate::sound::sound;
 use crate::subjects::{FactorLists, OperatorLists, Pair, PairLists, RequestLists, RowPairLists};
+use crate::whole_cases::calls_at_the_greatest;
 
-/// Calls on both sides of each bound of document 01's step 1, and of those of files; those within it are accepted, or
-/// refused by a later step.
+/// Calls on both sides of each bound of document 01's step 1, of those of files, and of the greatest whole number; those
+/// within it are accepted, or refused by a later step.
 pub fn bounds() -> Vec<Call> {
     let mut random = Random::new(0);
     let mut calls = Vec::new();
@@ -149,6 +150,7 @@ pub fn bounds() -> Vec<Call> {
         });
     }
     calls.extend(pairs());
+    calls.extend(calls_at_the_greatest(30));
     let file = |text: &Vec<u8>| Call { function: Function::ReadRequests, text: List::new(text), ..Call::default() };
     calls.extend(files().iter().map(file));
     for call in &mut calls {

@@ -30,6 +30,7 @@ struct Made {
 }
 
 /// A sort of cases, and how many there are.
+#[derive(Clone, Copy)]
 struct Sort {
     name: &'static str,
     count: usize,
@@ -54,13 +55,8 @@ const GRIDS: [usize; 6] = [3, 5, 8, 16, 32, 45];
 
 /// The cases of a seed, one by one.
 pub fn whole_cases(seed: u64) -> impl Iterator<Item = WholeCase> {
-    let numbered = SORTS.into_iter().flat_map(|sort| (0..sort.count).map(move |k| (sort.name, k, sort.make)));
-    let small = numbered.map(move |(name, k, make)| {
-        let mut random = Random::new(seed.wrapping_mul(0x2545_f491_4f6c_dd1d) ^ (k as u64) << 8 ^ name.len() as u64);
-        let Made { columns, requests, passed } = make(&mut random);
-        let call = called(lists(&columns), &requests, &mut random);
-        WholeCase { name: format!("whole:{name}-{k}"), call, passed }
-    });
+    let numbered = SORTS.into_iter().flat_map(|sort| (0..sort.count).map(move |k| (sort, k)));
+    let small = numbered.map(move |(sort, k)| sort.case(seed, k));
     let scaled = (0..SCALED).map(move |k| {
         let mut random = Random::new(seed ^ (k as u64) << 16);
         let n = 1 + random.below(120);
@@ -80,6 +76,23 @@ pub fn whole_cases(seed: u64) -> impl Iterator<Item = WholeCase> {
         WholeCase { name: format!("whole:{side}x{side}-{order}"), call, passed: Some(Vec::new()) }
     });
     small.chain(scaled).chain(grids)
+}
+
+impl Sort {
+    /// Made from seed and name alone.
+    fn case(self, seed: u64, k: usize) -> WholeCase {
+        let name = format!("whole:{}-{k}", self.name);
+        let mut random = Random::new(name.bytes().fold(seed, |mixed, byte| mixed.wrapping_mul(257) ^ byte as u64));
+        let Made { columns, requests, passed } = (self.make)(&mut random);
+        let call = called(lists(&columns), &requests, &mut random);
+        WholeCase { name, call, passed }
+    }
+}
+
+/// Calls of the cases made for numbers about 2^53, so many of each sort.
+pub fn calls_at_the_greatest(each: usize) -> impl Iterator<Item = Call> {
+    let made = SORTS.into_iter().filter(|sort| !["random", "diagonal"].contains(&sort.name));
+    made.flat_map(move |sort| (0..each).map(move |k| sort.case(0, k).call))
 }
 
 /// The call for these, with a limit about the set's size.
