@@ -22,10 +22,11 @@ extern "C" {
 
 /* Refusals; 0 is none. Those from 19 on:
  *   19  a kept diagonal other than 1 of a factor of whole numbers
- *   20  a number beyond 2^53 in size, in the calls in whole numbers
- * No call of this header gives the others, which are named for calls that are not in it, nor 20 for another size, 2^30 for
- * ranges and 2^40 for tracks:
+ *   20  a number too large in size: beyond 2^53 in selected entries in whole numbers, an entry beyond 2^30 in the bounds on
+ *       a row's variance
  *   21  weights: a low one above its high one, one beyond 1,024 in size, or more than 64 terms
+ * No call of this header gives the others, which are named for calls that are not in it, nor 20 for another size, 2^40
+ * for tracks:
  *   22  a width of 0, above 1,024 or above the track's length
  *   23  a kept diagonal other than 1 beside pivots
  *   24  an empty request list of a dimension above 0 that is to be written as a file */
@@ -76,6 +77,9 @@ typedef struct { uint32_t refusal; double value; } redstartgilt_entry;
 
 /* The reply of a lookup in a result of whole numbers: a refusal, or the value. */
 typedef struct { uint32_t refusal; int64_t value; } redstartgilt_whole_entry;
+
+/* The reply of the bounds on a row's variance: a refusal, or the low and the high bound. On a refusal both are 0. */
+typedef struct { uint32_t refusal; int64_t low; int64_t high; } redstartgilt_variance_bounds;
 
 /* The reply of a lookup that counts: a refusal, or the value; and how many places of the column its search looked at,
  * also where the pair is absent. */
@@ -230,6 +234,38 @@ redstartgilt_entry redstartgilt_get_well_formed(
 redstartgilt_whole_entry redstartgilt_get_whole(
     const uint32_t *starts, size_t starts_len, const uint32_t *rows, size_t rows_len, const int64_t *values, size_t values_len,
     size_t row, size_t column);
+
+/* Bounds on the variance of a row whose weights are known within ranges, over a result of whole numbers: the weight of
+ * the cell columns[a] is from lows[a] to highs[a], and the variance is the sum of weight a * weight b * entry over all
+ * ordered pairs of places a and b. low is the sum of the least values that each of these terms can have, high that of
+ * the greatest. For two different places a term's ends are among the four products of the ends of their weights, each
+ * times the entry; a place with itself is a square, whose least value is 0 where its range has 0 in it. Entries below 0
+ * exchange the two ends.
+ *
+ * Every choice of weights within the ranges, fractions too, has its variance from low to high. The bounds need not be the
+ * variance of one choice: each term has its least or greatest value by a choice of its own, so low may be less than the
+ * least variance, and also less than 0, and high more than the greatest. Equal ends give low and high both the exact
+ * variance, and wider ranges never narrower bounds. No term gives 0 and 0.
+ *
+ * The dimension n is starts_len - 1, so lend only the n + 1 filled starts; rows and values may be longer than filled.
+ * Refuses, in this order, all of one number before any of the next:
+ *   2, 3   as redstartgilt_check_result, column by column
+ *   9   lists of unequal length, a column of n or more, or one listed twice
+ *   21  more than 64 terms, an end beyond 1,024 in size, or a low end above its high end
+ *   8   a pair of the columns, also one with itself, that is absent from the result
+ *   20  an entry at a pair of the columns beyond 2^30 in size
+ * Writes nothing. Beside the check of the result, which reads every start and every row once, each ordered pair is looked
+ * up twice, each time in about log2 of its column's rows.
+ *
+ * Of the entries 10, 3 and 1 of the inverse (10, 3; 3, 1), cell 0 with a weight from -1 to 2 and cell 1 with one of 1:
+ *   const uint32_t starts[] = {0, 2, 3}, rows[] = {0, 1, 1}, columns[] = {0, 1};
+ *   const int64_t values[] = {10, 3, 1}, lows[] = {-1, 1}, highs[] = {2, 1};
+ *   redstartgilt_variance_bounds bounds = redstartgilt_variance_bounds_whole(
+ *       starts, 3, rows, 3, values, 3, columns, 2, lows, 2, highs, 2);
+ * gives refusal 0, low -5 and high 53: 10 times 0 to 4, twice 3 times -1 to 2, and 1. */
+redstartgilt_variance_bounds redstartgilt_variance_bounds_whole(
+    const uint32_t *starts, size_t starts_len, const uint32_t *rows, size_t rows_len, const int64_t *values, size_t values_len,
+    const uint32_t *columns, size_t columns_len, const int64_t *lows, size_t lows_len, const int64_t *highs, size_t highs_len);
 
 /* The diagonal of a filled result, with marks: where the lookup finds (c, c), output[c] is its value and marks[c] 1, also
  * for a value of 0.0, -0.0 or NaN; where it does not, output[c] is 0.0 and marks[c] 0. So a cell that was not computed is

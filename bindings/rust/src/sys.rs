@@ -14,6 +14,7 @@ mod permutations;
 mod refusals;
 mod results;
 mod selected_entries;
+mod whole_variances;
 mod wholes;
 
 pub use chains::*;
@@ -25,4 +26,5 @@ pub use permutations::*;
 pub use refusals::*;
 pub use results::*;
 pub use selected_entries::*;
+pub use whole_variances::*;
 pub use wholes::*;

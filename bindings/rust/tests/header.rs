@@ -152,13 +152,13 @@ fn sys_numbers() -> BTreeSet<String> {
 #[test]
 fn functions() {
     assert_eq!(sys_functions(), header_functions());
-    assert_eq!(sys_functions().len(), 26);
+    assert_eq!(sys_functions().len(), 27);
 }
 
 #[test]
 fn structs() {
     assert_eq!(sys_structs(), header_structs());
-    assert_eq!(sys_structs().len(), 8);
+    assert_eq!(sys_structs().len(), 9);
 }
 
 #[test]

@@ -15,6 +15,7 @@ use Rattle.c_replies.specs.declared.SelectedNumbers.{SelectedNumbers}
 use Rattle.c_replies.specs.declared.EntryNumbers.{EntryNumbers}
 use Rattle.c_replies.specs.declared.CountedNumbers.{CountedNumbers}
 use Rattle.c_replies.specs.declared.WholeEntryNumbers.{WholeEntryNumbers}
+use Rattle.c_replies.specs.declared.BoundsNumbers.{BoundsNumbers}
 use Rattle.c_replies.specs.declared.PairNumbers.{PairNumbers}
 use Rattle.c_replies.specs.declared.RequestsNumbers.{RequestsNumbers}
 use Rattle.c_replies.specs.declared.FloorNumbers.{FloorNumbers}
@@ -59,6 +60,11 @@ countedNumbers reply looks = record { refusal = entryNumbers reply .refusal; val
 abbrev pub wholeEntryNumbers : Reply ℤ → WholeEntryNumbers
 wholeEntryNumbers (answered z) = record { refusal = 0; value = z }
 wholeEntryNumbers (refused k) = record { refusal = k; value = pos 0 }
+
+-- the bounds on a row's variance
+abbrev pub boundsNumbers : Reply (ℤ × ℤ) → BoundsNumbers
+boundsNumbers (answered b) = record { refusal = 0; low = b .0; high = b .1 }
+boundsNumbers (refused k) = record { refusal = k; low = pos 0; high = pos 0 }
 
 -- a pattern list: how many pairs were listed
 abbrev pub pairNumbers : Reply ℕ → PairNumbers

@@ -5,8 +5,9 @@ ghost use Rattle.lookup.specs.Reply.{entryReply, wholeReply};
 ghost use Rattle.pattern_lists.specs.ListedMarks.{listReply};
 ghost use Rattle.dependency_chain.specs.Reply.{chainReply};
 ghost use Rattle.floor.specs.Floor.{stabilizedReply};
+ghost use Rattle.weight_ranges.specs.Ranges.{boundsReply};
 ghost use Rattle.requests_reader.specs.Reader.{readReply};
-ghost use Rattle.c_replies.specs.Numbers.{statusNumber, selectedNumbers, entryNumbers, countedNumbers, wholeEntryNumbers, pairNumbers, requestsNumbers, floorNumbers, leastNumbers};
+ghost use Rattle.c_replies.specs.Numbers.{statusNumber, selectedNumbers, entryNumbers, countedNumbers, wholeEntryNumbers, boundsNumbers, pairNumbers, requestsNumbers, floorNumbers, leastNumbers};
 use dependency_chain::ChainPairs;
 use diagnostics::Selected;
 use diagnostics::SelectedInverseStatus;
@@ -18,6 +19,7 @@ use lookup::whole::WholeEntry;
 use pattern_lists::listed::PatternPairs;
 use requests_reader::ReadRequests;
 use verdicts::refusal_number;
+use weight_ranges::VarianceBounds;
 
 // The answer of a call that selects entries.
 #[repr(C)]
@@ -51,6 +53,14 @@ pub struct CountedNumbers {
 pub struct WholeEntryNumbers {
     pub refusal: u32,
     pub value: i64,
+}
+
+// The bounds on a row's variance.
+#[repr(C)]
+pub struct BoundsNumbers {
+    pub refusal: u32,
+    pub low: i64,
+    pub high: i64,
 }
 
 // The answer of a pattern list, or of a chain.
@@ -159,6 +169,23 @@ pub fn whole_entry_numbers(entry: WholeEntry) -> WholeEntryNumbers
         WholeEntry::Refused(why) => WholeEntryNumbers {
             refusal: refusal_number(why),
             value: 0,
+        },
+    }
+}
+
+pub fn bounds_numbers(answer: VarianceBounds) -> BoundsNumbers
+    ensures { λ r. ⌜ r ≡ boundsNumbers (boundsReply answer) ⌝ }
+{
+    match answer {
+        VarianceBounds::Bounds(low, high) => BoundsNumbers {
+            refusal: 0,
+            low: low,
+            high: high,
+        },
+        VarianceBounds::Refused(why) => BoundsNumbers {
+            refusal: refusal_number(why),
+            low: 0,
+            high: 0,
         },
     }
 }

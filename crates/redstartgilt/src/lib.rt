@@ -8,4 +8,5 @@ pub mod patterns;
 pub mod permutations;
 pub mod results;
 pub mod selected_entries;
+pub mod whole_variances;
 pub mod wholes;

@@ -18,7 +18,8 @@ pub const REDSTARTGILT_NON_POSITIVE_DEFINITE: u32 = 6;
 pub const REDSTARTGILT_TOO_SHORT: u32 = 7;
 /// A pair that is not among the entries.
 pub const REDSTARTGILT_NOT_COVERED: u32 = 8;
-/// Row starts of an operator that are not those of its rows, or a column out of range.
+/// Row starts of an operator that are not those of its rows, or a column out of range; of a row with ranges, lists of
+/// unequal length, or a column out of range or listed twice.
 pub const REDSTARTGILT_BROKEN_OPERATOR: u32 = 9;
 /// A permutation's index of its length or more.
 pub const REDSTARTGILT_INDEX_TOO_LARGE: u32 = 10;
@@ -40,11 +41,12 @@ pub const REDSTARTGILT_FILE_INDEX_OUTSIDE: u32 = 17;
 pub const REDSTARTGILT_NOT_FINITE_ENTRY: u32 = 18;
 /// A kept diagonal other than 1 of a factor of whole numbers.
 pub const REDSTARTGILT_DIAGONAL_NOT_ONE: u32 = 19;
-/// A number beyond 2^53 in size, in the calls in whole numbers.
+/// A number too large in size: beyond 2^53 in selected entries in whole numbers, an entry beyond 2^30 in the bounds on a
+/// row's variance.
 pub const REDSTARTGILT_NUMBER_TOO_LARGE: u32 = 20;
-/// Weights within ranges: low above high, too large, or too many terms; no call gives it yet, nor those below.
+/// Weights within ranges: low above high, beyond 1,024 in size, or more than 64 terms.
 pub const REDSTARTGILT_BAD_WEIGHTS: u32 = 21;
-/// A width of 0, above 1,024 or above the track's length.
+/// A width of 0, above 1,024 or above the track's length; no call gives it yet, nor those below.
 pub const REDSTARTGILT_BAD_WIDTH: u32 = 22;
 /// A kept diagonal other than 1 beside pivots.
 pub const REDSTARTGILT_PIVOT_DIAGONAL_NOT_ONE: u32 = 23;
