@@ -22,12 +22,11 @@ extern "C" {
 
 /* Refusals; 0 is none. Those from 19 on:
  *   19  a kept diagonal other than 1 of a factor of whole numbers
- *   20  a number too large in size: beyond 2^53 in selected entries in whole numbers, an entry beyond 2^30 in the bounds on
- *       a row's variance
+ *   20  a number too large in size: beyond 2^53 in selected entries in whole numbers; an entry beyond 2^30 in the bounds on
+ *       a row's variance, beyond 2^40 in the variances along a track
  *   21  weights: a low one above its high one, one beyond 1,024 in size, or more than 64 terms
- * No call of this header gives the others, which are named for calls that are not in it, nor 20 for another size, 2^40
- * for tracks:
  *   22  a width of 0, above 1,024 or above the track's length
+ * No call of this header gives the others, which are named for calls that are not in it:
  *   23  a kept diagonal other than 1 beside pivots
  *   24  an empty request list of a dimension above 0 that is to be written as a file */
 enum {
@@ -266,6 +265,33 @@ redstartgilt_whole_entry redstartgilt_get_whole(
 redstartgilt_variance_bounds redstartgilt_variance_bounds_whole(
     const uint32_t *starts, size_t starts_len, const uint32_t *rows, size_t rows_len, const int64_t *values, size_t values_len,
     const uint32_t *columns, size_t columns_len, const int64_t *lows, size_t lows_len, const int64_t *highs, size_t highs_len);
+
+/* Variances along a track, over a result of whole numbers: output[i] is the variance of the sum of the cells track[i] to
+ * track[i + width - 1], which is the sum of the width * width entries at their ordered pairs. A cell may be on the track
+ * any number of times, and counts each time. The track may be of any length.
+ *
+ * Output needs track_len - width + 1 places, one for each run; later places keep their contents. The dimension n is
+ * starts_len - 1, so lend only the n + 1 filled starts; rows and values may be longer than filled. Refuses, in this order,
+ * all of one number before any of the next, over the whole track; output is then as it was:
+ *   2, 3   as redstartgilt_check_result, column by column
+ *   22  a width of 0, above 1,024 or above track_len
+ *   8   a pair of cells of one run, also a cell with itself, that is absent from the result, as it is for a cell of n or
+ *       more. Cells at places width or more apart are in no run together, and need no entry
+ *   20  an entry at cells of one run beyond 2^40 in size
+ *   7   output too short
+ * Each run after the first is made from the one before it. Beside the check of the result, which reads every start and
+ * every row once, each pair of places less than width apart is looked up twice, once to find 8 and 20 and once to sum,
+ * each time in about log2 of its column's rows. No scratch is needed.
+ *
+ * Of the entries 10, 3 and 1 of the inverse (10, 3; 3, 1), the runs of two cells along the cells 0, 1, 1:
+ *   const uint32_t starts[] = {0, 2, 3}, rows[] = {0, 1, 1}, track[] = {0, 1, 1};
+ *   const int64_t values[] = {10, 3, 1};
+ *   int64_t output[2];
+ *   uint32_t refusal = redstartgilt_track_variances_whole(starts, 3, rows, 3, values, 3, track, 3, 2, output, 2);
+ * gives 0, and the variances 17 and 4. */
+uint32_t redstartgilt_track_variances_whole(
+    const uint32_t *starts, size_t starts_len, const uint32_t *rows, size_t rows_len, const int64_t *values, size_t values_len,
+    const uint32_t *track, size_t track_len, size_t width, int64_t *output, size_t output_len);
 
 /* The diagonal of a filled result, with marks: where the lookup finds (c, c), output[c] is its value and marks[c] 1, also
  * for a value of 0.0, -0.0 or NaN; where it does not, output[c] is 0.0 and marks[c] 0. So a cell that was not computed is

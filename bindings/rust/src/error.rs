@@ -40,8 +40,8 @@ pub enum Error {
     /// 8: a pair that is not among the selected entries; or, of the diagonal in original order, a closed set above the
     /// default limit.
     NotCovered,
-    /// 9: row starts of an operator that are not those of its rows, or a column of n or more; or a row pair that names a
-    /// row that its operator has not.
+    /// 9: row starts of an operator that are not those of its rows, or a column of n or more; a row pair that names a row
+    /// that its operator has not; or, of a row with ranges, a column of n or more or one listed twice.
     BrokenOperator,
     /// 10: a permutation's index that is not below its length.
     IndexTooLarge,
@@ -76,14 +76,14 @@ pub enum Error {
     /// 19: a diagonal entry other than 1 in a factor of whole numbers; an entry of 0 counts as none.
     DiagonalNotOne,
     /// 20: in whole numbers, an entry of the factor, or a product, running sum or entry of the recurrence, that is beyond
-    /// 2^53 in size.
+    /// 2^53 in size; an entry at cells of a row with ranges that is beyond 2^30, or of a track's run that is beyond 2^40.
     NumberTooLarge,
-    /// 21: weights within ranges, with a low one above its high one, one beyond ±1,024, or more than 64 terms. No call
-    /// gives it yet, nor one of those below.
+    /// 21: weights within ranges, with a low one above its high one, one beyond ±1,024, or more than 64 terms.
     BadWeights,
     /// 22: a width of 0, above 1,024, or above the length of the track.
     BadWidth,
-    /// 23: a diagonal entry other than 1 in a factor with pivots; an entry of 0.0 counts as none.
+    /// 23: a diagonal entry other than 1 in a factor with pivots; an entry of 0.0 counts as none. No call gives it yet, nor
+    /// the one below.
     PivotDiagonalNotOne,
     /// 24: requests without a pair, of a dimension above 0, that are to be written as a file, where they would mean all
     /// diagonals.
@@ -184,7 +184,8 @@ impl Error {
             }
             Error::BrokenOperator => {
                 "broken operator: its row starts must go from 0, never falling, to the number of columns, with as many \
-                 weights, its columns must be below the dimension, and row pairs must name its rows"
+                 weights, its columns must be below the dimension, row pairs must name its rows, and a row with ranges \
+                 must have each column once"
             }
             Error::IndexTooLarge => "an index of the permutation is not below its length",
             Error::DuplicateEntry => "the permutation has an index twice",
@@ -206,8 +207,9 @@ impl Error {
             Error::NotFiniteEntry(_) => "an entry of the factor, on or below its diagonal, is not finite",
             Error::DiagonalNotOne => "a diagonal entry of a factor of whole numbers is not 1",
             Error::NumberTooLarge => {
-                "a number is beyond 2^53 in size, too large to be exact: an entry of a factor of whole numbers, or a product, \
-                 a running sum or an entry of the recurrence"
+                "a number is too large in size to be exact: beyond 2^53 an entry of a factor of whole numbers, or a product, \
+                 a running sum or an entry of the recurrence; beyond 2^30 an entry at cells of a row with ranges; beyond 2^40 \
+                 one at cells of a track's run"
             }
             Error::BadWeights => {
                 "bad weights: a low one is above its high one, one is beyond 1,024 in size, or there are more than 64"

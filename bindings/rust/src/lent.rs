@@ -2,7 +2,7 @@
 //!
 //! A list may be longer than needed; places past those filled keep their contents. A refused call leaves every list as
 //! it was, unless its documentation says otherwise. Lengths that suffice: [`result_places`], [`scratch_words`],
-//! [`pair_total`], [`request_places`], [`chain_words`] and [`chain_places`].
+//! [`pair_total`], [`request_places`], [`chain_words`], [`chain_places`] and [`track_runs`].
 //!
 //! ```
 //! use redstartgilt::lent::{self, EntryLists, FactorLists, ResultLists};
@@ -65,6 +65,7 @@ mod patterns;
 mod permutations;
 mod results;
 mod selected_entries;
+mod whole_variances;
 mod wholes;
 
 pub use chains::dependency_chain;
@@ -73,6 +74,7 @@ pub use files::{read_requests, FileRequests};
 pub use floors::{count_and_least, stabilize_variances, Floored};
 pub use lengths::{
     chain_places, chain_words, default_limit, mark_words, pair_total, request_places, result_places, scratch_words,
+    track_runs,
 };
 pub use lists::{EntryLists, FactorLists, Number, OperatorLists, ResultLists};
 pub use patterns::{from_cholesky_factor, from_transformed_operator};
@@ -82,6 +84,7 @@ pub use selected_entries::{
     selected_inverse_diag_with_diagnostics, selected_inverse_entries, selected_inverse_entries_with_limit,
     selected_inverse_transformed_covariances, selected_inverse_transformed_diag,
 };
+pub use whole_variances::{track_variances_whole, variance_bounds_whole};
 pub use wholes::{
     check_whole_factor, get_whole, selected_inverse_entries_whole, selected_inverse_entries_whole_with_limit,
 };

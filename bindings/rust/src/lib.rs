@@ -53,6 +53,7 @@ mod permutation;
 mod request_file;
 pub mod sys;
 mod variances;
+mod whole_variances;
 mod wholes;
 mod workspace;
 
@@ -78,6 +79,7 @@ pub use variances::{
     selected_inverse_transformed_diag, selected_inverse_transformed_diag_in, SelectedInverseDiagResult,
     SelectedInverseTransformedResult, VarianceEstimate,
 };
+pub use whole_variances::VarianceBounds;
 pub use wholes::{
     selected_inverse_entries_whole, selected_inverse_entries_whole_in, selected_inverse_entries_whole_with_limit,
     selected_inverse_entries_whole_with_limit_in, WholeFactor, WholeSelectedInverse,

@@ -5,6 +5,7 @@ use native.Mathlib.Omega.{arith}
 use native.Mathlib.Nat.{add-zero}
 use mathlib.Core.Path.{_≡_, refl, sym, ap, ap₂, _∙_}
 use lib.IntN.{ℤ, pos, _+ℤ_, _-ℤ_, +ℤ-assoc, +ℤ-comm, +ℤ-idl, +ℤ-idr, +ℤ-negℤ-cancel}
+use Rattle.integers.specs.Integer.{+ℤ-interchange}
 use Rattle.integers.specs.Sum.{Σℤ, sum-cong, sum-add, sum-first}
 use Rattle.integers.specs.Size.{SizeWithin, size-sums}
 use Rattle.run_sums.specs.Runs.{blockSum}
@@ -16,6 +17,15 @@ lineSum E p f m = Σℤ m (λ b. E p (f + b))
 -- what the cell at place p adds to the m cells from f on: its own entry, and twice those with them
 abbrev pub strip : (ℕ → ℕ → ℤ) → ℕ → ℕ → ℕ → ℤ
 strip E p f m = E p p +ℤ (lineSum E p f m +ℤ lineSum E p f m)
+
+pub strip-none : (E : ℕ → ℕ → ℤ) (p f : ℕ) → strip E p f 0 ≡ E p p
+strip-none E p f = +ℤ-idr (E p p)
+
+-- one cell more
+pub strip-more : (E : ℕ → ℕ → ℤ) (p f m : ℕ) → strip E p f (suc m) ≡ strip E p f m +ℤ (E p (f + m) +ℤ E p (f + m))
+strip-more E p f m =
+    ap (λ (x : ℤ). E p p +ℤ x) (+ℤ-interchange (lineSum E p f m) (E p (f + m)) (lineSum E p f m) (E p (f + m)))
+    ∙ sym (+ℤ-assoc (E p p) (lineSum E p f m +ℤ lineSum E p f m) (E p (f + m) +ℤ E p (f + m)))
 
 -- a + s + (s′ + b) as a + (b + (s + s′))
 at-end : (x s t b : ℤ) → (x +ℤ s) +ℤ (t +ℤ b) ≡ x +ℤ (b +ℤ (s +ℤ t))

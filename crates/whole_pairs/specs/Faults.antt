@@ -3,11 +3,11 @@ use Prim.Native.Nat.{ℕ, zero, suc, _+_, _-_}
 use native.Mathlib.Omega.{arith}
 use mathlib.Core.Path.{_≡_, refl, sym, ap, _∙_}
 use mathlib.Core.Bool.{Bool, true, false, cond, _||_, or-true}
-use mathlib.Core.List.{List, [], _∷_, _++_}
+use mathlib.Core.List.{[], _∷_}
 use lib.Dec.{leb}
 use Rattle.lists.specs.Sum.{bit}
 use Rattle.lists.specs.Test.{any, anyIn, any-cong}
-use Rattle.refusal.specs.Steps.{Step, refused, first, verdict, Passed, append-refused, append-passed}
+use Rattle.refusal.specs.Steps.{first, verdict}
 use Rattle.whole_pairs.specs.Worst.{worst, worstIn, worst-test, worstIn-test}
 
 or-interchange : (a b c d : Bool) → ((a || b) || (c || d)) ≡ ((a || c) || (b || d))
@@ -65,17 +65,3 @@ pub fault-steps : (a b : Bool) {x y : Bool} → x ≡ a → y ≡ (a || b) → v
 unfolding first
 fault-steps true b p q = rw p
 fault-steps false b p q = rw (p, q)
-
--- ---- four groups of steps: the first that refuses decides
-module _ (g h j l : List Step) {k : ℕ} where
-  pub group-first : verdict g ≡ refused k → refused k ≡ verdict (g ++ (h ++ (j ++ l)))
-  group-first e = sym (append-refused g (h ++ (j ++ l)) k tt e)
-
-  pub group-second : Passed g → verdict h ≡ refused k → refused k ≡ verdict (g ++ (h ++ (j ++ l)))
-  group-second p e = sym (append-passed g (h ++ (j ++ l)) tt p ∙ append-refused h (j ++ l) k tt e)
-
-  pub group-third : Passed g → Passed h → verdict j ≡ refused k → refused k ≡ verdict (g ++ (h ++ (j ++ l)))
-  group-third p q e = sym (append-passed g (h ++ (j ++ l)) tt p ∙ append-passed h (j ++ l) tt q ∙ append-refused j l k tt e)
-
-pub group-last : (g h j l : List Step) → Passed g → Passed h → Passed j → verdict (g ++ (h ++ (j ++ l))) ≡ verdict l
-group-last g h j l p q r = append-passed g (h ++ (j ++ l)) tt p ∙ append-passed h (j ++ l) tt q ∙ append-passed j l tt r

@@ -56,3 +56,12 @@ pub fn request_places(text: &[u8]) -> usize {
     let line_ends = text.iter().filter(|byte| **byte == b'\n').count();
     line_ends.min(MAX_ENTRIES)
 }
+
+/// The runs of `width` cells that a track of so many has: cells − width + 1, and 0 for a width that a call refuses.
+pub const fn track_runs(cells: usize, width: usize) -> usize {
+    if width == 0 || width > cells {
+        0
+    } else {
+        cells - width + 1
+    }
+}

@@ -41,14 +41,14 @@ pub const REDSTARTGILT_FILE_INDEX_OUTSIDE: u32 = 17;
 pub const REDSTARTGILT_NOT_FINITE_ENTRY: u32 = 18;
 /// A kept diagonal other than 1 of a factor of whole numbers.
 pub const REDSTARTGILT_DIAGONAL_NOT_ONE: u32 = 19;
-/// A number too large in size: beyond 2^53 in selected entries in whole numbers, an entry beyond 2^30 in the bounds on a
-/// row's variance.
+/// A number too large in size: beyond 2^53 in selected entries in whole numbers; an entry beyond 2^30 in the bounds on a
+/// row's variance, beyond 2^40 in the variances along a track.
 pub const REDSTARTGILT_NUMBER_TOO_LARGE: u32 = 20;
 /// Weights within ranges: low above high, beyond 1,024 in size, or more than 64 terms.
 pub const REDSTARTGILT_BAD_WEIGHTS: u32 = 21;
-/// A width of 0, above 1,024 or above the track's length; no call gives it yet, nor those below.
+/// A width of 0, above 1,024 or above the track's length.
 pub const REDSTARTGILT_BAD_WIDTH: u32 = 22;
-/// A kept diagonal other than 1 beside pivots.
+/// A kept diagonal other than 1 beside pivots; no call gives it yet, nor the one below.
 pub const REDSTARTGILT_PIVOT_DIAGONAL_NOT_ONE: u32 = 23;
 /// An empty request list of a dimension above 0 that is to be written as a file.
 pub const REDSTARTGILT_NO_REQUESTS: u32 = 24;

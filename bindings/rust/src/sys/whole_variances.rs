@@ -1,4 +1,5 @@
-//! Variances over a result of whole numbers: bounds of a row whose weights are known within ranges.
+//! Variances over a result of whole numbers: bounds of a row whose weights are known within ranges, and the runs
+//! of a track.
 
 /// The reply of the bounds on a row's variance: a refusal, or the low and the high bound.
 #[repr(C)]
@@ -29,4 +30,19 @@ extern "C" {
         highs: *const i64,
         highs_len: usize,
     ) -> redstartgilt_variance_bounds;
+
+    /// The variance of each run of consecutive cells along a track.
+    pub fn redstartgilt_track_variances_whole(
+        starts: *const u32,
+        starts_len: usize,
+        rows: *const u32,
+        rows_len: usize,
+        values: *const i64,
+        values_len: usize,
+        track: *const u32,
+        track_len: usize,
+        width: usize,
+        output: *mut i64,
+        output_len: usize,
+    ) -> u32;
 }

@@ -5,6 +5,7 @@ mod document;
 mod factors;
 mod operators;
 mod pictures;
+mod ranges;
 mod requests;
 mod usage;
 mod variances;

@@ -48,6 +48,20 @@ fn bad_usage() {
         (&["f2.mtx", "--whole", "--whole"], "--whole is given twice"),
         (&["f2.mtx", "--whole", "--why=1,2"], "--why does not go with --whole"),
         (&["--demo", "--whole"], "--demo does not go with --whole"),
+        (&["f2.mtx", "--whole", "--ranges"], "--ranges needs a value"),
+        (&["f2.mtx", "--ranges=r.txt"], "--ranges needs --whole"),
+        (
+            &["f2.mtx", "--whole", "--ranges=r.txt", "--requests=a.txt"],
+            "--ranges does not go with --requests",
+        ),
+        (
+            &["f2.mtx", "--whole", "--ranges=r.txt", "--entries"],
+            "--ranges does not go with --entries",
+        ),
+        (
+            &["f2.mtx", "--whole", "--ranges=r.txt", "--grid=2x1", "--svg=map.svg"],
+            "--ranges does not go with --grid",
+        ),
         (
             &["f2.mtx", "--whole", "--operator=a.mtx"],
             "--operator does not go with --whole",
@@ -122,6 +136,7 @@ fn help_and_version() {
         "--limit",
         "--entries",
         "--whole",
+        "--ranges",
         "--why",
         "--csv",
         "--svg",
@@ -134,7 +149,7 @@ fn help_and_version() {
     }
     for error in redstartgilt::Error::ALL {
         let listed = help.contains(&format!("  {}  {error}\n", 10 + error.number()));
-        assert_eq!(listed, error.number() <= 20, "{error}");
+        assert_eq!(listed, error.number() <= 21, "{error}");
     }
     assert!(help.contains(&format!("\n  {HEADER}\n")));
     assert_eq!(

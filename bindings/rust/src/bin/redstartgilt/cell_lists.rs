@@ -1,8 +1,9 @@
-//! Requests and permutations from files of indices.
+//! Requests, row pairs, ranges and permutations from files of whole numbers.
 
 use crate::failure::Failure;
 use crate::lines::Lines;
 use redstartgilt::{Error, Permutation, RequestFileFault, SparseSymmetricPattern};
+use std::collections::BTreeMap;
 use std::path::Path;
 
 fn is_comment(line: &str) -> bool {
@@ -13,33 +14,49 @@ fn text_of(file: &Path) -> Result<Vec<u8>, Failure> {
     std::fs::read(file).map_err(|error| Failure::in_file(file, error))
 }
 
-/// The numbers of each line, counted from 0, with the line's number; each line must have as many as `names`.
-fn indices<const COUNT: usize>(file: &Path, text: &[u8], names: &str) -> Result<Vec<(usize, [usize; COUNT])>, Failure> {
+/// The words of each line, with the line's number; each line must have as many as `names`.
+fn words<'a, const COUNT: usize>(
+    file: &'a Path,
+    text: &'a [u8],
+    names: &str,
+) -> Result<Vec<(usize, [&'a str; COUNT])>, Failure> {
     let mut lines = Lines::new(file, text);
     let mut found = Vec::new();
     while let Some((number, line)) = lines.next_filled(is_comment)? {
         let words = line.split_whitespace().collect::<Vec<_>>();
-        if words.len() != COUNT {
-            return Err(Failure::at_line(
+        let words = words.try_into().map_err(|words: Vec<_>| {
+            Failure::at_line(
                 file,
                 number,
                 format!("a line has {names}, but this one has {} words", words.len()),
-            ));
-        }
+            )
+        })?;
+        found.push((number, words));
+    }
+    Ok(found)
+}
+
+/// The index that a word gives, counted from 0.
+fn index(file: &Path, line: usize, word: &str) -> Result<usize, Failure> {
+    match word.parse::<usize>() {
+        Ok(index) if index > 0 => Ok(index - 1),
+        _ => Err(Failure::at_line(
+            file,
+            line,
+            format!("{word} is not a whole number from 1"),
+        )),
+    }
+}
+
+/// The indices of each line, counted from 0, with the line's number; each line must have as many as `names`.
+fn indices<const COUNT: usize>(file: &Path, text: &[u8], names: &str) -> Result<Vec<(usize, [usize; COUNT])>, Failure> {
+    let mut found = Vec::new();
+    for (line, words) in words::<COUNT>(file, text, names)? {
         let mut places = [0; COUNT];
         for (place, word) in places.iter_mut().zip(words) {
-            *place = match word.parse::<usize>() {
-                Ok(index) if index > 0 => index - 1,
-                _ => {
-                    return Err(Failure::at_line(
-                        file,
-                        number,
-                        format!("{word} is not a whole number from 1"),
-                    ))
-                }
-            };
+            *place = index(file, line, word)?;
         }
-        found.push((number, places));
+        found.push((line, places));
     }
     Ok(found)
 }
@@ -120,6 +137,32 @@ pub fn row_pairs(file: &Path, rows: [usize; 2]) -> Result<Vec<(usize, usize)>, F
         pairs.push((pair[0], pair[1]));
     }
     Ok(pairs)
+}
+
+/// A cell of a row, counted from 0, with the ends of its weight and its line.
+pub struct Range {
+    pub line: usize,
+    pub cell: usize,
+    pub low: i64,
+    pub high: i64,
+}
+
+/// The rows of a file by their numbers, counted from 0, each with its cells in the order of the lines.
+pub fn ranges(file: &Path) -> Result<BTreeMap<usize, Vec<Range>>, Failure> {
+    let weight = |line, word: &str| {
+        word.parse::<i64>()
+            .map_err(|_| Failure::at_line(file, line, format!("{word} is not a whole number of 64 bits")))
+    };
+    let mut rows = BTreeMap::<_, Vec<_>>::new();
+    for (line, [row, cell, low, high]) in words(file, &text_of(file)?, "a row, a cell, a low and a high weight")? {
+        rows.entry(index(file, line, row)?).or_default().push(Range {
+            line,
+            cell: index(file, line, cell)?,
+            low: weight(line, low)?,
+            high: weight(line, high)?,
+        });
+    }
+    Ok(rows)
 }
 
 /// The permutation of a file, for a factor of this dimension.

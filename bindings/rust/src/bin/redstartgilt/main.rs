@@ -12,6 +12,7 @@ mod markup;
 mod matrix_market;
 mod operators;
 mod options;
+mod ranges;
 mod report;
 mod scale;
 mod svg;

@@ -11,6 +11,7 @@ redstartgilt: variances from a sparse Cholesky factor, by a proved selected inve
 Usage:
   redstartgilt [OPTIONS] FACTOR
   redstartgilt --whole [--requests FILE] [--permutation FILE] [--limit N] [--entries] [--csv] [--grid WxH ..] FACTOR
+  redstartgilt --whole --ranges FILE [--permutation FILE] [--limit N] [--csv] FACTOR
   redstartgilt --operator FILE [--with FILE [--pairs FILE]] [--permutation FILE] [--csv] FACTOR
   redstartgilt --demo [--requests FILE] [--why R,C] [--csv] [--svg FILE] [--html FILE]
 
@@ -38,6 +39,14 @@ Options:
                       The message of 20 has the line of an entry of the file that is beyond it; or else, where no more
                       than 1,048,576 pairs are to be computed, the column of the factor in which the recurrence, which
                       goes from the last column to the first, comes upon such a number
+  --ranges FILE       with --whole: print bounds on the variance of weighted sums of cells whose weights are known within
+                      ranges, and not the variances of the cells. Four whole numbers a line, in any order of the lines:
+                      row, cell, and the low and the high end of the weight of that cell in that row's sum. The pairs of
+                      each row's cells are requested. Every choice of weights within the ranges has its variance from
+                      the low to the high bound; the bounds need not be the variance of one choice of all weights. Equal
+                      ends give the variance itself. A cell twice in a row is refused with 9, more than 64 cells in a
+                      row, an end beyond 1,024 in size or a low end above its high end with 21, an entry beyond 2^30 in
+                      size with 20; the message has the line or the entry
   --why R,C           print why the pair of the cells R and C is computed, and not the variances: a chain of pairs from
                       one that was requested to this one, each needed for the one before and none shorter, with the
                       entry of the factor that leads to each; or that the pair is not in the set. A chain has no limit,
@@ -83,7 +92,7 @@ Exit status:
 ";
 
 /// The last refusal that the help lists: no call gives a later one yet.
-const LAST_REFUSAL: u32 = redstartgilt::sys::REDSTARTGILT_NUMBER_TOO_LARGE;
+const LAST_REFUSAL: u32 = redstartgilt::sys::REDSTARTGILT_BAD_WEIGHTS;
 
 /// The help with the list of refusals.
 pub fn help() -> String {
@@ -108,6 +117,7 @@ pub struct Options {
     pub limit: Option<usize>,
     pub entries: bool,
     pub whole: bool,
+    pub ranges: Option<PathBuf>,
     /// Two cells, counted from 0.
     pub why: Option<(usize, usize)>,
     pub csv: bool,
@@ -135,6 +145,7 @@ pub fn read(words: impl IntoIterator<Item = OsString>) -> Result<Command, Failur
         limit: None,
         entries: false,
         whole: false,
+        ranges: None,
         why: None,
         csv: false,
         svg: None,
@@ -164,6 +175,7 @@ pub fn read(words: impl IntoIterator<Item = OsString>) -> Result<Command, Failur
                 | "--with"
                 | "--pairs"
                 | "--limit"
+                | "--ranges"
                 | "--why"
                 | "--svg"
                 | "--html"
@@ -184,6 +196,7 @@ pub fn read(words: impl IntoIterator<Item = OsString>) -> Result<Command, Failur
             "--with" => options.with.replace(value.into()).is_some(),
             "--pairs" => options.pairs.replace(value.into()).is_some(),
             "--limit" => options.limit.replace(number(&value)?).is_some(),
+            "--ranges" => options.ranges.replace(value.into()).is_some(),
             "--why" => options.why.replace(pair(&value)?).is_some(),
             "--svg" => options.svg.replace(value.into()).is_some(),
             "--html" => options.html.replace(value.into()).is_some(),
@@ -204,9 +217,17 @@ pub fn read(words: impl IntoIterator<Item = OsString>) -> Result<Command, Failur
     checked(options, demo)
 }
 
+/// That none of the others, each with whether it is given, stands beside an option.
+fn alone(name: &str, others: &[(&str, bool)]) -> Result<(), Failure> {
+    match others.iter().find(|(_, given)| *given) {
+        Some((other, _)) => Err(Failure::usage(format!("{name} does not go with {other}"))),
+        None => Ok(()),
+    }
+}
+
 fn checked(options: Options, demo: bool) -> Result<Command, Failure> {
     if demo {
-        let other = [
+        let others = [
             ("a factor", options.factor.is_some()),
             ("--permutation", options.permutation.is_some()),
             ("--operator", options.operator.is_some()),
@@ -215,9 +236,7 @@ fn checked(options: Options, demo: bool) -> Result<Command, Failure> {
             ("--whole", options.whole),
             ("--grid", options.grid.is_some()),
         ];
-        if let Some((name, _)) = other.iter().find(|(_, given)| *given) {
-            return Err(Failure::usage(format!("--demo does not go with {name}")));
-        }
+        alone("--demo", &others)?;
     } else {
         if options.factor.is_none() {
             return Err(Failure::usage("no factor is given"));
@@ -231,8 +250,21 @@ fn checked(options: Options, demo: bool) -> Result<Command, Failure> {
             return Err(Failure::usage("--grid needs --svg or --html"));
         }
     }
+    if options.ranges.is_some() {
+        let others = [
+            ("--requests", options.requests.is_some()),
+            ("--operator", options.operator.is_some()),
+            ("--entries", options.entries),
+            ("--why", options.why.is_some()),
+            ("--grid", options.grid.is_some()),
+        ];
+        alone("--ranges", &others)?;
+        if !options.whole {
+            return Err(Failure::usage("--ranges needs --whole"));
+        }
+    }
     if options.operator.is_some() {
-        let other = [
+        let others = [
             ("--requests", options.requests.is_some()),
             ("--limit", options.limit.is_some()),
             ("--entries", options.entries),
@@ -240,9 +272,7 @@ fn checked(options: Options, demo: bool) -> Result<Command, Failure> {
             ("--why", options.why.is_some()),
             ("--grid", options.grid.is_some()),
         ];
-        if let Some((name, _)) = other.iter().find(|(_, given)| *given) {
-            return Err(Failure::usage(format!("--operator does not go with {name}")));
-        }
+        alone("--operator", &others)?;
     }
     if options.why.is_some() && options.whole {
         return Err(Failure::usage("--why does not go with --whole"));

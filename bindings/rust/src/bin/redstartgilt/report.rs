@@ -2,7 +2,7 @@
 
 use crate::map::Placed;
 use crate::why::Why;
-use redstartgilt::{count_and_least, SelectedInverseDiagnostics};
+use redstartgilt::{count_and_least, SelectedInverseDiagnostics, VarianceBounds};
 use std::fmt::Debug;
 use std::io::{self, Write};
 
@@ -121,6 +121,30 @@ pub fn row_variances(
     writeln!(output, "row{gap}variance")?;
     for (row, variance) in variances.iter().enumerate() {
         writeln!(output, "{}{gap}{variance:?}", row + 1)?;
+    }
+    Ok(())
+}
+
+/// What bounds on a variance are.
+pub const BOUNDS: &str =
+    "Every choice of weights within a row's ranges has its variance from the low to the high bound. \
+                          One choice of all weights need not have either.";
+
+/// The bounds of each row, by its number.
+pub fn bounds(
+    output: &mut impl Write,
+    csv: bool,
+    diagnostics: &SelectedInverseDiagnostics,
+    bounds: &[(usize, VarianceBounds)],
+) -> io::Result<()> {
+    let (gap, exact) = if csv { (',', i64::EXACT) } else { (' ', "") };
+    if !csv {
+        counts_of::<i64>(output, diagnostics)?;
+        writeln!(output, "{BOUNDS}")?;
+    }
+    writeln!(output, "row{gap}{exact}low_bound{gap}{exact}high_bound")?;
+    for (row, VarianceBounds { low, high }) in bounds {
+        writeln!(output, "{}{gap}{low}{gap}{high}", row + 1)?;
     }
     Ok(())
 }

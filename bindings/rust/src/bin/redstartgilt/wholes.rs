@@ -4,11 +4,11 @@ use crate::failure::Failure;
 use crate::map::{Map, Placed};
 use crate::matrix_market::{self, Entry};
 use crate::options::Options;
-use crate::{cell_lists, cell_of, check_grid, entries_of_cells, name_of, print, requested, write_map, Found};
+use crate::{cell_lists, cell_of, check_grid, entries_of_cells, name_of, print, ranges, requested, write_map, Found};
 use redstartgilt::lent::default_limit;
 use redstartgilt::{
     selected_inverse_entries_whole_with_limit, selected_inverse_entries_with_limit, CholeskyFactor, Error, Permutation,
-    SparseSymmetricPattern, WholeFactor, MAX_ENTRIES,
+    SelectedInverseDiagnostics, SparseSymmetricPattern, WholeFactor, WholeSelectedInverse, MAX_ENTRIES,
 };
 use std::io::Write;
 use std::path::Path;
@@ -16,25 +16,73 @@ use std::path::Path;
 /// The largest size that numbers may have.
 const LARGEST: u64 = 1 << 53;
 
+/// A factor of whole numbers from a file.
+pub struct Whole<'a> {
+    file: &'a Path,
+    factor: WholeFactor,
+    entries: Vec<Entry<i64>>,
+    /// The order of the cells.
+    pub permutation: Permutation,
+}
+
+impl<'a> Whole<'a> {
+    fn read(file: &'a Path, options: &Options) -> Result<Self, Failure> {
+        let (factor, entries) = matrix_market::whole_factor(file)?;
+        let n = factor.dimension();
+        check_grid(options, n)?;
+        let permutation = match &options.permutation {
+            Some(list) => cell_lists::permutation(list, n)?,
+            None => Permutation::identity(n),
+        };
+        Ok(Self {
+            file,
+            factor,
+            entries,
+            permutation,
+        })
+    }
+
+    pub fn dimension(&self) -> usize {
+        self.factor.dimension()
+    }
+
+    /// The place of a cell in the factor; that of a cell outside is outside too.
+    pub fn place(&self, cell: usize) -> usize {
+        self.permutation.orig_to_perm.get(cell).copied().unwrap_or(cell)
+    }
+
+    /// The entries at pairs in the factor's order, and at all that the recurrence needs for them.
+    pub fn select(
+        &self,
+        requested: &SparseSymmetricPattern,
+        options: &Options,
+    ) -> Result<(WholeSelectedInverse, SelectedInverseDiagnostics), Failure> {
+        let limit = options.limit.unwrap_or(default_limit(self.factor.nnz()));
+        let selected = selected_inverse_entries_whole_with_limit(&self.factor, requested, limit)
+            .map_err(|error| refused(self.file, &self.factor, &self.entries, requested, limit, error))?;
+        match selected.inverse {
+            Some(inverse) => Ok((inverse, selected.diagnostics)),
+            None => Err(Failure::too_many_pairs(limit)),
+        }
+    }
+
+    /// The variance of each cell that has one, in the order of the cells.
+    pub fn variances(&self, inverse: &WholeSelectedInverse) -> Vec<Option<i64>> {
+        let diagonal = inverse.diag();
+        let places = self.permutation.orig_to_perm.iter();
+        places.map(|place| diagonal[*place]).collect()
+    }
+}
+
 /// Prints, and draws where that is asked for, what the options ask of a factor of whole numbers.
 pub fn run(output: &mut impl Write, file: &Path, options: &Options) -> Result<(), Failure> {
-    let (factor, entries) = matrix_market::whole_factor(file)?;
-    let n = factor.dimension();
-    check_grid(options, n)?;
-    let permutation = match &options.permutation {
-        Some(list) => cell_lists::permutation(list, n)?,
-        None => Permutation::identity(n),
-    };
-    let requested = requested(&permutation, options)?;
-    let limit = options.limit.unwrap_or(default_limit(factor.nnz()));
-    let selected = selected_inverse_entries_whole_with_limit(&factor, &requested, limit)
-        .map_err(|error| refused(file, &factor, &entries, &requested, limit, error))?;
-    let Some(inverse) = selected.inverse else {
-        return Err(Failure::too_many_pairs(limit));
-    };
-    let diagonal = inverse.diag();
-    let places = permutation.orig_to_perm.iter();
-    let variances = places.map(|place| diagonal[*place]).collect::<Vec<_>>();
+    let whole = Whole::read(file, options)?;
+    if let Some(list) = &options.ranges {
+        return ranges::run(output, &whole, list, options);
+    }
+    let requested = requested(&whole.permutation, options)?;
+    let (inverse, diagnostics) = whole.select(&requested, options)?;
+    let variances = whole.variances(&inverse);
     if let Some(grid) = options.grid {
         // Up to 2^53 a float is the whole number itself.
         let cells = variances
@@ -46,18 +94,18 @@ pub fn run(output: &mut impl Write, file: &Path, options: &Options) -> Result<()
             cells: &cells.collect::<Vec<_>>(),
             placed: &Placed {
                 grid,
-                cells: &(0..n).collect::<Vec<_>>(),
+                cells: &(0..whole.dimension()).collect::<Vec<_>>(),
             },
             why: None,
-            diagnostics: &selected.diagnostics,
+            diagnostics: &diagnostics,
         };
         write_map(options, &map)?;
     }
     let found = Found {
-        diagnostics: selected.diagnostics,
+        diagnostics,
         variances,
         entries: if options.entries {
-            entries_of_cells(inverse.entries(), &permutation)
+            entries_of_cells(inverse.entries(), &whole.permutation)
         } else {
             Vec::new()
         },
