@@ -19,6 +19,7 @@ use crate::reading;
 use crate::rules;
 use crate::subjects::{FactorLists, OperatorLists, PermutationLists, RequestLists, RowPairLists};
 use crate::text::{Block, Blocks};
+use crate::variance_rows;
 use crate::whole_rows;
 use std::fs::File;
 use std::io::{self, BufRead, BufReader, Write};
@@ -52,7 +53,7 @@ pub fn median(mut times: Vec<f64>) -> f64 {
 }
 
 /// The median time of a piece of work, done once before the clock starts.
-fn median_of(runs: usize, mut work: impl FnMut()) -> f64 {
+pub fn median_of(runs: usize, mut work: impl FnMut()) -> f64 {
     work();
     let time = |_| {
         let start = processor_ms();
@@ -152,6 +153,7 @@ pub fn benchmark(folder: &Path, runs: usize) -> io::Result<()> {
     rows_of_chains(folder, runs)?;
     rows_of_patterns(folder, runs)?;
     whole_rows::rows_of_wholes(folder, runs)?;
+    variance_rows::rows_of_variances(runs)?;
     growth(folder, runs)?;
     split(runs);
     lookups::rows_of_lookups(runs)?;

@@ -10,10 +10,11 @@ use crate::random::Random;
 use crate::refusals::{MOST_COLUMNS, MOST_ENTRIES};
 use crate::sound::sound;
 use crate::subjects::{FactorLists, OperatorLists, Pair, PairLists, RequestLists, RowPairLists};
+use crate::variance_cases::calls_at_the_bounds;
 use crate::whole_cases::calls_at_the_greatest;
 
-/// Calls on both sides of each bound of document 01's step 1, of those of files, and of the greatest whole number; those
-/// within it are accepted, or refused by a later step.
+/// Calls on both sides of each bound of document 01's step 1, of those of files, of the greatest whole number, and of those of
+/// rows and tracks over results; those within it are accepted, or refused by a later step.
 pub fn bounds() -> Vec<Call> {
     let mut random = Random::new(0);
     let mut calls = Vec::new();
@@ -156,6 +157,7 @@ pub fn bounds() -> Vec<Call> {
     for call in &mut calls {
         lend(call, &mut random, |_, need| need);
     }
+    calls.extend(calls_at_the_bounds(100));
     // the longest chain with a list one place short
     let longest = calls.iter().rfind(|call| call.function == Function::DependencyChain).expect("made above").clone();
     let words = |count: usize| List::made(count, |at| at as u32);

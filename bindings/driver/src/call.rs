@@ -4,8 +4,8 @@ use crate::function::Function;
 use crate::list::{Item, List};
 use crate::reply::Reply;
 use crate::subjects::{
-    EntryLists, FactorLists, OperatorLists, OutputLists, Pair, PairLists, Part, PermutationLists, RequestLists,
-    ResultLists, RowPairLists, ValueLists,
+    EntryLists, FactorLists, OperatorLists, OutputLists, Pair, PairLists, Part, PermutationLists, RangeLists,
+    RequestLists, ResultLists, RowPairLists, TrackLists, ValueLists,
 };
 use redstartgilt::sys;
 
@@ -25,6 +25,8 @@ pub struct Call {
     pub row_pairs: RowPairLists,
     pub entries: EntryLists,
     pub whole_entries: EntryLists<i64>,
+    pub ranges: RangeLists,
+    pub track: TrackLists,
     pub permutation: PermutationLists,
     pub values: ValueLists,
     /// A file's bytes.
@@ -101,7 +103,7 @@ impl Call {
     pub fn make(&mut self) -> Reply {
         let Call {
             function, factor, whole_factor, requests, limit, pair, operator, other, row_pairs, entries, whole_entries,
-            permutation, values, text, result, whole_result, scratch, work, pairs, output,
+            ranges, track, permutation, values, text, result, whole_result, scratch, work, pairs, output,
         } = self;
         match function {
             Function::EntriesWithLimit => c_call!(redstartgilt_selected_inverse_entries_with_limit:
@@ -119,6 +121,10 @@ impl Call {
             Function::CheckResult => c_call!(redstartgilt_check_result: entries(entries)),
             Function::GetWellFormed => c_call!(redstartgilt_get_well_formed: entries(entries) pair(pair)),
             Function::GetWhole => c_call!(redstartgilt_get_whole: entries(whole_entries) pair(pair)),
+            Function::VarianceBounds => c_call!(redstartgilt_variance_bounds_whole:
+                entries(whole_entries) [ranges.columns] [ranges.lows] [ranges.highs]),
+            Function::TrackVariances => c_call!(redstartgilt_track_variances_whole:
+                entries(whole_entries) [track.cells] (track.width) {output.wholes}),
             Function::Diag => c_call!(redstartgilt_diag: entries(entries) {output.values} {output.marks}),
             Function::OriginalDiag => c_call!(redstartgilt_selected_inverse_diag_with_diagnostics:
                 factor(factor) [permutation.orig_to_perm] result(result) {scratch} {output.values}),
@@ -161,6 +167,8 @@ impl Call {
             row_pairs,
             entries,
             whole_entries,
+            ranges,
+            track,
             permutation,
             values,
             text,
@@ -182,6 +190,8 @@ impl Call {
             ("row_pairs", row_pairs.parts()),
             ("entries", entries.parts()),
             ("whole_entries", whole_entries.parts()),
+            ("ranges", ranges.parts()),
+            ("track", track.parts()),
             ("permutation", permutation.parts()),
             ("values", values.parts()),
             ("text", vec![("", Part::from(text))]),

@@ -3,7 +3,8 @@
 //! Program `generate` of the oracle's folder writes the cases twice, once into program `oracle`, once to here, so that
 //! nothing is held but one case and its answer. What the library must reply and leave is the Rust's answer; where
 //! document 01 refuses, or document 02 a factor that is not finite, it is that refusal, and how the Rust differs is
-//! counted. The set `whole` is the driver's own: calls of the whole-number engine, which the Rust answers as floats.
+//! counted. The set `whole` is the driver's own: calls of the whole-number engine, which the Rust answers as floats. So is
+//! the set `variances`: rows whose weights are known within ranges, and tracks, which the Rust has not.
 
 use crate::call::Call;
 use crate::chains::{chosen, Chains};
@@ -20,6 +21,7 @@ use crate::subjects::{
     EntryLists, FactorLists, OperatorLists, Pair, PermutationLists, RequestLists, ResultLists, RowPairLists, ValueLists,
 };
 use crate::text::{value, Block, Blocks};
+use crate::variances::{compare_variance_cases, Choices};
 use crate::whole::Kind;
 use redstartgilt::sys;
 use std::collections::BTreeMap;
@@ -58,15 +60,33 @@ pub fn compare(folder: &Path, seeds: &[u64], huge: bool) -> io::Result<usize> {
     if huge {
         compare_set(folder, "huge", SEEDS[0], &mut tally)?;
     } else {
-        for &seed in if seeds.is_empty() { &SEEDS } else { seeds } {
+        for &seed in seeds_of(seeds) {
             for set in SETS {
                 compare_set(folder, set, seed, &mut tally)?;
             }
             compare_whole_cases(folder, seed, &mut tally)?;
+            compare_variance_cases(seed, &mut tally);
         }
     }
     tally.report();
     Ok(tally.unexpected)
+}
+
+/// The same of the set `variances` alone.
+pub fn compare_variances(seeds: &[u64]) -> usize {
+    let mut tally = Tally::default();
+    seeds_of(seeds).iter().for_each(|&seed| compare_variance_cases(seed, &mut tally));
+    tally.report();
+    tally.unexpected
+}
+
+/// Those that are used where none is given.
+fn seeds_of(seeds: &[u64]) -> &[u64] {
+    if seeds.is_empty() {
+        &SEEDS
+    } else {
+        seeds
+    }
 }
 
 #[derive(Default)]
@@ -80,6 +100,7 @@ pub struct Tally {
     longest: usize,
     /// of calls of the whole-number engine that look at sizes: the kinds of numbers that pass 2^53, how often
     sizes: BTreeMap<Vec<Kind>, usize>,
+    pub choices: Choices,
     /// how the Rust differs where a document says otherwise: how often, and a case
     intended: BTreeMap<String, (usize, String)>,
     pub unexpected: usize,
@@ -138,6 +159,7 @@ impl Tally {
         for (kinds, count) in &self.sizes {
             println!("  {kinds:?}: {count}");
         }
+        self.choices.report();
         println!("\nwhere a document says otherwise than the Rust");
         for (what, (count, example)) in &self.intended {
             println!("  {what}: {count}, as {example}");

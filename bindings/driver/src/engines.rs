@@ -11,6 +11,7 @@ use crate::reply::Reply;
 use crate::rules::{self, limit, requested, Factor};
 use crate::subjects::{EntryLists, Pair};
 use crate::text::{value, Block, Blocks};
+use crate::variances::compare_over_result;
 use crate::whole::{exact, Kind, KINDS};
 use crate::whole_cases::{whole_cases, WholeCase};
 use crate::whole_factors::{as_floats, as_wholes};
@@ -110,7 +111,8 @@ pub fn whole_call(call: &Call) -> Option<Call> {
 }
 
 /// Makes a whole-number call, without lists lent for writing, and the lookups of its case; compares them by the rules, with
-/// the float call of the same factor, and with the Rust's answer to that. How many calls there were.
+/// the float call of the same factor, and with the Rust's answer to that; then a row and a track over its result. How many
+/// calls there were.
 pub fn compare_engines(
     call: &Call,
     floats: &Made,
@@ -156,7 +158,7 @@ pub fn compare_engines(
             tally.differs(&[format!("get_whole ({row},{column}): {got:?}, the Rust {word}")], case, &call);
         }
     }
-    2 + pairs.len()
+    2 + pairs.len() + compare_over_result(&made, case, random, tally)
 }
 
 /// Equal as numbers; a whole number within 2^53 is a float.

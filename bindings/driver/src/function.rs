@@ -14,6 +14,8 @@ pub enum Function {
     CheckResult,
     GetWellFormed,
     GetWhole,
+    VarianceBounds,
+    TrackVariances,
     Diag,
     OriginalDiag,
     OperatorVariances,
@@ -31,7 +33,7 @@ pub enum Function {
     ReadRequests,
 }
 
-pub const FUNCTIONS: [Function; 26] = [
+pub const FUNCTIONS: [Function; 28] = [
     Function::EntriesWithLimit,
     Function::Entries,
     Function::CheckFactor,
@@ -43,6 +45,8 @@ pub const FUNCTIONS: [Function; 26] = [
     Function::CheckResult,
     Function::GetWellFormed,
     Function::GetWhole,
+    Function::VarianceBounds,
+    Function::TrackVariances,
     Function::Diag,
     Function::OriginalDiag,
     Function::OperatorVariances,
@@ -78,6 +82,8 @@ impl Function {
             Function::CheckResult => "check_result",
             Function::GetWellFormed => "get_well_formed",
             Function::GetWhole => "get_whole",
+            Function::VarianceBounds => "variance_bounds_whole",
+            Function::TrackVariances => "track_variances_whole",
             Function::Diag => "diag",
             Function::OriginalDiag => "selected_inverse_diag_with_diagnostics",
             Function::OperatorVariances => "selected_inverse_transformed_diag",
@@ -131,7 +137,13 @@ impl Function {
 
     /// Whether it reads a result.
     pub fn reads_result(self) -> bool {
-        let others = [Function::Diag, Function::CheckResult, Function::GetWhole];
+        let others = [
+            Function::Diag,
+            Function::CheckResult,
+            Function::GetWhole,
+            Function::VarianceBounds,
+            Function::TrackVariances,
+        ];
         others.contains(&self) || LOOKUPS.contains(&self)
     }
 }

@@ -37,6 +37,7 @@ pub fn needs(call: &Call) -> Needs {
             Function::OperatorVariances => call.operator.rows(),
             Function::Covariances => call.row_pairs.a_rows.len(),
             Function::Reorder | Function::ReorderMarked => call.permutation.orig_to_perm.len(),
+            Function::TrackVariances => call.track.runs(),
             _ => call.values.input.len(),
         },
         pairs: match call.function {
@@ -103,6 +104,10 @@ pub fn lend(call: &mut Call, random: &mut Random, mut length: impl FnMut(&mut Ra
         };
         call.whole_result.values = wholes(random);
         call.work = wholes(random);
+    }
+    if call.function == Function::TrackVariances {
+        let length = length(random, needs.output);
+        call.output.wholes = List::made(length, |_| random.any_whole());
     }
     if matches!(call.function, Function::Diag | Function::ReorderMarked) {
         let length = length(random, needs.output);

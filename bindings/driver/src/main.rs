@@ -7,6 +7,7 @@ mod chains;
 mod compare;
 mod engines;
 mod expected;
+mod faults;
 mod files;
 mod function;
 mod grid;
@@ -16,6 +17,7 @@ mod lookups;
 mod malformed;
 mod matrix_market;
 mod random;
+mod ranges;
 mod reading;
 mod refusals;
 mod reply;
@@ -24,9 +26,14 @@ mod sound;
 mod spoil;
 mod subjects;
 mod text;
+mod tracks;
+mod variance_cases;
+mod variance_rows;
+mod variances;
 mod whole;
 mod whole_cases;
 mod whole_factors;
+mod whole_results;
 mod whole_rows;
 
 use function::FUNCTIONS;
@@ -36,6 +43,7 @@ use std::process::ExitCode;
 const USAGE: &str = "usage:
   driver compare ORACLE_FOLDER [SEED..]            every set but huge with each seed, 1 7 11 where none is given
   driver compare ORACLE_FOLDER --huge              the set huge
+  driver compare-variances [SEED..]                the set of rows and tracks over results alone, which needs no oracle
   driver malformed [COUNT [SEED [FIRST]]] [--only FUNCTION] [--bare]
                                                    random calls, 1,000,000 where no number is given, from call FIRST on;
                                                    with --only of one function, named as in the header without
@@ -46,6 +54,7 @@ const USAGE: &str = "usage:
   driver benchmark-chains ORACLE_FOLDER [RUNS]     the part of it that has chains
   driver benchmark-patterns ORACLE_FOLDER [RUNS]   the part of it that has pattern lists
   driver benchmark-wholes ORACLE_FOLDER [RUNS]     the part of it that has the whole-number engine
+  driver benchmark-variances [RUNS]                the part of it that has bounds and tracks, which needs no oracle
   driver benchmark-lookups [RUNS]                  the part of it that looks up entries, which needs no oracle
   driver benchmark-files [RUNS]                    the part of it that reads files, which needs no oracle
   driver profile ORACLE_FOLDER CASE RUNS           one case of the benchmark alone, for a profiler; of the whole-number
@@ -89,6 +98,10 @@ fn run(words: &[&str]) -> Option<std::io::Result<usize>> {
             let seeds: Vec<u64> = seeds.iter().map(|s| s.parse().ok()).collect::<Option<_>>()?;
             Some(compare::compare(Path::new(folder), &seeds, false))
         }
+        ["compare-variances", seeds @ ..] => {
+            let seeds: Vec<u64> = seeds.iter().map(|s| s.parse().ok()).collect::<Option<_>>()?;
+            Some(Ok(compare::compare_variances(&seeds)))
+        }
         ["malformed", rest @ .., "--bare"] => {
             list::leave_out_guards();
             malformed(rest)
@@ -108,6 +121,9 @@ fn run(words: &[&str]) -> Option<std::io::Result<usize>> {
         }
         ["benchmark-wholes", folder, runs @ ..] if runs.len() < 2 => {
             Some(whole_rows::rows_of_wholes(Path::new(folder), runs_of(runs)?).map(|()| 0))
+        }
+        ["benchmark-variances", runs @ ..] if runs.len() < 2 => {
+            Some(variance_rows::benchmark_variances(runs_of(runs)?).map(|()| 0))
         }
         ["benchmark-lookups", runs @ ..] if runs.len() < 2 => {
             Some(lookups::benchmark_lookups(runs_of(runs)?).map(|()| 0))

@@ -7,6 +7,11 @@ impl Random {
         Random(seed)
     }
 
+    /// The numbers of a seed and a name.
+    pub fn named(seed: u64, name: &str) -> Self {
+        Random(name.bytes().fold(seed, |mixed, byte| mixed.wrapping_mul(257) ^ byte as u64))
+    }
+
     pub fn bits(&mut self) -> u64 {
         self.0 = self.0.wrapping_add(0x9e37_79b9_7f4a_7c15);
         let mut z = self.0;
@@ -41,6 +46,11 @@ impl Random {
     /// A whole number of any bits.
     pub fn any_whole(&mut self) -> i64 {
         self.bits() as i64
+    }
+
+    /// A whole number from -most to most.
+    pub fn whole(&mut self, most: i64) -> i64 {
+        self.below(2 * most as usize + 1) as i64 - most
     }
 
     pub fn shuffle<T>(&mut self, items: &mut [T]) {

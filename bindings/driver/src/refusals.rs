@@ -5,14 +5,24 @@ use crate::chains::Chains;
 use crate::function::Function;
 use crate::list::Item;
 use crate::matrix_market;
+use crate::ranges;
 use crate::rules::{self, Factor};
 use crate::subjects::{
-    EntryLists, FactorLists, OperatorLists, Pair, PermutationLists, RequestLists, ResultLists, ValueLists,
+    EntryLists, FactorLists, OperatorLists, Pair, PermutationLists, RangeLists, RequestLists, ResultLists, ValueLists,
 };
+use crate::tracks;
 use crate::whole::exact;
 
 pub const MOST_COLUMNS: usize = 2_048;
 pub const MOST_ENTRIES: usize = 1_048_576;
+/// The greatest size of a weight's ends, and the most terms of a row of such weights.
+pub const GREATEST_WEIGHT: i64 = 1_024;
+pub const MOST_TERMS: usize = 64;
+/// The greatest width of a run.
+pub const MOST_WIDTH: usize = 1_024;
+/// The greatest size of an entry that is weighted, and of one that is summed along a track.
+pub const GREATEST_WEIGHTED: i64 = 1 << 30;
+pub const GREATEST_SUMMED: i64 = 1 << 40;
 
 pub type Steps = Result<(), u32>;
 
@@ -25,6 +35,8 @@ pub fn refusal(call: &Call) -> u32 {
         Function::CheckWholeFactor => factor_bounds(&call.whole_factor).and_then(|()| columns(&call.whole_factor)),
         Function::Get | Function::GetCounted => lookup(&call.entries, &call.pair),
         Function::GetWhole => lookup(&call.whole_entries, &call.pair),
+        Function::VarianceBounds => variance_bounds(call),
+        Function::TrackVariances => track_variances(call),
         Function::CheckResult => result(&call.entries),
         Function::GetWellFormed => refuse(8, rules::searched(&call.entries, &call.pair).is_none()),
         Function::Diag => diagonal_list(call),
@@ -175,7 +187,7 @@ fn lookup<V: Item>(entries: &EntryLists<V>, pair: &Pair) -> Steps {
 }
 
 /// The lookup's 2 and 3 of every column.
-fn result(entries: &EntryLists) -> Steps {
+fn result<V: Item>(entries: &EntryLists<V>) -> Steps {
     refuse(2, entries.starts.is_empty())?;
     (0..entries.dimension()).try_for_each(|column| result_column(entries, column))
 }
@@ -184,6 +196,36 @@ fn diagonal_list(call: &Call) -> Steps {
     result(&call.entries)?;
     let n = call.entries.dimension();
     refuse(7, call.output.values.len() < n || call.output.marks.len() < n)
+}
+
+fn variance_bounds(call: &Call) -> Steps {
+    let (entries, RangeLists { columns, lows, highs }) = (&call.whole_entries, &call.ranges);
+    result(entries)?;
+    refuse(9, columns.len() != lows.len() || columns.len() != highs.len())?;
+    refuse(9, outside(columns, entries.dimension()))?;
+    refuse(9, columns.iter().enumerate().any(|(at, column)| columns[..at].contains(column)))?;
+    refuse(21, columns.len() > MOST_TERMS)?;
+    refuse(21, lows.iter().zip(highs.iter()).any(|(low, high)| low > high))?;
+    refuse(21, lows.iter().chain(highs.iter()).any(|&end| beyond(end, GREATEST_WEIGHT)))?;
+    let pairs = || ranges::pairs(columns).map(|(a, b)| rules::entry(entries, a, b));
+    refuse(8, pairs().any(|entry| entry.is_none()))?;
+    refuse(20, pairs().flatten().any(|entry| beyond(entry, GREATEST_WEIGHTED)))
+}
+
+fn track_variances(call: &Call) -> Steps {
+    let (entries, track) = (&call.whole_entries, &call.track);
+    result(entries)?;
+    refuse(22, track.width == 0 || track.width > MOST_WIDTH || track.width > track.cells.len())?;
+    refuse(8, outside(&track.cells, entries.dimension()))?;
+    let pairs = || tracks::pairs(track).map(|(a, b)| rules::entry(entries, a, b));
+    refuse(8, pairs().any(|entry| entry.is_none()))?;
+    refuse(20, pairs().flatten().any(|entry| beyond(entry, GREATEST_SUMMED)))?;
+    refuse(7, call.output.wholes.len() < track.runs())
+}
+
+/// Whether a number is beyond ±most.
+fn beyond(number: i64, most: i64) -> bool {
+    number < -most || number > most
 }
 
 fn validate(lists: &PermutationLists) -> Steps {

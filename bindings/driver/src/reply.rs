@@ -14,6 +14,8 @@ pub struct Reply {
     pub ratio: f64,
     pub value: f64,
     pub whole: i64,
+    pub low: i64,
+    pub high: i64,
     pub looks: usize,
     pub pairs: usize,
     pub floor: f64,
@@ -37,7 +39,7 @@ impl Reply {
     pub fn same(&self, other: &Self) -> bool {
         let numbers = |r: &Self| {
             let counts = [r.requested, r.closure, r.factor, r.limit, r.pairs, r.hits, r.negative];
-            (r.refusal, r.status, counts, [r.dimension, r.requests, r.looks], r.whole)
+            (r.refusal, r.status, counts, [r.dimension, r.requests, r.looks], [r.whole, r.low, r.high])
         };
         let values = |r: &Self| {
             [r.ratio, r.value, r.floor, r.least].map(|x| if x.is_nan() { f64::NAN.to_bits() } else { x.to_bits() })
@@ -101,6 +103,12 @@ impl From<sys::redstartgilt_entry> for Reply {
 impl From<sys::redstartgilt_whole_entry> for Reply {
     fn from(r: sys::redstartgilt_whole_entry) -> Self {
         Reply { refusal: r.refusal, whole: r.value, ..Reply::default() }
+    }
+}
+
+impl From<sys::redstartgilt_variance_bounds> for Reply {
+    fn from(r: sys::redstartgilt_variance_bounds) -> Self {
+        Reply { refusal: r.refusal, low: r.low, high: r.high, ..Reply::default() }
     }
 }
 

@@ -7,9 +7,11 @@ use crate::expected::Expected;
 use crate::function::Function;
 use crate::list::Item;
 use crate::matrix_market;
+use crate::ranges;
 use crate::refusals::{before_search, refusal};
 use crate::reply::Reply;
 use crate::subjects::{EntryLists, FactorLists, OperatorLists, Pair, ResultLists};
+use crate::tracks;
 use crate::whole::exact;
 use redstartgilt::sys;
 use std::cmp::Ordering::{Equal, Greater, Less};
@@ -225,6 +227,11 @@ pub fn found<V: Item>(entries: &EntryLists<V>, row: usize, column: usize) -> Opt
     entries.column(column).find(|&p| entries.rows[p] as usize == row).map(|p| entries.values[p])
 }
 
+/// The entry of a pair of a result's columns, in either order.
+pub fn entry<V: Item>(entries: &EntryLists<V>, a: usize, b: usize) -> Option<V> {
+    found(entries, a.max(b), a.min(b))
+}
+
 /// How many places document 02's search looks at in a part of a column.
 fn looks_in(part: &[u32], row: u32) -> usize {
     let middle = part.len() / 2;
@@ -326,6 +333,17 @@ fn accepted(mut call: Call) -> Expected {
             let (row, column) = call.pair.ordered();
             let whole = found(&call.whole_entries, row, column).expect("not refused");
             Expected::untouched(Reply { whole, ..Reply::default() }, call)
+        }
+        Function::VarianceBounds => {
+            let [low, high] = ranges::bounds(&call).map(|bound| i64::try_from(bound).expect("within 2^62"));
+            Expected::untouched(Reply { low, high, ..Reply::default() }, call)
+        }
+        Function::TrackVariances => {
+            let sums = tracks::sums(&call);
+            for (place, &sum) in call.output.wholes.iter_mut().zip(&sums) {
+                *place = i64::try_from(sum).expect("within 2^60");
+            }
+            Expected::untouched(Reply::default(), call)
         }
         Function::Diag => {
             let n = call.entries.dimension();

@@ -5,11 +5,13 @@ use crate::files::sound_file;
 use crate::function::Function;
 use crate::list::{Item, List};
 use crate::random::Random;
+use crate::refusals::MOST_TERMS;
 use crate::rules::{requested, triangle, Factor};
 use crate::subjects::{
     EntryLists, FactorLists, OperatorLists, Pair, PermutationLists, RequestLists, RowPairLists, ValueLists,
 };
 use crate::whole::GREATEST;
+use crate::whole_results::{row_of, track_of};
 use std::cmp::Ordering::{self, Equal, Greater, Less};
 
 /// Numbers at and past the greatest size that whole numbers may have.
@@ -276,6 +278,11 @@ pub fn sound(function: Function, n: usize, random: &mut Random) -> Call {
             let (entries, column) = result_lists(random, n, &drawn);
             call.pair = pair_of_result(random, &entries, column);
             call.whole_entries = entries;
+        }
+        Function::VarianceBounds => return row_of(random, n, MOST_TERMS),
+        Function::TrackVariances => {
+            let most = random.pick(&[2, 8, 30]);
+            return track_of(random, n, most);
         }
         Function::Validate => {
             let list = permutation(random, n);

@@ -1,6 +1,7 @@
 //! Random calls: sound ones with something spoilt.
 
 use crate::call::Call;
+use crate::faults::{ROW_FAULTS, TRACK_FAULTS};
 use crate::files::damage;
 use crate::function::Function;
 use crate::lend::lend;
@@ -8,7 +9,7 @@ use crate::list::{Item, List};
 use crate::random::Random;
 use crate::refusals::MOST_COLUMNS;
 use crate::sound::{sound, LARGE as LARGE_WHOLES};
-use crate::subjects::{EntryLists, FactorLists, OperatorLists, Pair, RequestLists};
+use crate::subjects::{EntryLists, FactorLists, OperatorLists, Pair, RangeLists, RequestLists, TrackLists};
 
 /// One call of so many is large.
 const LARGE: usize = 4_000;
@@ -124,6 +125,8 @@ const REQUESTS: usize = 3;
 const PAIR: usize = 2;
 const OPERATOR: usize = 4;
 const ENTRIES: usize = 4;
+const RANGES: usize = 3;
+const TRACK: usize = 2;
 
 /// A way to spoil values.
 type SpoilValues<V> = fn(&mut Random, &mut List<V>);
@@ -194,6 +197,21 @@ fn spoil_entries<V: Item>(
     }
 }
 
+fn spoil_ranges(ranges: &mut RangeLists, way: usize, n: usize, random: &mut Random) {
+    match way {
+        0 => spoil_words(random, &mut ranges.columns, n),
+        1 => spoil_wholes(random, &mut ranges.lows),
+        _ => spoil_wholes(random, &mut ranges.highs),
+    }
+}
+
+fn spoil_track(track: &mut TrackLists, way: usize, n: usize, random: &mut Random) {
+    match way {
+        0 => spoil_words(random, &mut track.cells, n),
+        _ => track.width = some_size(random, track.cells.len()),
+    }
+}
+
 /// Spoils something of a call whose dimension was n.
 fn spoil(call: &mut Call, n: usize, random: &mut Random) {
     match call.function {
@@ -249,6 +267,16 @@ fn spoil(call: &mut Call, n: usize, random: &mut Random) {
         Function::GetWhole => match random.below(ENTRIES + PAIR) {
             way if way < ENTRIES => spoil_entries(&mut call.whole_entries, spoil_wholes, way, n, random),
             way => spoil_pair(&mut call.pair, way - ENTRIES, n, random),
+        },
+        Function::VarianceBounds => match random.below(ENTRIES + RANGES + ROW_FAULTS.len()) {
+            way if way < ENTRIES => spoil_entries(&mut call.whole_entries, spoil_wholes, way, n, random),
+            way if way < ENTRIES + RANGES => spoil_ranges(&mut call.ranges, way - ENTRIES, n, random),
+            way => ROW_FAULTS[way - ENTRIES - RANGES](call, random),
+        },
+        Function::TrackVariances => match random.below(ENTRIES + TRACK + TRACK_FAULTS.len()) {
+            way if way < ENTRIES => spoil_entries(&mut call.whole_entries, spoil_wholes, way, n, random),
+            way if way < ENTRIES + TRACK => spoil_track(&mut call.track, way - ENTRIES, n, random),
+            way => TRACK_FAULTS[way - ENTRIES - TRACK](call, random),
         },
         Function::Validate | Function::Inverse => {
             let first = call.function == Function::Inverse || random.chance(50);

@@ -78,6 +78,16 @@ subject! {
 }
 
 subject! {
+    /// A row whose weights are known within ranges.
+    RangeLists { columns: List<u32>, lows: List<i64>, highs: List<i64> }
+}
+
+subject! {
+    /// The cells of a track, and the width of its runs.
+    TrackLists { cells: List<u32>, width: usize }
+}
+
+subject! {
     /// A permutation, and its inverse: read by `validate`, written by `from_orig_to_perm`.
     PermutationLists { orig_to_perm: List<u32>, perm_to_orig: List<u32> }
 }
@@ -98,8 +108,8 @@ subject! {
 }
 
 subject! {
-    /// The lists that values are written to, and their marks.
-    OutputLists { values: List<f64>, marks: List<u8> }
+    /// The lists that values are written to, floats or whole numbers, and their marks.
+    OutputLists { values: List<f64>, wholes: List<i64>, marks: List<u8> }
 }
 
 impl OperatorLists {
@@ -123,6 +133,16 @@ impl<V: Item> EntryLists<V> {
     /// The places of a column's entries.
     pub fn column(&self, column: usize) -> std::ops::Range<usize> {
         self.starts[column] as usize..self.starts[column + 1] as usize
+    }
+}
+
+impl TrackLists {
+    /// The number of its runs, 0 where the width is none.
+    pub fn runs(&self) -> usize {
+        if self.width == 0 {
+            return 0;
+        }
+        (self.cells.len() + 1).saturating_sub(self.width)
     }
 }
 

@@ -82,7 +82,7 @@ impl Sort {
     /// Made from seed and name alone.
     fn case(self, seed: u64, k: usize) -> WholeCase {
         let name = format!("whole:{}-{k}", self.name);
-        let mut random = Random::new(name.bytes().fold(seed, |mixed, byte| mixed.wrapping_mul(257) ^ byte as u64));
+        let mut random = Random::named(seed, &name);
         let Made { columns, requests, passed } = (self.make)(&mut random);
         let call = called(lists(&columns), &requests, &mut random);
         WholeCase { name, call, passed }
@@ -127,11 +127,6 @@ fn called(factor: FactorLists<i64>, requests: &[Pair], random: &mut Random) -> C
     call
 }
 
-/// A number from -most to most.
-fn whole(random: &mut Random, most: i64) -> i64 {
-    random.below(2 * most as usize + 1) as i64 - most
-}
-
 fn sign(random: &mut Random) -> i64 {
     random.pick(&[1, -1])
 }
@@ -167,7 +162,7 @@ fn some_columns(random: &mut Random, n: usize, most: i64) -> Columns {
             match r.cmp(&c) {
                 Less if random.chance(above) => column.push((r, past(random))),
                 Equal => column.push((r, 1)),
-                Greater if random.unit() < below => column.push((r, whole(random, most))),
+                Greater if random.unit() < below => column.push((r, random.whole(most))),
                 _ => {}
             }
         }
@@ -205,7 +200,7 @@ fn kept_entry(random: &mut Random) -> Made {
 fn large_entry_and_zeros(random: &mut Random) -> Made {
     let mut columns = unit(4);
     columns[0].push((1, past(random)));
-    columns[1].push((2, whole(random, 1000)));
+    columns[1].push((2, random.whole(1000)));
     spread(random, columns, &[(3, 0)], Some(vec![Kind::KeptEntry]))
 }
 
