@@ -18,7 +18,7 @@ use Rattle.whole_pairs.specs.Entry.{entryOrZero, absentPair}
 use Rattle.run_sums.specs.Runs.{runSum, runSums}
 use Rattle.run_sums.specs.Slide.{strip}
 use Rattle.whole_selection.specs.ReadBack.{wholeMatrix}
-use Rattle.whole_selection.specs.Worked.{F2, left, F2-exact, F2-complete}
+use Rattle.whole_selection.specs.Worked.{F2-whole, left, F2-whole-exact, F2-whole-complete}
 use Rattle.track_variances.specs.Track.{trackEntry, widthSteps, runSteps, trackSteps, VariancesAlong}
 use Rattle.track_variances.specs.Promise.{along-found, along-later, along-slide}
 use Rattle.track_variances.specs.Exact.{AlongAfter, inverse-run}
@@ -82,13 +82,13 @@ unfolding any anyIn placeFrom first after each tabulate overwrite runSums column
 far-apart = record { replies = refl; output-after = refl }
 
 -- ---- the theorems, over the lists that F2's call in whole numbers left
-F2-answered : AlongAfter F2 (left .lists) (0 ∷ 1 ∷ 1 ∷ []) 2 (pos 9 ∷ pos 9 ∷ pos 9 ∷ []) (pos 2 ∷ pos 4 ∷ pos 9 ∷ [])
+F2-answered : AlongAfter F2-whole (left .lists) (0 ∷ 1 ∷ 1 ∷ []) 2 (pos 9 ∷ pos 9 ∷ pos 9 ∷ []) (pos 2 ∷ pos 4 ∷ pos 9 ∷ [])
 unfolding any anyIn placeFrom first after each tabulate overwrite runSums columnFaults searchSteps entrySteps entryOf resultSteps entryOrZero absentPair widthSteps runSteps trackSteps
 F2-answered = record { replies = refl; output-after = refl }
 
-F2-run : (X : Matrix) → WholeInverse 2 (wholeMatrix F2) X → pos 4 ≡ runSum X (0 ∷ 1 ∷ 1 ∷ []) 2 1
+F2-run : (X : Matrix) → WholeInverse 2 (wholeMatrix F2-whole) X → pos 4 ≡ runSum X (0 ∷ 1 ∷ 1 ∷ []) 2 1
 F2-run X is =
-    inverse-run F2 (left .lists) X (F2-exact X is) F2-complete (0 ∷ 1 ∷ 1 ∷ []) 2 (pos 9 ∷ pos 9 ∷ pos 9 ∷ []) (pos 2 ∷ pos 4 ∷ pos 9 ∷ []) F2-answered 1 (omega arith)
+    inverse-run F2-whole (left .lists) X (F2-whole-exact X is) F2-whole-complete (0 ∷ 1 ∷ 1 ∷ []) 2 (pos 9 ∷ pos 9 ∷ pos 9 ∷ []) (pos 2 ∷ pos 4 ∷ pos 9 ∷ []) F2-answered 1 (omega arith)
 
 -- the pair (1, 1) of the second run is found
 F2-found : lookupOf (pos 0) (0 ∷ 2 ∷ 3 ∷ []) (0 ∷ 1 ∷ 1 ∷ 9 ∷ []) (pos 5 ∷ negsuc 1 ∷ pos 1 ∷ pos 7 ∷ []) 1 1 ≡ answered (pos 1)

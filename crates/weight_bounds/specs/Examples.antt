@@ -19,11 +19,11 @@ product-high : greatestProduct (negsuc 0) (pos 2) (negsuc 2) (pos 1) ≡ pos 3
 product-high = refl
 
 -- F2 of document 01: entries 5, -2, -2, 1; weights from -1 to 2 and from 1 to 3: squares 0 to 4 and 1 to 9, product -3 to 6
-abbrev pub F2-entry : ℕ → ℕ → ℤ
-F2-entry zero zero = pos 5
-F2-entry zero (suc b) = negsuc 1
-F2-entry (suc a) zero = negsuc 1
-F2-entry (suc a) (suc b) = pos 1
+abbrev pub F2-pair : ℕ → ℕ → ℤ
+F2-pair zero zero = pos 5
+F2-pair zero (suc b) = negsuc 1
+F2-pair (suc a) zero = negsuc 1
+F2-pair (suc a) (suc b) = pos 1
 
 abbrev pub lowEnd : ℕ → ℤ
 lowEnd zero = negsuc 0
@@ -34,10 +34,10 @@ highEnd zero = pos 2
 highEnd (suc a) = pos 3
 
 -- 0 - 12 - 12 + 1 and 20 + 6 + 6 + 9
-F2-low : lowBound lowEnd highEnd F2-entry 2 ≡ negsuc 22
+F2-low : lowBound lowEnd highEnd F2-pair 2 ≡ negsuc 22
 F2-low = refl
 
-F2-high : highBound lowEnd highEnd F2-entry 2 ≡ pos 41
+F2-high : highBound lowEnd highEnd F2-pair 2 ≡ pos 41
 F2-high = refl
 
 -- an entry below 0 exchanges the ends: 2 to 3 with itself, times -1

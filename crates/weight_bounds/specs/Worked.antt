@@ -8,7 +8,7 @@ use Rattle.weight_bounds.specs.Within.{bounds-hold, bounds-scaled}
 use Rattle.weight_bounds.specs.TermBounds.{Term, leastTerm-attained, greatestTerm-attained, term-holds}
 use Rattle.weight_bounds.specs.Wider.{Wider, lowBound-wider, highBound-wider}
 use Rattle.weight_bounds.specs.Single.{lowBound-single}
-use Rattle.weight_bounds.specs.Examples.{F2-entry, lowEnd, highEnd}
+use Rattle.weight_bounds.specs.Examples.{F2-pair, lowEnd, highEnd}
 
 -- the weights 2 and 3
 abbrev chosen : ℕ → ℤ
@@ -20,11 +20,11 @@ chosen-in-range zero l = record { from = record { le = tt }; to = record { le = 
 chosen-in-range (suc a) l = record { from = record { le = tt }; to = record { le = tt } }
 
 -- 20 - 24 + 9
-chosen-variance : variance chosen F2-entry 2 ≡ pos 5
+chosen-variance : variance chosen F2-pair 2 ≡ pos 5
 chosen-variance = refl
 
 chosen-holds : InRange (negsuc 22) (pos 5) (pos 41)
-chosen-holds = bounds-hold lowEnd highEnd F2-entry 2 chosen chosen-in-range
+chosen-holds = bounds-hold lowEnd highEnd F2-pair 2 chosen chosen-in-range
 
 -- the weights 1 / 2 and 3 / 2
 abbrev halves : ℕ → ℤ
@@ -37,18 +37,18 @@ halves-in-range (suc a) l = record { from = record { le = tt }; to = record { le
 
 -- (5 - 12 + 9) / 4
 halves-hold : Scaled 4 (negsuc 22) (pos 2) (pos 41)
-halves-hold = bounds-scaled lowEnd highEnd F2-entry 2 2 halves halves-in-range
+halves-hold = bounds-scaled lowEnd highEnd F2-pair 2 2 halves halves-in-range
 
 -- the least term of the two places is attained: 2 · 3 · -2
-least-attained : Term lowEnd highEnd F2-entry 0 1 (negsuc 11)
-least-attained = leastTerm-attained lowEnd highEnd F2-entry 0 1 (record { le = tt }) (record { le = tt })
+least-attained : Term lowEnd highEnd F2-pair 0 1 (negsuc 11)
+least-attained = leastTerm-attained lowEnd highEnd F2-pair 0 1 (record { le = tt }) (record { le = tt })
 
 -- and the greatest: -1 · 3 · -2
-greatest-attained : Term lowEnd highEnd F2-entry 0 1 (pos 6)
-greatest-attained = greatestTerm-attained lowEnd highEnd F2-entry 0 1 (record { le = tt }) (record { le = tt })
+greatest-attained : Term lowEnd highEnd F2-pair 0 1 (pos 6)
+greatest-attained = greatestTerm-attained lowEnd highEnd F2-pair 0 1 (record { le = tt }) (record { le = tt })
 
 -- one choice of both: 1 · 1 · -2
-choice : Term lowEnd highEnd F2-entry 0 1 (negsuc 1)
+choice : Term lowEnd highEnd F2-pair 0 1 (negsuc 1)
 choice = record {
   x = pos 1;
   y = pos 1;
@@ -59,7 +59,7 @@ choice = record {
 }
 
 choice-holds : InRange (negsuc 11) (negsuc 1) (pos 6)
-choice-holds = term-holds lowEnd highEnd F2-entry 0 1 choice
+choice-holds = term-holds lowEnd highEnd F2-pair 0 1 choice
 
 -- the single choice within the ranges
 chosen-wider : Wider chosen chosen lowEnd highEnd 2
@@ -69,11 +69,11 @@ chosen-wider = record { ends = same; below = λ a l. chosen-in-range a l .from; 
     same zero l = record { le = tt }
     same (suc a) l = record { le = tt }
 
-wider-low : lowBound lowEnd highEnd F2-entry 2 ≤ℤ lowBound chosen chosen F2-entry 2
-wider-low = lowBound-wider chosen chosen lowEnd highEnd F2-entry 2 chosen-wider
+wider-low : lowBound lowEnd highEnd F2-pair 2 ≤ℤ lowBound chosen chosen F2-pair 2
+wider-low = lowBound-wider chosen chosen lowEnd highEnd F2-pair 2 chosen-wider
 
-wider-high : highBound chosen chosen F2-entry 2 ≤ℤ highBound lowEnd highEnd F2-entry 2
-wider-high = highBound-wider chosen chosen lowEnd highEnd F2-entry 2 chosen-wider
+wider-high : highBound chosen chosen F2-pair 2 ≤ℤ highBound lowEnd highEnd F2-pair 2
+wider-high = highBound-wider chosen chosen lowEnd highEnd F2-pair 2 chosen-wider
 
-chosen-single : lowBound chosen chosen F2-entry 2 ≡ pos 5
-chosen-single = lowBound-single chosen F2-entry 2
+chosen-single : lowBound chosen chosen F2-pair 2 ≡ pos 5
+chosen-single = lowBound-single chosen F2-pair 2

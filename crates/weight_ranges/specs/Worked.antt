@@ -17,7 +17,7 @@ use Rattle.whole_pairs.specs.Entry.{entryOrZero, absentPair}
 use Rattle.weight_bounds.specs.Bounds.{InRange, Scaled}
 use Rattle.weight_bounds.specs.Wider.{Wider}
 use Rattle.whole_selection.specs.ReadBack.{wholeMatrix}
-use Rattle.whole_selection.specs.Worked.{F2, left, F2-exact, F2-complete}
+use Rattle.whole_selection.specs.Worked.{F2-whole, left, F2-whole-exact, F2-whole-complete}
 use Rattle.weight_ranges.specs.Ranges.{rangeRowSteps, weightSteps, pairSteps, rangeSteps, rangeBounds}
 use Rattle.weight_ranges.specs.Promise.{rowVariance, answer-found, answer-wider}
 use Rattle.weight_ranges.specs.Exact.{BoundsAfter, inverse-holds, inverse-scaled, inverse-single}
@@ -94,7 +94,7 @@ unfolding any anyIn first each columnFaults resultSteps rangeRowSteps weightStep
 unsorted-column = refl
 
 -- ---- the theorems, over the lists that F2's call in whole numbers left
-F2-answered : BoundsAfter F2 (left .lists) (0 ∷ 1 ∷ []) (negsuc 0 ∷ pos 1 ∷ []) (pos 2 ∷ pos 3 ∷ []) (negsuc 22) (pos 41)
+F2-answered : BoundsAfter F2-whole (left .lists) (0 ∷ 1 ∷ []) (negsuc 0 ∷ pos 1 ∷ []) (pos 2 ∷ pos 3 ∷ []) (negsuc 22) (pos 41)
 unfolding any anyIn placeFrom first each columnFaults searchSteps entrySteps entryOf resultSteps entryOrZero absentPair rangeRowSteps weightSteps pairSteps rangeSteps
 F2-answered = refl
 
@@ -115,9 +115,9 @@ chosen-in-range zero l = record { from = record { le = tt }; to = record { le = 
 chosen-in-range (suc zero) l = record { from = record { le = tt }; to = record { le = tt } }
 chosen-in-range (suc (suc a)) l = absurd (omega arith)
 
-F2-holds : (X : Matrix) → WholeInverse 2 (wholeMatrix F2) X → InRange (negsuc 22) (rowVariance (0 ∷ 1 ∷ []) chosen X) (pos 41)
+F2-holds : (X : Matrix) → WholeInverse 2 (wholeMatrix F2-whole) X → InRange (negsuc 22) (rowVariance (0 ∷ 1 ∷ []) chosen X) (pos 41)
 F2-holds X is =
-    inverse-holds F2 (left .lists) X (F2-exact X is) F2-complete (0 ∷ 1 ∷ []) (negsuc 0 ∷ pos 1 ∷ []) (pos 2 ∷ pos 3 ∷ []) F2-answered chosen chosen-in-range
+    inverse-holds F2-whole (left .lists) X (F2-whole-exact X is) F2-whole-complete (0 ∷ 1 ∷ []) (negsuc 0 ∷ pos 1 ∷ []) (pos 2 ∷ pos 3 ∷ []) F2-answered chosen chosen-in-range
 
 -- the weights 1 / 2 and 3 / 2
 abbrev halves : ℕ → ℤ
@@ -129,18 +129,18 @@ halves-in-range zero l = record { from = record { le = tt }; to = record { le = 
 halves-in-range (suc zero) l = record { from = record { le = tt }; to = record { le = tt } }
 halves-in-range (suc (suc a)) l = absurd (omega arith)
 
-F2-scaled : (X : Matrix) → WholeInverse 2 (wholeMatrix F2) X → Scaled 4 (negsuc 22) (rowVariance (0 ∷ 1 ∷ []) halves X) (pos 41)
+F2-scaled : (X : Matrix) → WholeInverse 2 (wholeMatrix F2-whole) X → Scaled 4 (negsuc 22) (rowVariance (0 ∷ 1 ∷ []) halves X) (pos 41)
 F2-scaled X is =
-    inverse-scaled F2 (left .lists) X (F2-exact X is) F2-complete (0 ∷ 1 ∷ []) (negsuc 0 ∷ pos 1 ∷ []) (pos 2 ∷ pos 3 ∷ []) F2-answered 2 halves halves-in-range
+    inverse-scaled F2-whole (left .lists) X (F2-whole-exact X is) F2-whole-complete (0 ∷ 1 ∷ []) (negsuc 0 ∷ pos 1 ∷ []) (pos 2 ∷ pos 3 ∷ []) F2-answered 2 halves halves-in-range
 
 -- equal ends 1 and 1: 5 - 4 + 1, as the operator's row in document 01
-F2-ones : BoundsAfter F2 (left .lists) (0 ∷ 1 ∷ []) (pos 1 ∷ pos 1 ∷ []) (pos 1 ∷ pos 1 ∷ []) (pos 2) (pos 2)
+F2-ones : BoundsAfter F2-whole (left .lists) (0 ∷ 1 ∷ []) (pos 1 ∷ pos 1 ∷ []) (pos 1 ∷ pos 1 ∷ []) (pos 2) (pos 2)
 unfolding any anyIn placeFrom first each columnFaults searchSteps entrySteps entryOf resultSteps entryOrZero absentPair rangeRowSteps weightSteps pairSteps rangeSteps
 F2-ones = refl
 
-F2-single : (X : Matrix) → WholeInverse 2 (wholeMatrix F2) X → let w = rowVariance (0 ∷ 1 ∷ []) (wholeValue (pos 1 ∷ pos 1 ∷ [])) X in (pos 2 ≡ w) × (pos 2 ≡ w)
+F2-single : (X : Matrix) → WholeInverse 2 (wholeMatrix F2-whole) X → let w = rowVariance (0 ∷ 1 ∷ []) (wholeValue (pos 1 ∷ pos 1 ∷ [])) X in (pos 2 ≡ w) × (pos 2 ≡ w)
 F2-single X is =
-    inverse-single F2 (left .lists) X (F2-exact X is) F2-complete (0 ∷ 1 ∷ []) (pos 1 ∷ pos 1 ∷ []) (pos 1 ∷ pos 1 ∷ []) F2-ones (λ a l. refl)
+    inverse-single F2-whole (left .lists) X (F2-whole-exact X is) F2-whole-complete (0 ∷ 1 ∷ []) (pos 1 ∷ pos 1 ∷ []) (pos 1 ∷ pos 1 ∷ []) F2-ones (λ a l. refl)
 
 -- they lie in the wider ranges
 ones-wider : Wider (wholeValue (pos 1 ∷ pos 1 ∷ [])) (wholeValue (pos 1 ∷ pos 1 ∷ [])) (wholeValue (negsuc 0 ∷ pos 1 ∷ [])) (wholeValue (pos 2 ∷ pos 3 ∷ [])) 2

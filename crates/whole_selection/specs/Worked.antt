@@ -45,8 +45,8 @@ use Rattle.whole_selection.specs.ReadBack.{wholeFound, wholeMatrix, With
 use Rattle.whole_selection.specs.Agree.{floatCall}
 use Rattle.whole_selection.specs.Engines.{Agrees, converted, engines-complete}
 
-abbrev pub F2 : WholeCall
-F2 = wholeCall 2 F2-starts F2-rows (pos 1 ∷ pos 2 ∷ pos 1 ∷ []) 2 (0 ∷ []) (0 ∷ []) 3
+abbrev pub F2-whole : WholeCall
+F2-whole = wholeCall 2 F2-starts F2-rows (pos 1 ∷ pos 2 ∷ pos 1 ∷ []) 2 (0 ∷ []) (0 ∷ []) 3
 
 -- twelve words
 abbrev words : ℕ → List ℕ
@@ -60,36 +60,36 @@ before = wholeLent (8 ∷ 8 ∷ 8 ∷ 8 ∷ []) (9 ∷ 9 ∷ 9 ∷ 9 ∷ []) (po
 abbrev pub left : WholeLent
 left = wholeLent (0 ∷ 2 ∷ 3 ∷ 8 ∷ []) (0 ∷ 1 ∷ 1 ∷ 9 ∷ []) (pos 5 ∷ negsuc 1 ∷ pos 1 ∷ pos 7 ∷ []) (words 0) (pos 0 ∷ pos 0 ∷ pos 0 ∷ pos 5 ∷ [])
 
-pub F2-entries : WholeEntries F2 before (Answered (wholeAnswer F2)) left
+pub F2-whole-entries : WholeEntries F2-whole before (Answered (wholeAnswer F2-whole)) left
 unfolding any anyIn sumTo picked select cells cellCount tabulate overwrite filled factorPairs reach member requested diagnosisOf
     first after pairTotal bitWords scratchWords boundSteps brokenSteps startsSteps rowsSteps columnSteps requestSteps unitSteps missingSteps roomSteps workSteps
     checkSteps exceedSteps setExceeds wholeTable
-F2-entries = record {
+F2-whole-entries = record {
   replies = refl;
   lists-are = record { starts-are = refl; rows-are = refl; values-are = refl; scratch-is = refl };
   work-is = refl;
 }
 
 -- what reads back: the inverse's entries, also at (0, 1), and 8 outside
-F2-found : wholeFound F2 (left .lists) 0 1 ≡ answered (negsuc 1)
+F2-found : wholeFound F2-whole (left .lists) 0 1 ≡ answered (negsuc 1)
 unfolding any anyIn placeFrom first columnFaults searchSteps entrySteps entryOf
 F2-found = refl
 
-F2-outside : wholeFound F2 (left .lists) 2 0 ≡ refused 8
+F2-outside : wholeFound F2-whole (left .lists) 2 0 ≡ refused 8
 unfolding any anyIn placeFrom first columnFaults searchSteps entrySteps entryOf
 F2-outside = refl
 
 -- ---- `whole-reply`: a Complete answer is exact
-pub F2-exact : (X : Matrix) → WholeInverse 2 (wholeMatrix F2) X → ReadsWhole F2 (left .lists) X
-F2-exact X is = whole-reply F2 before F2-entries refl X is .1
+pub F2-whole-exact : (X : Matrix) → WholeInverse 2 (wholeMatrix F2-whole) X → ReadsWhole F2-whole (left .lists) X
+F2-whole-exact X is = whole-reply F2-whole before F2-whole-entries refl X is .1
 
-pub F2-complete : wholeAnswer F2 .status ≡ Complete
+pub F2-whole-complete : wholeAnswer F2-whole .status ≡ Complete
 unfolding any sumTo picked select cellCount reach member requested diagnosisOf diagnosis
-F2-complete = refl
+F2-whole-complete = refl
 
 -- ---- `reads-found`: what the lookup finds is X's entry
-F2-read : (X : Matrix) → WholeInverse 2 (wholeMatrix F2) X → negsuc 1 ≡ X 0 1
-F2-read X is = reads-found F2 (left .lists) X (F2-exact X is) F2-complete 0 1 F2-found
+F2-read : (X : Matrix) → WholeInverse 2 (wholeMatrix F2-whole) X → negsuc 1 ≡ X 0 1
+F2-read X is = reads-found F2-whole (left .lists) X (F2-whole-exact X is) F2-whole-complete 0 1 F2-found
 
 -- ---- `engines-complete`: selected entries of the same factor in f64, in lists of 0
 abbrev floats-before : Lent
@@ -99,20 +99,20 @@ abbrev floats-left : Lent
 floats-left = lists (0 ∷ 2 ∷ 3 ∷ []) (0 ∷ 1 ∷ 1 ∷ []) (fin false 5 (pos 0) ∷ fin true 1 (pos 1) ∷ fin false 1 (pos 0) ∷ []) (words 0)
 
 abbrev F2-converted : List Float
-F2-converted = converted (F2 .factor .values)
+F2-converted = converted (F2-whole .factor .values)
 
 F2-room : Passed (roomSteps 2 3 (roomOf floats-before))
 unfolding first pairTotal bitWords scratchWords roomSteps
 F2-room = refl
 
-F2-floats : ResultLists (selectedSteps (floatCall F2 F2-converted) (roomOf floats-before)) (fillingOf (selectionOf (floatCall F2 F2-converted))) floats-before floats-left
+F2-floats : ResultLists (selectedSteps (floatCall F2-whole F2-converted) (roomOf floats-before)) (fillingOf (selectionOf (floatCall F2-whole F2-converted))) floats-before floats-left
 unfolding any anyIn sumTo picked select cells cellCount tabulate overwrite filled factorPairs reach member requested diagnosisOf
     ofInt ofBits ne le add sub mul div neg floatTable
     first after pairTotal bitWords scratchWords boundSteps brokenSteps startsSteps rowsSteps columnSteps finiteSteps storedSteps requestSteps diagonalSteps roomSteps selectedSteps
 F2-floats = record { starts-are = refl; rows-are = refl; values-are = refl; scratch-is = refl }
 
-F2-agrees : Agrees F2 (left .lists) F2-converted floats-before floats-left
-F2-agrees = engines-complete F2 before F2-entries refl F2-complete floats-before F2-room F2-floats
+F2-agrees : Agrees F2-whole (left .lists) F2-converted floats-before floats-left
+F2-agrees = engines-complete F2-whole before F2-whole-entries refl F2-whole-complete floats-before F2-room F2-floats
 
 -- ---- `told-twenty`: F2 with 2 ^ 53 + 1 below its diagonal and the request (1, 1)
 abbrev large : WholeCall
