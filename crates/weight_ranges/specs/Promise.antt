@@ -29,7 +29,7 @@ abbrev pub BoundsAnswered : List ℕ → List ℕ → List ℤ → List ℕ → 
 BoundsAnswered starts rows values columns lows highs low high =
     answered (low, high) ≡ first (rangeSteps starts rows values columns lows highs) (rangeBounds starts rows values columns lows highs)
 
--- vᵀXv of the row with the weights v: request 3's value of the row with itself
+-- vᵀXv of the row with the weights v: the covariance of the row with itself
 abbrev pub rowVariance : List ℕ → (ℕ → ℤ) → (ℕ → ℕ → ℤ) → ℤ
 rowVariance columns v X = bilinear (termColumn columns) (termColumn columns) v v X 0 (length columns) 0 (length columns)
 
