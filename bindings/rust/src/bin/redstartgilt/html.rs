@@ -3,11 +3,11 @@
 //! The numbers stand in the document, on the map's cells and in a table; the script only moves between cells and shows
 //! what stands there. So the page can be read without the script, without colour and without a pointer.
 
-use crate::fairway::{sign, Fairway, SIGNS};
 use crate::grid::Grid;
 use crate::map::{deviation, fill, Cell, Fill, Map};
 use crate::markup::{escaped, fill_value, pattern};
 use crate::scale::{short, Scale};
+use crate::track_line::{sign, TrackLine, SIGNS};
 use crate::trail::{Frame, Trail};
 use redstartgilt::count_and_least;
 use std::fmt::Write;
@@ -122,8 +122,8 @@ fn drawing(html: &mut String, map: &Map<'_>, scale: Option<&Scale>) {
     if let Some(trail) = Trail::new(map, frame(map)) {
         html.push_str(&trail.drawn());
     }
-    if let Some(fairway) = Fairway::new(map, frame(map)) {
-        html.push_str(&fairway.drawn());
+    if let Some(track_line) = TrackLine::new(map, frame(map)) {
+        html.push_str(&track_line.drawn());
     }
     for cursor in ["pointed", "selected"] {
         let _ = writeln!(

@@ -1,10 +1,10 @@
 //! A map as a picture.
 
-use crate::fairway::{sign, Fairway, SIGNS};
 use crate::grid::Grid;
 use crate::map::{fill, Fill, Map};
 use crate::markup::{escaped, fill_value, pattern};
 use crate::scale::{short, Scale};
+use crate::track_line::{sign, TrackLine, SIGNS};
 use crate::trail::{Frame, Trail};
 use std::fmt::Write;
 
@@ -36,11 +36,11 @@ pub fn draw(map: &Map<'_>) -> String {
         texts: MARK_TEXTS,
     };
     let trail = Trail::new(map, frame());
-    let fairway = Fairway::new(map, frame());
+    let track_line = TrackLine::new(map, frame());
     let trail_room = trail.as_ref().map_or(0, |trail| {
         KEY_ROOM * trail.signs().len() + LINE_ROOM * trail.number_words().len()
     });
-    let track_room = fairway.as_ref().map_or(0, |_| KEY_ROOM * SIGNS.len());
+    let track_room = track_line.as_ref().map_or(0, |_| KEY_ROOM * SIGNS.len());
     let subtitle_room = subtitle.as_ref().map_or(0, |words| words.chars().count() * LETTER_ROOM);
     let whole_width = (map_width + LEGEND_ROOM).max(subtitle_room) + 2 * MARGIN;
     let whole_height = top + bar_height + 16 + KEY_ROOM * map.patterns().count() + trail_room + track_room + MARGIN;
@@ -92,15 +92,15 @@ pub fn draw(map: &Map<'_>) -> String {
     if let Some(trail) = &trail {
         svg.push_str(&trail.drawn());
     }
-    if let Some(fairway) = &fairway {
-        svg.push_str(&fairway.drawn());
+    if let Some(track_line) = &track_line {
+        svg.push_str(&track_line.drawn());
     }
     let corner = (MARGIN + map_width + 24, top);
     let below = legend(&mut svg, map, scale.as_ref(), corner, bar_height);
     if let Some(trail) = &trail {
         trail_legend(&mut svg, trail, (corner.0, below));
     }
-    if fairway.is_some() {
+    if track_line.is_some() {
         track_legend(&mut svg, (corner.0, below));
     }
     svg.push_str("</svg>\n");

@@ -6,7 +6,7 @@ use crate::track::Track;
 use crate::trail::{Frame, Point};
 
 /// The track of a map.
-pub struct Fairway<'a> {
+pub struct TrackLine<'a> {
     map: &'a Map<'a>,
     track: &'a Track,
     frame: Frame,
@@ -52,7 +52,7 @@ pub fn sign(largest: bool, (x, y): Point, (width, height): Point) -> String {
     line(&[(x + room, middle), (x + width - room, middle)], height, largest)
 }
 
-impl<'a> Fairway<'a> {
+impl<'a> TrackLine<'a> {
     /// The track of a map that has one.
     pub fn new(map: &'a Map<'a>, frame: Frame) -> Option<Self> {
         let track = map.track?;
