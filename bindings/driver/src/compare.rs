@@ -153,14 +153,20 @@ impl Tally {
             println!("  {function}: {reply}: {count}");
         }
         let [chains, several, every] = self.chains;
-        println!("\n{chains} chains of up to {} pairs, {several} among several as short;", self.longest);
-        println!("{every} answers held against every chain that there is");
-        println!("\nnumbers past 2^53, cases of the set whole");
+        if chains > 0 {
+            println!("\n{chains} chains of up to {} pairs, {several} among several as short;", self.longest);
+            println!("{every} answers held against every chain that there is");
+        }
+        if !self.sizes.is_empty() {
+            println!("\nnumbers past 2^53, cases of the set whole");
+        }
         for (kinds, count) in &self.sizes {
             println!("  {kinds:?}: {count}");
         }
         self.choices.report();
-        println!("\nwhere a document says otherwise than the Rust");
+        if !self.intended.is_empty() {
+            println!("\nwhere a document says otherwise than the Rust");
+        }
         for (what, (count, example)) in &self.intended {
             println!("  {what}: {count}, as {example}");
         }

@@ -11,7 +11,7 @@ use crate::subjects::{
     EntryLists, FactorLists, OperatorLists, Pair, PermutationLists, RequestLists, RowPairLists, ValueLists,
 };
 use crate::whole::GREATEST;
-use crate::whole_results::{row_of, track_of};
+use crate::whole_results::{any_row, any_track};
 use std::cmp::Ordering::{self, Equal, Greater, Less};
 
 /// Numbers at and past the greatest size that whole numbers may have.
@@ -279,10 +279,10 @@ pub fn sound(function: Function, n: usize, random: &mut Random) -> Call {
             call.pair = pair_of_result(random, &entries, column);
             call.whole_entries = entries;
         }
-        Function::VarianceBounds => return row_of(random, n, MOST_TERMS),
+        Function::VarianceBounds => return any_row(random, n, MOST_TERMS),
         Function::TrackVariances => {
             let most = random.pick(&[2, 8, 30]);
-            return track_of(random, n, most);
+            return any_track(random, n, most);
         }
         Function::Validate => {
             let list = permutation(random, n);

@@ -7,21 +7,19 @@ use crate::faults::{
     absent_pair, bad_cell, bad_column, bad_ends, bad_width, broken_result, large_entry, unequal_lists, Fault,
     ROW_FAULTS, TRACK_FAULTS,
 };
-use crate::function::Function;
 use crate::lend::lend;
 use crate::list::List;
 use crate::random::Random;
-use crate::refusals::{GREATEST_SUMMED, GREATEST_WEIGHT, GREATEST_WEIGHTED, MOST_TERMS, MOST_WIDTH};
-use crate::subjects::{RangeLists, TrackLists};
-use crate::whole_results::{result_with, row_of, track_of};
-use crate::{ranges, tracks};
+use crate::refusals::{GREATEST_SUMMED, GREATEST_WEIGHT, GREATEST_WEIGHTED, MOST_ENTRIES, MOST_TERMS, MOST_WIDTH};
+use crate::subjects::TrackLists;
+use crate::whole_results::{any_row, any_track, row_of, track_of};
 
 pub struct VarianceCase {
     pub name: String,
     pub call: Call,
 }
 
-/// A sort of cases, how many there are, and how many of these faults each has.
+/// A sort of cases, how many there are, and from how many to how many of these faults each has.
 #[derive(Clone, Copy)]
 struct Sort {
     name: &'static str,
@@ -35,27 +33,35 @@ const NONE: [usize; 2] = [0, 0];
 const ONE: [usize; 2] = [1, 1];
 const SEVERAL: [usize; 2] = [2, 4];
 
-const SORTS: [Sort; 20] = [
-    Sort { name: "row", count: 6_000, make: row, faults: &[], at_once: NONE },
+const SORTS: [Sort; 22] = [
+    Sort { name: "row", count: 20_000, make: row, faults: &[], at_once: NONE },
     Sort { name: "long-row", count: 300, make: long_row, faults: &[], at_once: NONE },
     Sort { name: "greatest-row", count: 60, make: greatest_row, faults: &[], at_once: NONE },
-    Sort { name: "row-sizes", count: 1_000, make: row, faults: &[large_entry], at_once: [1, 3] },
-    Sort { name: "row-absent", count: 1_000, make: row, faults: &[absent_pair], at_once: [1, 2] },
-    Sort { name: "row-columns", count: 1_000, make: row, faults: &[bad_column], at_once: ONE },
-    Sort { name: "row-lists", count: 500, make: row, faults: &[unequal_lists], at_once: [1, 2] },
-    Sort { name: "row-ends", count: 1_000, make: row, faults: &[bad_ends], at_once: ONE },
-    Sort { name: "row-broken", count: 1_000, make: row, faults: &[broken_result], at_once: ONE },
-    Sort { name: "row-several", count: 4_000, make: row, faults: &ROW_FAULTS, at_once: SEVERAL },
-    Sort { name: "track", count: 6_000, make: track, faults: &[], at_once: NONE },
+    Sort { name: "row-sizes", count: 3_000, make: row, faults: &[large_entry], at_once: [1, 3] },
+    Sort { name: "row-absent", count: 3_000, make: row, faults: &[absent_pair], at_once: [1, 2] },
+    Sort { name: "row-sizes-absent", count: 3_000, make: row, faults: &[large_entry, absent_pair], at_once: SEVERAL },
+    Sort { name: "row-columns", count: 2_000, make: row, faults: &[bad_column], at_once: ONE },
+    Sort { name: "row-lists", count: 1_000, make: row, faults: &[unequal_lists], at_once: [1, 2] },
+    Sort { name: "row-ends", count: 3_000, make: row, faults: &[bad_ends], at_once: ONE },
+    Sort { name: "row-broken", count: 2_000, make: row, faults: &[broken_result], at_once: ONE },
+    Sort { name: "row-several", count: 10_000, make: row, faults: &ROW_FAULTS, at_once: SEVERAL },
+    Sort { name: "track", count: 20_000, make: track, faults: &[], at_once: NONE },
     Sort { name: "wide-track", count: 60, make: wide_track, faults: &[], at_once: NONE },
     Sort { name: "greatest-track", count: 6, make: greatest_track, faults: &[], at_once: NONE },
     Sort { name: "long-track", count: 6, make: long_track, faults: &[], at_once: NONE },
-    Sort { name: "track-sizes", count: 1_000, make: track, faults: &[large_entry], at_once: [1, 3] },
-    Sort { name: "track-absent", count: 1_000, make: track, faults: &[absent_pair], at_once: [1, 2] },
-    Sort { name: "track-cells", count: 500, make: track, faults: &[bad_cell], at_once: ONE },
-    Sort { name: "track-widths", count: 1_000, make: track, faults: &[bad_width], at_once: ONE },
-    Sort { name: "track-broken", count: 1_000, make: track, faults: &[broken_result], at_once: ONE },
-    Sort { name: "track-several", count: 4_000, make: track, faults: &TRACK_FAULTS, at_once: SEVERAL },
+    Sort { name: "track-sizes", count: 3_000, make: track, faults: &[large_entry], at_once: [1, 3] },
+    Sort { name: "track-absent", count: 3_000, make: track, faults: &[absent_pair], at_once: [1, 2] },
+    Sort {
+        name: "track-sizes-absent",
+        count: 3_000,
+        make: track,
+        faults: &[large_entry, absent_pair],
+        at_once: SEVERAL,
+    },
+    Sort { name: "track-cells", count: 1_000, make: track, faults: &[bad_cell], at_once: ONE },
+    Sort { name: "track-widths", count: 3_000, make: track, faults: &[bad_width], at_once: ONE },
+    Sort { name: "track-broken", count: 2_000, make: track, faults: &[broken_result], at_once: ONE },
+    Sort { name: "track-several", count: 10_000, make: track, faults: &TRACK_FAULTS, at_once: SEVERAL },
 ];
 
 /// The cases of a seed, one by one.
@@ -83,9 +89,7 @@ impl Sort {
             random.pick(self.faults)(&mut call, &mut random);
         }
         if random.chance(5) {
-            lend(&mut call, &mut random, |random, need| {
-                need - 1.min(need) - random.below(2).min(need.saturating_sub(1))
-            });
+            lend(&mut call, &mut random, |random, need| need.saturating_sub(1 + random.below(2)));
         } else {
             lend(&mut call, &mut random, some_more);
         }
@@ -93,61 +97,51 @@ impl Sort {
     }
 }
 
-fn row(random: &mut Random) -> Call {
-    let n = random.pick(&[1, 2, 3, 5, 8, 12, 24]) + random.below(3);
-    let most = random.pick(&[1, 2, 3, 4, 8, n]);
-    row_of(random, n, most)
+fn some_dimension(random: &mut Random) -> usize {
+    random.pick(&[1, 2, 3, 5, 8, 12, 24]) + random.below(3)
 }
 
-/// 63 to 66 terms of a result that has all their pairs.
+fn row(random: &mut Random) -> Call {
+    let n = some_dimension(random);
+    let most = random.pick(&[1, 2, 3, 4, 8, n]);
+    any_row(random, n, most)
+}
+
+/// 63 to 66 terms.
 fn long_row(random: &mut Random) -> Call {
     let n = MOST_TERMS + 2 + random.below(20);
-    let mut call = row_of(random, n, n);
     let mut columns: Vec<u32> = (0..n as u32).collect();
     random.shuffle(&mut columns);
     columns.truncate(MOST_TERMS - 1 + random.below(4));
     let most = random.pick(&[1, 9, GREATEST_WEIGHTED]);
-    call.whole_entries = result_with(random, n, ranges::pairs(&columns), |random| random.whole(most));
-    call.ranges = crate::whole_results::ranges_of(random, &columns);
+    row_of(random, n, &columns, |random| random.whole(most))
+}
+
+/// 64 terms with ends of the greatest size and entries of the greatest size: bounds of up to 2^62.
+fn greatest_row(random: &mut Random) -> Call {
+    let columns: Vec<u32> = (0..MOST_TERMS as u32).collect();
+    let signs = random.pick(&[&[1][..], &[-1], &[1, -1]]);
+    let mut call = row_of(random, MOST_TERMS, &columns, |random| GREATEST_WEIGHTED * random.pick(signs));
+    let [low, high] = random.pick(&[[1, 1], [-1, -1], [-1, 1]]).map(|sign| sign * GREATEST_WEIGHT);
+    call.ranges.lows.fill(low);
+    call.ranges.highs.fill(high);
     call
 }
 
-/// 64 terms with weights of the greatest size, entries of the greatest size: bounds of up to 2^62.
-fn greatest_row(random: &mut Random) -> Call {
-    let columns: Vec<u32> = (0..MOST_TERMS as u32).collect();
-    let sign = random.pick(&[&[1][..], &[-1], &[1, -1]]);
-    let entry = |random: &mut Random| GREATEST_WEIGHTED * random.pick(sign);
-    let whole_entries = result_with(random, MOST_TERMS, ranges::pairs(&columns), entry);
-    let ends = random.pick(&[
-        [GREATEST_WEIGHT, GREATEST_WEIGHT],
-        [-GREATEST_WEIGHT, -GREATEST_WEIGHT],
-        [-GREATEST_WEIGHT, GREATEST_WEIGHT],
-    ]);
-    let [lows, highs] = ends.map(|end| List::made(columns.len(), |_| end));
-    let ranges = RangeLists { columns: List::new(&columns), lows, highs };
-    Call { function: Function::VarianceBounds, whole_entries, ranges, ..Call::default() }
-}
-
 fn track(random: &mut Random) -> Call {
-    let n = random.pick(&[1, 2, 3, 5, 8, 12, 24]) + random.below(3);
+    let n = some_dimension(random);
     let most = random.pick(&[1, 2, 3, 5, 10, 40]);
-    track_of(random, n, most)
+    any_track(random, n, most)
 }
 
-/// The call for a track over n cells, whose result has the pairs of its runs.
-fn over(random: &mut Random, n: usize, track: TrackLists, drawn: impl Fn(&mut Random) -> i64) -> Call {
-    let whole_entries = result_with(random, n, tracks::pairs(&track), drawn);
-    Call { function: Function::TrackVariances, whole_entries, track, ..Call::default() }
-}
-
-/// Runs of about 1,024 cells, many of them one cell, in a track hardly longer.
+/// Widths of about 1,024, in a track of few cells hardly longer than a run, or one cell shorter.
 fn wide_track(random: &mut Random) -> Call {
     let n = 1 + random.below(6);
     let width = MOST_WIDTH - 2 + random.below(4);
     let length = width + random.pick(&[0, 0, 1, 3]) - usize::from(random.chance(10));
     let cells = List::made(length, |_| random.below(n) as u32);
     let most = random.pick(&[1, 1000, GREATEST_SUMMED]);
-    over(random, n, TrackLists { cells, width }, |random| random.whole(most))
+    track_of(random, n, TrackLists { cells, width }, |random| random.whole(most))
 }
 
 /// Runs of 1,024 cells with entries of the greatest size: sums of up to 2^60.
@@ -155,13 +149,13 @@ fn greatest_track(random: &mut Random) -> Call {
     let n = 1 + random.below(6);
     let cells = List::made(MOST_WIDTH + 2, |_| random.below(n) as u32);
     let sign = random.pick(&[1, -1]);
-    over(random, n, TrackLists { cells, width: MOST_WIDTH }, |_| GREATEST_SUMMED * sign)
+    track_of(random, n, TrackLists { cells, width: MOST_WIDTH }, |_| GREATEST_SUMMED * sign)
 }
 
-/// A track longer than any other list may be.
+/// A track of more cells than document 01 allows a list of terms or requests.
 fn long_track(random: &mut Random) -> Call {
     let n = 2 + random.below(30);
-    let cells = List::made(1_100_000 + random.below(9), |_| random.below(n) as u32);
+    let cells = List::made(MOST_ENTRIES + 1 + random.below(9), |_| random.below(n) as u32);
     let width = 1 + random.below(3);
-    over(random, n, TrackLists { cells, width }, |random| random.whole(1000))
+    track_of(random, n, TrackLists { cells, width }, |random| random.whole(1000))
 }

@@ -205,12 +205,15 @@ fn together(entries: &EntryLists<i64>, random: &mut Random) -> Vec<u32> {
     cells
 }
 
-/// A track whose runs a result has the pairs of: the next cell is one of the last cell's column, or that cell again; one in
-/// ten tracks has any cells besides.
+/// A track whose runs a result has the pairs of, where it has a diagonal: the next cell is a row of some column up to the last
+/// cell, or that cell again; one in ten tracks has other cells besides.
 fn track_over(entries: &EntryLists<i64>, random: &mut Random) -> TrackLists {
     let n = entries.dimension();
-    let (width, length, any) = (1 + random.below(6), 1 + random.below(30), random.chance(10));
-    let mut cells = vec![random.below(n) as u32];
+    let (length, any) = (1 + random.below(30), random.chance(10));
+    let width = 1 + random.below(length.min(6));
+    let on_diagonal: Vec<u32> = (0..n).filter(|&i| entry(entries, i, i).is_some()).map(|i| i as u32).collect();
+    let first = if on_diagonal.is_empty() { random.below(n) as u32 } else { random.pick(&on_diagonal) };
+    let mut cells = vec![first];
     while cells.len() < length {
         let last = cells[cells.len() - 1];
         let before = random.below(last as usize + 1);

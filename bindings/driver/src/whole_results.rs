@@ -70,7 +70,7 @@ fn drawn(random: &mut Random, greatest: i64) -> impl Fn(&mut Random) -> i64 {
 
 /// A result of dimension n with these pairs, in either order, and a few entries more, of any size, at other pairs, above the
 /// diagonal and in rows from n on; before the first start and past the last stand others.
-pub fn result_with(
+fn result_with(
     random: &mut Random,
     n: usize,
     pairs: impl Iterator<Item = (usize, usize)>,
@@ -101,26 +101,32 @@ pub fn result_with(
     EntryLists { starts: List::new(&starts), rows: List::new(&rows), values: List::new(&values) }
 }
 
-/// A row of at most so many terms over a result of dimension n, which has its pairs.
-pub fn row_of(random: &mut Random, n: usize, most: usize) -> Call {
-    let columns = some_cells(random, n, most);
-    let drawn = drawn(random, GREATEST_WEIGHTED);
+/// The call for a row of these columns over a result of dimension n, which has its pairs.
+pub fn row_of(random: &mut Random, n: usize, columns: &[u32], drawn: impl Fn(&mut Random) -> i64) -> Call {
     Call {
         function: Function::VarianceBounds,
-        whole_entries: result_with(random, n, ranges::pairs(&columns), drawn),
-        ranges: ranges_of(random, &columns),
+        whole_entries: result_with(random, n, ranges::pairs(columns), drawn),
+        ranges: ranges_of(random, columns),
         ..Call::default()
     }
 }
 
-/// A track of at most so many cells over a result of dimension n, which has the pairs of its runs; without the output.
-pub fn track_of(random: &mut Random, n: usize, most: usize) -> Call {
+/// The same for a row of at most so many terms.
+pub fn any_row(random: &mut Random, n: usize, most: usize) -> Call {
+    let columns = some_cells(random, n, most);
+    let drawn = drawn(random, GREATEST_WEIGHTED);
+    row_of(random, n, &columns, drawn)
+}
+
+/// The call for a track over a result of dimension n, which has the pairs of its runs; without the output.
+pub fn track_of(random: &mut Random, n: usize, track: TrackLists, drawn: impl Fn(&mut Random) -> i64) -> Call {
+    let whole_entries = result_with(random, n, tracks::pairs(&track), drawn);
+    Call { function: Function::TrackVariances, whole_entries, track, ..Call::default() }
+}
+
+/// The same for a track of at most so many cells.
+pub fn any_track(random: &mut Random, n: usize, most: usize) -> Call {
     let track = some_track(random, n, most);
     let drawn = drawn(random, GREATEST_SUMMED);
-    Call {
-        function: Function::TrackVariances,
-        whole_entries: result_with(random, n, tracks::pairs(&track), drawn),
-        track,
-        ..Call::default()
-    }
+    track_of(random, n, track, drawn)
 }
