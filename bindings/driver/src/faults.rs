@@ -158,9 +158,9 @@ pub fn bad_cell(call: &mut Call, random: &mut Random) {
 /// A width at or past a bound, or one that 32 bits hold as another.
 pub fn bad_width(call: &mut Call, random: &mut Random) {
     let (length, width) = (call.track.cells.len(), call.track.width);
-    let widths =
-        [0, 1, length, length + 1, MOST_WIDTH, MOST_WIDTH + 1, (1 << 32) + 1, (1 << 32) + width, 1 << 63, usize::MAX];
-    call.track.width = random.pick(&widths);
+    let bounds = [0, 1, length, length + 1, MOST_WIDTH, MOST_WIDTH + 1];
+    let large = [(1 << 32) + 1, width.wrapping_add(1 << 32), 1 << 63, usize::MAX];
+    call.track.width = if random.chance(60) { random.pick(&bounds) } else { random.pick(&large) };
 }
 
 /// What is spoilt in rows, and in tracks.

@@ -17,6 +17,8 @@ mod function;
 mod list;
 #[path = "../../src/matrix_market.rs"]
 mod matrix_market;
+#[path = "../../src/ranges.rs"]
+mod ranges;
 #[path = "../../src/refusals.rs"]
 mod refusals;
 #[path = "../../src/reply.rs"]
@@ -25,6 +27,10 @@ mod reply;
 mod rules;
 #[path = "../../src/subjects.rs"]
 mod subjects;
+#[path = "../../src/tracks.rs"]
+mod tracks;
+#[path = "../../src/whole.rs"]
+mod whole;
 
 use call::Call;
 use function::Function;
