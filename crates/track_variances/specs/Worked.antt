@@ -9,7 +9,7 @@ use Rattle.lists.specs.Test.{any, anyIn}
 use Rattle.lists.specs.Place.{placeFrom}
 use Rattle.lists.specs.Tabulate.{tabulate}
 use Rattle.lists.specs.Overwrite.{overwrite}
-use Rattle.refusal.specs.Steps.{refused, answered, first, after, each}
+use Rattle.refusal.specs.Steps.{refused, answered, first, verdict, after, each}
 use Rattle.integers.specs.Matrix.{Matrix}
 use Rattle.integers.specs.Inverse.{WholeInverse}
 use Rattle.columns.specs.WholeFactor.{wholeValue}
@@ -61,6 +61,15 @@ wider-than-track = record { replies = refl; output-after = refl }
 above-32-bits : F2-refused F2-values (0 ∷ []) (2 ^ 32 + 1) (pos 9 ∷ []) 22
 unfolding any anyIn first after each columnFaults resultSteps widthSteps runSteps trackSteps
 above-32-bits = record { replies = refl; output-after = refl }
+
+-- 1,024 is the widest, however long the track
+widest : verdict (widthSteps 2000 1024) ≡ answered tt
+unfolding first widthSteps
+widest = refl
+
+too-wide : verdict (widthSteps 2000 1025) ≡ refused 22
+unfolding first widthSteps
+too-wide = refl
 
 -- 8 of the last run before 20 of the first: a cell outside, and an entry of 2^40 + 1; both before 7
 eight-first : F2-refused (pos (2 ^ 40 + 1) ∷ negsuc 1 ∷ pos 1 ∷ []) (0 ∷ 2 ∷ []) 1 [] 8

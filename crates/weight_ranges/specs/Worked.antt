@@ -8,7 +8,7 @@ use lib.IntN.{ℤ, pos, negsuc}
 use lib.Signed.{_≤ℤ_, ≤ℤ-refl}
 use Rattle.lists.specs.Test.{any, anyIn}
 use Rattle.lists.specs.Place.{placeFrom}
-use Rattle.refusal.specs.Steps.{Reply, refused, answered, first, each}
+use Rattle.refusal.specs.Steps.{Reply, refused, answered, first, verdict, each}
 use Rattle.integers.specs.Matrix.{Matrix}
 use Rattle.integers.specs.Inverse.{WholeInverse}
 use Rattle.columns.specs.WholeFactor.{wholeValue}
@@ -67,7 +67,20 @@ outside-column : replyOver F2-values (2 ∷ []) (pos 1 ∷ []) (pos 2 ∷ []) �
 unfolding any anyIn first each columnFaults resultSteps rangeRowSteps weightSteps pairSteps rangeSteps
 outside-column = refl
 
--- 21: low above high, an end of 1,025
+short-highs : replyOver F2-values (0 ∷ []) (pos 1 ∷ []) [] ≡ refused 9
+unfolding any anyIn first each columnFaults resultSteps rangeRowSteps weightSteps pairSteps rangeSteps
+short-highs = refl
+
+-- 21: over 64 terms, all from 0 to 0
+most-terms : verdict (weightSteps 64 [] []) ≡ answered tt
+unfolding any first weightSteps
+most-terms = refl
+
+more-terms : verdict (weightSteps 65 [] []) ≡ refused 21
+unfolding any first weightSteps
+more-terms = refl
+
+-- low above high, a low end of -1,025, a high one of 1,025
 low-above-high : replyOver F2-values (0 ∷ []) (pos 2 ∷ []) (pos 1 ∷ []) ≡ refused 21
 unfolding any anyIn first each columnFaults resultSteps rangeRowSteps weightSteps pairSteps rangeSteps
 low-above-high = refl
@@ -75,6 +88,10 @@ low-above-high = refl
 large-weight : replyOver F2-values (0 ∷ []) (negsuc 1024 ∷ []) (pos 1 ∷ []) ≡ refused 21
 unfolding any anyIn first each columnFaults resultSteps rangeRowSteps weightSteps pairSteps rangeSteps
 large-weight = refl
+
+large-high-weight : replyOver F2-values (0 ∷ []) (pos 1 ∷ []) (pos 1025 ∷ []) ≡ refused 21
+unfolding any anyIn first each columnFaults resultSteps rangeRowSteps weightSteps pairSteps rangeSteps
+large-high-weight = refl
 
 -- 20: an entry of 2 ^ 30 + 1
 large-entry : replyOver (pos 1073741825 ∷ negsuc 1 ∷ pos 1 ∷ []) (0 ∷ []) (pos 0 ∷ []) (pos 0 ∷ []) ≡ refused 20
