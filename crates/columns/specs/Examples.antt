@@ -101,10 +101,14 @@ none-passes : Passed (factorSteps (factorLists 0 (0 ∷ []) [] []))
 unfolding first factorSteps boundSteps storedSteps columnSteps startsSteps brokenSteps rowsSteps finiteSteps any anyIn ofInt ofBits ne
 none-passes = refl
 
--- n = 2,049, before all
-large : verdict (factorSteps (factorLists 2049 [] [] [])) ≡ refused 1
+-- n = 4,097, before all; 4,096 columns and 1,048,576 stored entries pass
+large : verdict (factorSteps (factorLists 4097 [] [] [])) ≡ refused 1
 unfolding first factorSteps boundSteps
 large = refl
+
+largest : Passed (boundSteps 4096 1048576)
+unfolding first boundSteps
+largest = refl
 
 starts-fall : verdict (factorSteps (factorLists 2 (0 ∷ 4 ∷ 3 ∷ []) F2-rows F2-values)) ≡ refused 2
 unfolding first factorSteps boundSteps storedSteps columnSteps startsSteps brokenSteps rowsSteps any anyIn

@@ -78,11 +78,11 @@ unfolding wrong told headed bytes
 size-refused = refl
 
 -- its bounds, themselves accepted
-bounds-refused : wrong sizeTold 16 (("a size of 2,049", bytes "2049 2049 0") ∷ ("a count of 1,048,577", bytes "2 2 1048577") ∷ []) ≡ []
+bounds-refused : wrong sizeTold 16 (("a size of 4,097", bytes "4097 4097 0") ∷ ("a count of 1,048,577", bytes "2 2 1048577") ∷ []) ≡ []
 unfolding wrong sizeTold bytes
 bounds-refused = refl
 
-bounds-accepted : wrong sizeTold 0 (("2,048 and 1,048,576", bytes "2048 2048 1048576") ∷ []) ≡ []
+bounds-accepted : wrong sizeTold 0 (("4,096 and 1,048,576", bytes "4096 4096 1048576") ∷ []) ≡ []
 unfolding wrong sizeTold bytes
 bounds-accepted = refl
 

@@ -7,7 +7,7 @@ use Rattle.refusal.specs.Steps.{Step}
 
 -- the largest dimension
 abbrev pub maxDimension : ℕ
-maxDimension = 2048
+maxDimension = 4096
 
 -- the most stored entries, requests or terms
 abbrev pub maxEntries : ℕ

@@ -35,6 +35,6 @@ pub enum Checked {
 }
 
 // The bounds of refusal 1: on a dimension, and on stored entries, requests and terms.
-pub const MAX_DIMENSION: usize = 2048;
+pub const MAX_DIMENSION: usize = 4096;
 
 pub const MAX_ENTRIES: usize = 1048576;
