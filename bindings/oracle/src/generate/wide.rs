@@ -39,13 +39,14 @@ fn exact(writer: &mut Writer, n: usize) -> io::Result<()> {
     exact_entries(writer, &factor)
 }
 
+/// All diagonals, with one of the limits about the closed set's size or past 32 bits; the farthest pair; pairs anywhere.
 fn exact_entries(writer: &mut Writer, factor: &Factor) -> io::Result<()> {
     let n = factor.n;
     let all = diagonal(n);
     let size = closed_size(factor, &all);
-    for limit in [Limit::At(size), Limit::At(size - 1), Limit::At(MOST), past_a_word(size), Limit::At(usize::MAX)] {
-        writer.entries(factor, &all, limit)?;
-    }
+    let limits = [Limit::At(size), Limit::At(size - 1), Limit::At(MOST), past_a_word(size), Limit::At(usize::MAX)];
+    let limit = writer.random.pick(&limits);
+    writer.entries(factor, &all, limit)?;
     writer.entries(factor, &[(n - 1, 0)], Limit::Default)?;
     let some = some_pairs(&mut writer.random, n);
     writer.entries(factor, &some, Limit::At(usize::MAX))
