@@ -2,6 +2,8 @@
 pub mod ReadBack
 pub mod Columns
 pub mod Recurrence
+pub mod DyadicEntries
 pub mod ExactEntries
 pub mod Count
 pub mod Worked
+pub mod DyadicWorked
