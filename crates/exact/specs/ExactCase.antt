@@ -1,17 +1,15 @@
 -- The exact case: f64's recurrence gives the inverse's own entries over a closed set of pairs where every exact step stays within 2 ^ 53. Assumes nothing.
 -- A factor L is given by its diagonal and, for each column, the list of its entries below the diagonal with ascending rows; `factor` is its matrix.
-use mathlib.Core.Path.{_≡_, refl, sym, _∙_, ap, ap₂}
+use mathlib.Core.Path.{_≡_, refl, sym, _∙_, ap}
 use mathlib.Core.Logic.{_≢_}
 use mathlib.Core.List.{List, [], _∷_}
 use Prim.Native.Nat.{ℕ, suc, _^_, _≤_, _<_, max, min}
-use native.Mathlib.Omega.{arith}
 use native.Mathlib.Nat.{zero-lt-suc, le-refl}
-use native.Mathlib.Decide.{decLe}
 use lib.Dec.{lit≤}
 use lib.IntN.{ℤ, pos, negℤ, _+ℤ_, _-ℤ_, _*ℤ_}
 use lib.Ieee.{Float, binary64, low}
 use Rattle.integers.specs.Integer.{*ℤ-idl, *ℤ-idr, pos-nonzero}
-use Rattle.integers.specs.Matrix.{Matrix, identity}
+use Rattle.integers.specs.Matrix.{Matrix, identity, symmetric-ordered}
 use Rattle.integers.specs.Inverse.{Inverse, WholeInverse, numerators, denominator, inverse-exists, unit-inverse-exists, inverse-symmetric}
 use Rattle.takahashi.specs.Entries.{Ascend, ascend-rows}
 use Rattle.takahashi.specs.Recurrence.{Entry, run, dot, at, Lower, RecurrenceClosed, table, Solves, table-solves, solves-part}
@@ -62,16 +60,7 @@ module _ (s n : ℕ) (diag : ℕ → ℤ) (desc : ℕ → List (Entry ℤ)) (non
 
     -- so its indices may be put in order
     pub multiples-ordered : (row col : ℕ) → max row col < n → P (max row col) (min row col) ≡ P row col
-    multiples-ordered row col h = elim (decLe col row) [
-      | yes l ↦
-          let a : max row col ≡ row = omega arith in
-          let b : min row col ≡ col = omega arith in
-          ap₂ P a b
-      | no l ↦
-          let a : max row col ≡ col = omega arith in
-          let b : min row col ≡ row = omega arith in
-          ap₂ P a b ∙ multiples-symmetric col row (omega arith) (omega arith)
-    ]
+    multiples-ordered = symmetric-ordered n P multiples-symmetric
 
   -- where the exact recurrence keeps to multiples of 2 ^ -s by at most 2 ^ 53 over the set, f64's entries are its own, z / 2 ^ s, and these are the inverse's
   pub dyadic : s ≤ low binary64 → (In : ℕ → ℕ → Type 0) → RecurrenceClosed n desc In → (z : Matrix) → Recurs (pos (2 ^ s)) diag desc In z → Bounded s diag desc In z

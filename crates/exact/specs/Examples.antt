@@ -95,7 +95,7 @@ columns₂ G a b zero h = a
 columns₂ G a b (suc zero) h = b
 columns₂ G a b (suc (suc j)) h = absurd (omega arith)
 
-pairs₂ : (G : ℕ → ℕ → Type 0) → G 0 0 → G 1 0 → G 1 1 → (i j : ℕ) → Lower 2 i j → G i j
+pub pairs₂ : (G : ℕ → ℕ → Type 0) → G 0 0 → G 1 0 → G 1 1 → (i j : ℕ) → Lower 2 i j → G i j
 pairs₂ G a b c zero zero p = a
 pairs₂ G a b c zero (suc j) p = absurd (omega arith)
 pairs₂ G a b c (suc zero) zero p = b

@@ -15,23 +15,22 @@ use Rattle.lists.specs.Test.{or-neither-right}
 use Rattle.refusal.specs.Steps.{Step, refused, answered, Passed}
 use Rattle.columns.specs.Kept.{f0, nonzero, entry, diag, desc}
 use Rattle.columns.specs.Diagonal.{Diagonals}
-use Rattle.columns.specs.Form.{Form, cholesky, divisor, Divisors}
+use Rattle.columns.specs.Form.{cholesky, Divisors}
 use Rattle.closed_set.specs.ClosedSet.{needed-range}
 use Rattle.integers.specs.Matrix.{Matrix}
 use Rattle.integers.specs.Inverse.{Inverse}
 use Rattle.takahashi.specs.Entries.{Entry, Ascend}
-use Rattle.takahashi.specs.Recurrence.{at, RecurrenceClosed, Solves}
+use Rattle.takahashi.specs.Recurrence.{at, RecurrenceClosed}
 use Rattle.exact.specs.Multiple.{Multiple, multiple-zero, multiple-eq}
-use Rattle.exact.specs.Exact.{floats, float-off, float-on, Alike, Recurs, Bounded}
+use Rattle.exact.specs.Exact.{Alike, Recurs, Bounded}
 use Rattle.exact.specs.Factor.{factor}
 use Rattle.exact.specs.ExactCase.{has-inverse, multiples-ordered, dyadic}
-use Rattle.entries.specs.Entries.{belowStep, diagonalStep}
 use Rattle.diagnostics.specs.declared.SelectedInverseStatus.the-variants.{Complete}
 use Rattle.selection.specs.Selection.{Selection, selectedPattern, fillingOf, Lent, roomOf, Accepted, selectedSize, selectedAnswer, selectedTable, ResultLists}
 use Rattle.selection.specs.Call.{Call, selectionOf, selectedSteps, accepted}
 use Rattle.entries.specs.Descendants.{desc-ascend}
 use Rattle.exact_entries.specs.Columns.{places-descend, alike-ascend, alike-each, needed-closed}
-use Rattle.exact_entries.specs.Recurrence.{InClosedSet, found, selected-pattern, table-recurs, reads-recurrence}
+use Rattle.exact_entries.specs.Recurrence.{InClosedSet, found, selected-pattern, table-recurs-as, reads-recurrence}
 
 module _ (x : Selection) where
   -- for one s from 0 to 53: the factor is L of L * Lᵀ and its kept entries are whole multiples of 2 ^ -s, `d` the multipliers of its diagonals and `l` those of
@@ -55,7 +54,7 @@ module _ (x : Selection) where
         → found x left row col ≡ refused 8
 
 -- a multiple of 2 ^ -s that is not at most 0.0 has a multiplier other than 0
-multiplier-nonzero : (s : ℕ) (v : Float) (m : ℤ) → Multiple s v m → le v f0 ≡ false → m ≢ pos 0
+pub multiplier-nonzero : (s : ℕ) (v : Float) (m : ℤ) → Multiple s v m → le v f0 ≡ false → m ≢ pos 0
 unfolding le ofBits
 multiplier-nonzero s v m p e q =
     subst T (or-neither-right (lt v f0) (eq v f0) e) (multiple-eq s v f0 (pos 0) (subst (Multiple s v) q p) (multiple-zero s))
@@ -88,15 +87,6 @@ module _ (x : Selection) (lent : Lent) (A : Accepted x (roomOf lent)) (s : ℕ) 
   nonzero-diagonal j jn =
       multiplier-nonzero s (diag (x .factor .starts) (x .factor .rows) (x .factor .values) j) (d j) (E .diagonals j jn) (kept .positive j jn)
 
-  solves : Solves floats float-off float-on (diag (x .factor .starts) (x .factor .rows) (x .factor .values))
-      (desc (x .factor .starts) (x .factor .rows) (x .factor .values)) (InClosedSet x) (selectedTable x)
-  solves =
-      subst
-      (λ (f : Form).
-      Solves floats (belowStep f) (diagonalStep f) (divisor (x .factor .n) (x .factor .starts) (x .factor .rows) (x .factor .values) f)
-      (desc (x .factor .starts) (x .factor .rows) (x .factor .values)) (InClosedSet x) (selectedTable x))
-      (E .form-is) (table-recurs x lent A)
-
   -- L * Lᵀ has an inverse P / Q
   pub dyadic-inverse : (P : Matrix) × (Q : ℕ) × Inverse (x .factor .n) (pos (2 ^ s)) (factor d l) P Q
   dyadic-inverse = has-inverse s (x .factor .n) d l nonzero-diagonal ascend
@@ -107,7 +97,7 @@ module _ (x : Selection) (lent : Lent) (A : Accepted x (roomOf lent)) (s : ℕ) 
     dyadic-at =
         dyadic s (x .factor .n) d l nonzero-diagonal ascend (le-trans (E .scale) (lit≤ tt)) (InClosedSet x) (multipliers-closed x lent A s l (E .entries)) z
         (E .recurs) (E .bounded) (diag (x .factor .starts) (x .factor .rows) (x .factor .values)) (desc (x .factor .starts) (x .factor .rows) (x .factor .values))
-        (E .diagonals) (E .entries) (selectedTable x) solves P Q is
+        (E .diagonals) (E .entries) (selectedTable x) (table-recurs-as x lent A (E .form-is)) P Q is
 
     -- read at either order of the indices
     pub dyadic-either : (row col : ℕ) → InClosedSet x (max row col) (min row col)

@@ -1,14 +1,14 @@
--- The exact case, from a call's inputs to what a lookup returns: whole numbers with diagonals of 1, which of L * Lᵀ are the multiples of 2 ^ -s with s = 0.
+-- The exact case, from a call's inputs to what a lookup returns: whole numbers with diagonals of 1, or pivots of 1, which are the
+-- multiples of 2 ^ -s with s = 0.
 -- Assumes nothing.
 use Prim.Native.Nat.{ℕ, suc, _≤_, _<_, max, min}
 use mathlib.Core.Path.{_≡_, refl, sym, subst, _∙_}
 use mathlib.Core.Logic.{_↔_}
 use mathlib.Core.List.{List}
 use lib.Dec.{lit≤}
-use lib.IntN.{ℤ, pos}
+use lib.IntN.{ℤ, pos, _*ℤ_}
 use lib.Ieee.{Float}
 use Rattle.refusal.specs.Steps.{Step, refused, answered, Passed}
-use Rattle.columns.specs.Columns.{value}
 use Rattle.columns.specs.Kept.{desc}
 use Rattle.columns.specs.Form.{Form, cholesky, pivoted, divisor}
 use Rattle.closed_set.specs.ClosedSet.{needed-range}
@@ -16,18 +16,18 @@ use Rattle.integers.specs.Integer.{*ℤ-idl, *ℤ-idr}
 use Rattle.integers.specs.Matrix.{Matrix}
 use Rattle.integers.specs.Inverse.{WholeInverse}
 use Rattle.takahashi.specs.Entries.{Entry, Ascend}
-use Rattle.takahashi.specs.Recurrence.{at, RecurrenceClosed, Solves}
+use Rattle.takahashi.specs.Recurrence.{at, RecurrenceClosed}
 use Rattle.exact.specs.Multiple.{Whole}
-use Rattle.exact.specs.Exact.{floats, Alike}
+use Rattle.exact.specs.Exact.{Alike}
 use Rattle.exact.specs.Factor.{factor}
 use Rattle.exact.specs.ExactCase.{ones, unit-table, WithinBound, whole-inverse, unit-recurs, unit-bounded, unit-has-inverse, unit-symmetric, unit-ordered}
-use Rattle.exact.specs.PivotCase.{pivot-case}
-use Rattle.entries.specs.Entries.{belowStep, diagonalStep}
+use Rattle.exact.specs.PivotMultiples.{unit-pivot-recurs, unit-pivot-bounded, whole-pivot-inverse}
 use Rattle.diagnostics.specs.declared.SelectedInverseStatus.the-variants.{Complete}
 use Rattle.selection.specs.Selection.{Selection, selectedPattern, fillingOf, Lent, roomOf, Accepted, selectedSize, selectedAnswer, selectedTable, ResultLists}
 use Rattle.selection.specs.Call.{Call, selectionOf, selectedSteps, accepted}
-use Rattle.exact_entries.specs.Recurrence.{InClosedSet, found, selected-pattern, table-recurs, reads-recurrence}
+use Rattle.exact_entries.specs.Recurrence.{InClosedSet, found, selected-pattern, reads-recurrence}
 use Rattle.exact_entries.specs.DyadicEntries.{DyadicCall, multipliers-ascend, multipliers-closed, dyadic-at}
+use Rattle.exact_entries.specs.PivotEntries.{DyadicPivots, pivots-at}
 
 module _ (x : Selection) where
   -- every kept diagonal of L is 1, or, where pivots are given, every pivot is; the other kept entries are the whole numbers `whole`; and no product, sum or
@@ -73,24 +73,34 @@ module _ (x : Selection) (lent : Lent) (A : Accepted x (roomOf lent)) (whole : �
     bounded = unit-bounded (x .factor .n) whole (InClosedSet x) (E .within);
   }
 
+  -- and so they are with pivots of 1
+  pub exact-pivots : {pivots : List Float} → x .form ≡ pivoted pivots → DyadicPivots x pivots 0 ones whole z
+  exact-pivots e = record {
+    form-is = e;
+    scale = lit≤ tt;
+    pivots-are = ones-of e;
+    entries = E .entries;
+    recurs = unit-pivot-recurs (x .factor .n) whole ascend (InClosedSet x) closed;
+    bounded = unit-pivot-bounded (x .factor .n) whole (InClosedSet x) (E .within);
+  }
+
   -- L * Lᵀ has an inverse in whole numbers
   pub exact-inverse : (X : Matrix) × WholeInverse (x .factor .n) (factor ones whole) X
   exact-inverse = unit-has-inverse (x .factor .n) whole ascend
 
   module _ (X : Matrix) (is : WholeInverse (x .factor .n) (factor ones whole) X) where
+    -- the multiplier of an entry is X's
+    same : (v : Float) (m k : ℤ) → Whole v m × (m *ℤ pos 1 ≡ pos 1 *ℤ k) → Whole v k
+    same v m k both = subst (Whole v) (sym (*ℤ-idr m) ∙ both .1 ∙ *ℤ-idl k) (both .0)
+
     -- an entry of the set is X's, of L * Lᵀ and where pivots are given
     at-form : (f : Form) → x .form ≡ f → (i j : ℕ) → InClosedSet x i j → Whole (selectedTable x i j) (X i j)
     at-form cholesky e i j p =
-        let both = dyadic-at x lent A 0 ones whole z (exact-dyadic e) X 1 (whole-inverse (x .factor .n) (factor ones whole) X is) i j p in
-        subst (Whole (selectedTable x i j)) (sym (*ℤ-idr (z i j)) ∙ both .1 ∙ *ℤ-idl (X i j)) (both .0)
+        same (selectedTable x i j) (z i j) (X i j)
+        (dyadic-at x lent A 0 ones whole z (exact-dyadic e) X 1 (whole-inverse (x .factor .n) (factor ones whole) X is) i j p)
     at-form (pivoted pivots) e i j p =
-        pivot-case (x .factor .n) whole ascend (InClosedSet x) closed (E .within) X is (value pivots) (desc (x .factor .starts) (x .factor .rows) (x .factor .values))
-        (ones-of e) (E .entries) (selectedTable x)
-        (subst
-        (λ (f : Form).
-        Solves floats (belowStep f) (diagonalStep f) (divisor (x .factor .n) (x .factor .starts) (x .factor .rows) (x .factor .values) f)
-        (desc (x .factor .starts) (x .factor .rows) (x .factor .values)) (InClosedSet x) (selectedTable x))
-        e (table-recurs x lent A)) i j p
+        same (selectedTable x i j) (z i j) (X i j)
+        (pivots-at x lent A pivots 0 ones whole z (exact-pivots e) X 1 (whole-pivot-inverse (x .factor .n) (factor ones whole) X is) i j p)
 
     pub exact-at : (i j : ℕ) → InClosedSet x i j → Whole (selectedTable x i j) (X i j)
     exact-at = at-form (x .form) refl
