@@ -1,11 +1,12 @@
--- The exact case of covariances: for whole weights each row pair's value is the exact vᵀXu, and exchanging the operators gives the same.
+-- The exact case of covariances: for whole weights each row pair's value is the exact vᵀXu, and exchanging the operators gives the same. Beyond unit
+-- diagonals, what reads back.
 -- Assumes nothing.
-use Prim.Native.Nat.{ℕ, _+_, _-_, _<_}
+use Prim.Native.Nat.{ℕ, _+_, _-_, _^_, _<_}
 use native.Mathlib.Omega.{arith}
 use mathlib.Core.Path.{_≡_, sym, ap, subst, _∙_}
 use mathlib.Core.List.{List}
 use lib.ListN.{length, getD}
-use lib.IntN.{ℤ}
+use lib.IntN.{ℤ, pos}
 use lib.Ieee.{Float, nan}
 use Rattle.lists.specs.Tabulate.{tabulate-at, tabulate-length}
 use Rattle.lists.specs.Overwrite.{overwrite-at}
@@ -14,7 +15,7 @@ use Rattle.refusal.specs.Told.{told-passed, told-answer}
 use Rattle.columns.specs.Columns.{start, value}
 use Rattle.columns.specs.Factor.{starts-end}
 use Rattle.integers.specs.Matrix.{Matrix}
-use Rattle.integers.specs.Inverse.{WholeInverse}
+use Rattle.integers.specs.Inverse.{Inverse, WholeInverse}
 use Rattle.takahashi.specs.Entries.{Entry}
 use Rattle.exact.specs.Multiple.{Whole}
 use Rattle.exact.specs.Factor.{factor}
@@ -25,6 +26,7 @@ use Rattle.diagnostics.specs.declared.SelectedInverseStatus.the-variants.{Compl
 use Rattle.diagnostics.specs.declared.Selected.{Selected}
 use Rattle.diagnostics.specs.Selected.{selectedReplyOf}
 use Rattle.selection.specs.Selection.{Selection, Lent, roomOf, selectedAnswer, selectedTable, ResultLists, fillingOf}
+use Rattle.exact_entries.specs.DyadicEntries.{DyadicCall, ReadsMultiples, dyadic-entries}
 use Rattle.exact_entries.specs.ExactEntries.{ExactCall, ReadsBack, exact-entries, exact-either, exact-symmetric}
 use Rattle.request_marks.specs.CrossRequests.{cross-requested}
 use Rattle.quadratic_form.specs.RowValue.{termColumn, rowPairValue, rowPairValues}
@@ -130,10 +132,19 @@ module _ (x : CovarianceCall) (lent : Lent) (output : List Float) (passed : Pass
       (termColumn (x .b .columns) (firstPlace (x .b) (bRow x p) + j))
       (O .first .inside (firstPlace (x .a) (aRow x p) + i) (omega arith)) (O .second .inside (firstPlace (x .b) (bRow x p) + j) (omega arith)))
 
+-- ---- beyond unit diagonals: what reads back of the row pairs' own requests
+module _ (x : CovarianceCall) (lent : Lent) (output : List Float) (passed : Passed (covarianceSteps x (roomOf lent) (length output)))
+    (s : ℕ) (d : ℕ → ℤ) (l : ℕ → List (Entry ℤ)) (z : Matrix) (E : DyadicCall (covarianceSelection x) s d l z) (P : Matrix) (Q : ℕ)
+    (is : Inverse (x .factor .n) (pos (2 ^ s)) (factor d l) P Q) where
+  pub covariance-dyadic : {left : Lent} → ResultLists (covarianceSteps x (roomOf lent) (length output)) (fillingOf (covarianceSelection x)) lent left
+      → ReadsMultiples (covarianceSelection x) left s z P Q
+  covariance-dyadic L =
+      dyadic-entries (covarianceSelection x) lent (covariance-accepted x (roomOf lent) (length output) passed .accepted) s d l z E P Q is
+      (covarianceSteps x (roomOf lent) (length output)) passed L
+
 -- ---- of a reply
 module _ (x : CovarianceCall) (lent : Lent) (output : List Float) {reply : Selected} {left : Lent} {out : List Float}
-    (C : Covariances x lent output reply left out) {d : SelectedInverseDiagnostics} (answer : selectedReplyOf reply ≡ answered d)
-    (whole : ℕ → List (Entry ℤ)) (E : ExactCall (covarianceSelection x) whole) (X : Matrix) (is : WholeInverse (x .factor .n) (factor ones whole) X) where
+    (C : Covariances x lent output reply left out) {d : SelectedInverseDiagnostics} (answer : selectedReplyOf reply ≡ answered d) where
   abbrev checks : List Step
   checks = covarianceSteps x (roomOf lent) (length output)
 
@@ -141,8 +152,18 @@ module _ (x : CovarianceCall) (lent : Lent) (output : List Float) {reply : Selec
   all = told-passed checks (selectedAnswer (covarianceSelection x)) (sym answer ∙ C .replies)
 
   -- demand 3, of the reply: d is the diagnosis, X is what reads back, and the output holds each row pair's vᵀXu
-  pub covariance-exact-reply : (d ≡ selectedAnswer (covarianceSelection x)) × CovariancesExact x left out X
-  covariance-exact-reply = (
+  pub covariance-exact-reply : (whole : ℕ → List (Entry ℤ)) → ExactCall (covarianceSelection x) whole
+      → (X : Matrix) → WholeInverse (x .factor .n) (factor ones whole) X → (d ≡ selectedAnswer (covarianceSelection x)) × CovariancesExact x left out X
+  covariance-exact-reply whole E X is = (
     told-answer checks (selectedAnswer (covarianceSelection x)) (sym answer ∙ C .replies),
     subst (λ (o : List Float). CovariancesExact x left o X) (sym (C .output-is)) (covariance-exact x lent output all whole E X is (C .lists-are)),
+  )
+
+  -- beyond unit diagonals, of the reply: d is the diagnosis, and P / Q is what reads back
+  pub covariance-dyadic-reply : (s : ℕ) (m : ℕ → ℤ) (l : ℕ → List (Entry ℤ)) (z : Matrix) → DyadicCall (covarianceSelection x) s m l z
+      → (P : Matrix) (Q : ℕ) → Inverse (x .factor .n) (pos (2 ^ s)) (factor m l) P Q
+      → (d ≡ selectedAnswer (covarianceSelection x)) × ReadsMultiples (covarianceSelection x) left s z P Q
+  covariance-dyadic-reply s m l z E P Q is = (
+    told-answer checks (selectedAnswer (covarianceSelection x)) (sym answer ∙ C .replies),
+    covariance-dyadic x lent output all s m l z E P Q is (C .lists-are),
   )

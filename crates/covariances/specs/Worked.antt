@@ -1,20 +1,22 @@
--- F2 of document 01, cell 0 with weight 3 and cell 1 with weight 2: their covariance 3 * 2 * -2 is the output -12, exactly, and so it is exchanged.
+-- F2 of document 01, cell 0 with weight 3 and cell 1 with weight 2: their covariance 3 * 2 * -2 is the output -12, exactly, and so it is exchanged. Of the
+-- factor with the rows 2 0 and 6 4 and the same operators, the inverse reads back in sixteenths.
 -- Assumes nothing.
 use Prim.Native.Nat.{ℕ, zero, suc, _+_, _<_}
 use native.Mathlib.Omega.{arith}
 use mathlib.Core.Path.{_≡_, refl, sym}
+use mathlib.Core.Bool.{true, false}
 use mathlib.Core.List.{List, [], _∷_}
 use lib.Dec.{lit<, lit≤}
 use lib.ListN.{getD}
-use lib.IntN.{pos, negsuc}
-use lib.Ieee.{Float, nan, ofBits, ofInt, ne, le, add, sub, mul, div, neg}
+use lib.IntN.{pos, negsuc, _*ℤ_}
+use lib.Ieee.{Float, fin, nan, ofBits, ofInt, ne, le, add, sub, mul, div, neg}
 use Rattle.lists.specs.Test.{any, anyIn}
 use Rattle.lists.specs.Select.{select, picked}
 use Rattle.lists.specs.Sum.{sumTo}
 use Rattle.lists.specs.Cells.{cells, cellCount}
 use Rattle.lists.specs.Tabulate.{tabulate}
 use Rattle.lists.specs.Overwrite.{overwrite, filled}
-use Rattle.refusal.specs.Steps.{Reply, refused, first, after, verdict, Passed}
+use Rattle.refusal.specs.Steps.{Reply, refused, answered, first, after, verdict, Passed}
 use Rattle.bits.specs.Bits.{bitWords}
 use Rattle.pairs.specs.Pair.{pairTotal}
 use Rattle.pairs.specs.Scratch.{scratchWords}
@@ -25,23 +27,26 @@ use Rattle.columns.specs.Kept.{factorPairs}
 use Rattle.columns.specs.Form.{cholesky}
 use Rattle.columns.specs.Operator.{operatorSteps}
 use Rattle.columns.specs.Examples.{whole, F2-starts, F2-rows, F2-values}
-use Rattle.exact.specs.Multiple.{Whole}
-use Rattle.exact.specs.Examples.{F2-entries, F2-matrix, F2-inverse}
-use Rattle.closed_set.specs.ClosedSet.{reach, member}
+use Rattle.exact.specs.Multiple.{Multiple, Whole}
+use Rattle.exact.specs.Examples.{F2-entries, F2-matrix, F2-inverse, sixteenths-diag, sixteenths, sixteenths-z, sixteenths-matrix, sixteenths-inverse}
+use Rattle.closed_set.specs.ClosedSet.{reach, member, request}
 use Rattle.entries.specs.Entries.{floatTable}
 use Rattle.diagnostics.specs.Diagnosis.{diagnosis}
 use Rattle.diagnostics.specs.declared.SelectedInverseStatus.the-variants.{Complete}
 use Rattle.diagnostics.specs.declared.Selected.the-variants.{Answered}
 use Rattle.selection.specs.Diagnosis.{diagnosisOf}
 use Rattle.selection.specs.Selection.{roomOf, roomSteps, selectedAnswer, lists-passed, fillingOf, Lent, lists}
+use Rattle.exact_entries.specs.Recurrence.{found}
+use Rattle.exact_entries.specs.DyadicEntries.{DyadicCall, ReadsMultiples}
 use Rattle.exact_entries.specs.ExactEntries.{ExactCall}
 use Rattle.exact_entries.specs.Worked.{F2-diagonals, F2-exact, F2-lent, F2-cleared}
+use Rattle.exact_entries.specs.DyadicWorked.{sixteenths-values, sixteenths-dyadic, sixteenth}
 use Rattle.request_marks.specs.CrossRequests.{crossRequested}
 use Rattle.quadratic_form.specs.CrossValue.{addTerms, addPlaces}
 use Rattle.quadratic_form.specs.RowValue.{termColumn, rowPairValues}
 use Rattle.quadratic_form.specs.ExactCross.{RowsWithin}
 use Rattle.covariances.specs.Covariances.{operator, CovarianceCall, covarianceCall, covarianceSelection, covarianceSteps, Covariances, covariance-accepted}
-use Rattle.covariances.specs.ExactCovariances.{exchanged, exactCovariance, ExactPair, CovariancesExact, covariance-exchanged, covariance-exact-reply}
+use Rattle.covariances.specs.ExactCovariances.{exchanged, exactCovariance, ExactPair, CovariancesExact, covariance-exchanged, covariance-exact-reply, covariance-dyadic-reply}
 
 abbrev F2-pair : CovarianceCall
 F2-pair =
@@ -126,3 +131,44 @@ F2-pair-covariance = F2-pair-covariances .covariances F2-pair-complete 0 (lit< t
 -- `covariance-exchanged`
 F2-pair-exchanged : exactCovariance (exchanged F2-pair) (λ p. pos 2) (λ p. pos 3) F2-matrix 0 ≡ negsuc 11
 F2-pair-exchanged = sym (covariance-exchanged F2-pair F2-lent (whole 9 ∷ []) F2-pair-passed F2-entries F2-pair-call F2-matrix F2-inverse (λ p. pos 3) (λ p. pos 2) 0 (lit< tt))
+
+-- ---- the factor with the rows 2 0 and 6 4 and the same operators: 3 * 2 * -3 / 16 is -9 / 8
+abbrev pair : CovarianceCall
+pair = covarianceCall 2 F2-starts F2-rows sixteenths-values (F2-pair .a) (F2-pair .b) (0 ∷ []) (0 ∷ [])
+
+pair-passed : Passed (covarianceSteps pair (roomOf F2-lent) 1)
+unfolding any anyIn ofInt ofBits ne le first pairTotal bitWords scratchWords boundSteps brokenSteps startsSteps rowsSteps columnSteps finiteSteps storedSteps operatorSteps
+    diagonalSteps roomSteps covarianceSteps
+pair-passed = refl
+
+pair-dyadic : DyadicCall (covarianceSelection pair) 4 sixteenths-diag sixteenths sixteenths-z
+pair-dyadic =
+    sixteenths-dyadic (crossRequested (0 ∷ 1 ∷ []) (0 ∷ []) (0 ∷ 1 ∷ []) (1 ∷ []) (0 ∷ []) (0 ∷ [])) 30 (roomOf F2-lent)
+    (covariance-accepted pair (roomOf F2-lent) 1 pair-passed .accepted)
+
+-- the lists that it leaves
+abbrev pair-sixteenths : Lent
+pair-sixteenths = lists (0 ∷ 1 ∷ 2 ∷ []) (1 ∷ 1 ∷ 9 ∷ []) (sixteenth true 3 ∷ sixteenth false 1 ∷ whole 9 ∷ []) F2-cleared
+
+pair-left : Covariances pair F2-lent (whole 9 ∷ []) (Answered (diagnosis 1 2 3 30 Complete)) pair-sixteenths (fin true 9 (negsuc 2) ∷ [])
+unfolding any anyIn sumTo picked select cells cellCount tabulate filled overwrite ofInt ofBits ne le add sub mul div neg first after pairTotal bitWords scratchWords
+    boundSteps brokenSteps startsSteps rowsSteps columnSteps finiteSteps storedSteps operatorSteps diagonalSteps roomSteps covarianceSteps
+    reach member factorPairs diagnosisOf crossRequested rowPairValues addTerms addPlaces floatTable
+pair-left = record {
+  replies = refl;
+  lists-are = lists-passed (covarianceSteps pair (roomOf F2-lent) 1) (fillingOf (covarianceSelection pair)) F2-lent pair-passed refl refl refl refl;
+  output-is = refl;
+}
+
+-- `covariance-dyadic-reply`: the inverse over 16 is what reads back, so at (1, 0), which the row pair asks for, a number equal to -3 / 16
+pair-reads : ReadsMultiples (covarianceSelection pair) pair-sixteenths 4 sixteenths-z sixteenths-matrix 16
+pair-reads =
+    covariance-dyadic-reply pair F2-lent (whole 9 ∷ []) pair-left refl 4 sixteenths-diag sixteenths sixteenths-z pair-dyadic sixteenths-matrix 16 sixteenths-inverse .1
+
+pair-complete : selectedAnswer (covarianceSelection pair) .status ≡ Complete
+unfolding any anyIn sumTo picked select cellCount ofInt ofBits ne reach member crossRequested
+pair-complete = pair-reads .complete .1 (lit≤ tt)
+
+pair-reads-below : (v : Float) × (found (covarianceSelection pair) pair-sixteenths 1 0 ≡ answered v) × Multiple 4 v (negsuc 2) × (negsuc 2 *ℤ pos 16 ≡ pos 16 *ℤ negsuc 2)
+unfolding any anyIn crossRequested
+pair-reads-below = pair-reads .members pair-complete 1 0 (request refl)

@@ -1,21 +1,19 @@
 -- The exact case: f64's recurrence gives the inverse's own entries over a closed set of pairs where every exact step stays within 2 ^ 53. Assumes nothing.
 -- A factor L is given by its diagonal and, for each column, the list of its entries below the diagonal with ascending rows; `factor` is its matrix.
-use mathlib.Core.Path.{_≡_, refl, sym, _∙_, ap, ap₂, subst}
+use mathlib.Core.Path.{_≡_, refl, sym, _∙_, ap}
 use mathlib.Core.Logic.{_≢_}
 use mathlib.Core.List.{List, [], _∷_}
 use Prim.Native.Nat.{ℕ, suc, _^_, _≤_, _<_, max, min}
-use native.Mathlib.Omega.{arith}
 use native.Mathlib.Nat.{zero-lt-suc, le-refl}
-use native.Mathlib.Decide.{decLe}
 use lib.Dec.{lit≤}
 use lib.IntN.{ℤ, pos, negℤ, _+ℤ_, _-ℤ_, _*ℤ_}
 use lib.Ieee.{Float, binary64, low}
 use Rattle.integers.specs.Integer.{*ℤ-idl, *ℤ-idr, pos-nonzero}
-use Rattle.integers.specs.Matrix.{Matrix, identity}
+use Rattle.integers.specs.Matrix.{Matrix, identity, symmetric-ordered}
 use Rattle.integers.specs.Inverse.{Inverse, WholeInverse, numerators, denominator, inverse-exists, unit-inverse-exists, inverse-symmetric}
 use Rattle.takahashi.specs.Entries.{Ascend, ascend-rows}
 use Rattle.takahashi.specs.Recurrence.{Entry, run, dot, at, Lower, RecurrenceClosed, table, Solves, table-solves, solves-part}
-use Rattle.exact.specs.Multiple.{Multiple, Whole, Small, unit-nonzero}
+use Rattle.exact.specs.Multiple.{Multiple, Small, unit-nonzero}
 use Rattle.exact.specs.Exact.{integers, floats, float-off, float-on, Alike, Recurs, Products, RunningSums, Kept, Bounded, floats-exact}
 use Rattle.exact.specs.Factor.{factor, factor-diagonal, factor-triangular}
 use Rattle.exact.specs.SelectedInverse.{recurs-inverse}
@@ -54,6 +52,15 @@ module _ (s n : ℕ) (diag : ℕ → ℤ) (desc : ℕ → List (Entry ℤ)) (non
     denominator n (factor diag desc),
     inverse-exists n (pos (2 ^ s)) (factor diag desc) (factor-triangular n diag desc ascend nonzero),
   )
+
+  module _ (P : Matrix) (Q : ℕ) (inv : Inverse n (pos (2 ^ s)) (factor diag desc) P Q) where
+    -- P is symmetric
+    pub multiples-symmetric : (i j : ℕ) → i < n → j < n → P i j ≡ P j i
+    multiples-symmetric = inverse-symmetric n (pos (2 ^ s)) (unit-nonzero s) (factor diag desc) (factor-triangular n diag desc ascend nonzero) P Q inv
+
+    -- so its indices may be put in order
+    pub multiples-ordered : (row col : ℕ) → max row col < n → P (max row col) (min row col) ≡ P row col
+    multiples-ordered = symmetric-ordered n P multiples-symmetric
 
   -- where the exact recurrence keeps to multiples of 2 ^ -s by at most 2 ^ 53 over the set, f64's entries are its own, z / 2 ^ s, and these are the inverse's
   pub dyadic : s ≤ low binary64 → (In : ℕ → ℕ → Type 0) → RecurrenceClosed n desc In → (z : Matrix) → Recurs (pos (2 ^ s)) diag desc In z → Bounded s diag desc In z
@@ -143,34 +150,8 @@ module _ (n : ℕ) (desc : ℕ → List (Entry ℤ)) (ascend : (j : ℕ) → j <
 
     -- the inverse is symmetric
     pub unit-symmetric : (i j : ℕ) → i < n → j < n → X i j ≡ X j i
-    unit-symmetric =
-        inverse-symmetric n (pos 1) (pos-nonzero 1 (zero-lt-suc 0)) (factor ones desc) (factor-triangular n ones desc ascend nonzero) X 1 inverse
+    unit-symmetric = multiples-symmetric 0 n ones desc nonzero ascend X 1 inverse
 
     -- so its indices may be put in order
     pub unit-ordered : (row col : ℕ) → max row col < n → X (max row col) (min row col) ≡ X row col
-    unit-ordered row col h = elim (decLe col row) [
-      | yes l ↦
-          let a : max row col ≡ row = omega arith in
-          let b : min row col ≡ col = omega arith in
-          ap₂ X a b
-      | no l ↦
-          let a : max row col ≡ col = omega arith in
-          let b : min row col ≡ row = omega arith in
-          ap₂ X a b ∙ unit-symmetric col row (omega arith) (omega arith)
-    ]
-
-  -- where the exact recurrence stays within 2 ^ 53 over the set, f64's entries are the inverse's, and so are the exact recurrence's
-  pub exact-case : (In : ℕ → ℕ → Type 0) → RecurrenceClosed n desc In → WithinBound n desc In
-      → (X : Matrix) → WholeInverse n (factor ones desc) X
-      → (fdiag : ℕ → Float) (fdesc : ℕ → List (Entry Float)) → ((j : ℕ) → j < n → Whole (fdiag j) (pos 1)) → ((j : ℕ) → j < n → Alike 0 (fdesc j) (desc j))
-      → (Z : ℕ → ℕ → Float) → Solves floats float-off float-on fdiag fdesc In Z
-      → (i j : ℕ) → In i j → Whole (Z i j) (X i j) × (unit-table n desc i j ≡ X i j)
-  exact-case In closed within X is fdiag fdesc diagonal alike Z solves i j p = (subst (Whole (Z i j)) same near, same)
-    where
-      near : Whole (Z i j) (unit-table n desc i j)
-      near =
-          dyadic 0 n ones desc nonzero ascend (lit≤ tt) In closed (unit-table n desc) (unit-recurs In closed) (unit-bounded n desc In within)
-          fdiag fdesc diagonal alike Z solves X 1 (whole-inverse n (factor ones desc) X is) i j p .0
-
-      same : unit-table n desc i j ≡ X i j
-      same = unit-inverse X is In closed i j p
+    unit-ordered = multiples-ordered 0 n ones desc nonzero ascend X 1 inverse

@@ -1,5 +1,5 @@
 -- Factors of two and three columns worked through: what the theorems ask can be met. Assumes nothing.
--- F2 and F3 have ones on the diagonal: f64's recurrence, the exact one and the inverse are computed. `quarters` is in multiples of 1 / 4.
+-- F2 and F3 have ones on the diagonal: f64's recurrence, the exact one and the inverse are computed. `sixteenths` is in multiples of 1 / 16.
 -- The last factor's inverse has another fraction outside the set.
 use mathlib.Core.Path.{_≡_, refl, sym, subst}
 use mathlib.Core.Bool.{true, false}
@@ -18,7 +18,7 @@ use Rattle.takahashi.specs.Recurrence.{Entry, Rows, dot, at, Lower, RecurrenceC
 use Rattle.exact.specs.Multiple.{Multiple, Whole, Small, one-float}
 use Rattle.exact.specs.Exact.{integers, floats, float-off, float-on, Alike, Recurs, Products, RunningSums, Kept, Bounded}
 use Rattle.exact.specs.Factor.{factor}
-use Rattle.exact.specs.ExactCase.{ones, unit-table, WithinBound, dyadic, exact-case, unit-ordered}
+use Rattle.exact.specs.ExactCase.{ones, unit-table, WithinBound, dyadic, multiples-ordered, whole-inverse, unit-recurs, unit-bounded, unit-ordered}
 
 -- a list of one entry
 abbrev one : {W : Type 0} → ℕ → W → List (Entry W)
@@ -95,7 +95,7 @@ columns₂ G a b zero h = a
 columns₂ G a b (suc zero) h = b
 columns₂ G a b (suc (suc j)) h = absurd (omega arith)
 
-pairs₂ : (G : ℕ → ℕ → Type 0) → G 0 0 → G 1 0 → G 1 1 → (i j : ℕ) → Lower 2 i j → G i j
+pub pairs₂ : (G : ℕ → ℕ → Type 0) → G 0 0 → G 1 0 → G 1 1 → (i j : ℕ) → Lower 2 i j → G i j
 pairs₂ G a b c zero zero p = a
 pairs₂ G a b c zero (suc j) p = absurd (omega arith)
 pairs₂ G a b c (suc zero) zero p = b
@@ -103,7 +103,7 @@ pairs₂ G a b c (suc zero) (suc zero) p = c
 pairs₂ G a b c (suc zero) (suc (suc j)) p = absurd (omega arith)
 pairs₂ G a b c (suc (suc i)) j p = absurd (omega arith)
 
--- ---- `exact-case` at F2, over all its pairs
+-- ---- `dyadic` at F2, s = 0, over all its pairs
 pub F2-closed : RecurrenceClosed 2 F2-entries (Lower 2)
 F2-closed = lower-closed 2 F2-entries (columns₂ (λ j. Rows 2 j (F2-entries j)) (lit< tt, lit< tt, tt) tt)
 
@@ -132,86 +132,127 @@ inverts i j = product 2 (product 2 (factor ones F2-entries) (transpose (factor o
 pub F2-inverse : WholeInverse 2 (factor ones F2-entries) F2-matrix
 F2-inverse i j h l = columns₂ (λ i. (j : ℕ) → j < 2 → inverts i j) (columns₂ (inverts 0) refl refl) (columns₂ (inverts 1) refl refl) i h j l
 
-F2-case : (i j : ℕ) → Lower 2 i j → Whole (float-table 2 F2-floats i j) (F2-matrix i j) × (unit-table 2 F2-entries i j ≡ F2-matrix i j)
+abbrev F2-ascend : (j : ℕ) → j < 2 → Ascend 2 (suc j) (F2-entries j)
+F2-ascend = columns₂ (λ j. Ascend 2 (suc j) (F2-entries j)) (lit≤ tt, lit< tt, tt) tt
+
+F2-case : (i j : ℕ) → Lower 2 i j
+    → Whole (float-table 2 F2-floats i j) (unit-table 2 F2-entries i j) × (unit-table 2 F2-entries i j *ℤ pos 1 ≡ pos 1 *ℤ F2-matrix i j)
 F2-case =
-    exact-case 2 F2-entries (columns₂ (λ j. Ascend 2 (suc j) (F2-entries j)) (lit≤ tt, lit< tt, tt) tt) (Lower 2) F2-closed F2-within F2-matrix F2-inverse
+    dyadic 0 2 ones F2-entries (λ j h. pos-nonzero 1 (lit< tt)) F2-ascend (lit≤ tt) (Lower 2) F2-closed (unit-table 2 F2-entries)
+    (unit-recurs 2 F2-entries F2-ascend (Lower 2) F2-closed) (unit-bounded 2 F2-entries (Lower 2) F2-within)
     (λ j. one-float) F2-floats (λ j h. refl) (columns₂ (λ j. Alike 0 (F2-floats j) (F2-entries j)) (refl, refl, tt) tt) (float-table 2 F2-floats)
     (table-solves floats float-off float-on 2 (λ j. one-float) F2-floats (columns₂ (λ j. Rows 2 j (F2-floats j)) (lit< tt, lit< tt, tt) tt))
+    F2-matrix 1 (whole-inverse 2 (factor ones F2-entries) F2-matrix F2-inverse)
 
--- ---- `dyadic` in quarters, s = 2: the factor with the rows 2 0 and 1 1, over all its pairs
+-- ---- `dyadic` in sixteenths, s = 4: the factor with the rows 2 0 and 6 4, over all its pairs
 -- the multipliers of its diagonal
-abbrev quarters-diag : ℕ → ℤ
-quarters-diag zero = pos 8
-quarters-diag (suc j) = pos 4
+abbrev pub sixteenths-diag : ℕ → ℤ
+sixteenths-diag zero = pos 32
+sixteenths-diag (suc j) = pos 64
 
 -- of its entry below the diagonal
-abbrev quarters : ℕ → List (Entry ℤ)
-quarters zero = one 1 (pos 4)
-quarters (suc j) = []
+abbrev pub sixteenths : ℕ → List (Entry ℤ)
+sixteenths zero = one 1 (pos 96)
+sixteenths (suc j) = []
 
 -- its diagonal in floats
-abbrev quarters-float-diag : ℕ → Float
-quarters-float-diag zero = fin false 1 (pos 1)
-quarters-float-diag (suc j) = one-float
+abbrev sixteenths-float-diag : ℕ → Float
+sixteenths-float-diag zero = fin false 1 (pos 1)
+sixteenths-float-diag (suc j) = fin false 1 (pos 2)
 
 -- its entry in floats
-abbrev quarters-floats : ℕ → List (Entry Float)
-quarters-floats zero = one 1 one-float
-quarters-floats (suc j) = []
+abbrev sixteenths-floats : ℕ → List (Entry Float)
+sixteenths-floats zero = one 1 (fin false 3 (pos 1))
+sixteenths-floats (suc j) = []
 
--- the entries' multipliers: the entries are 1 / 2, -1 / 2 and 1
-abbrev quarters-z : Matrix
-quarters-z zero j = pos 2
-quarters-z (suc i) zero = negsuc 1
-quarters-z (suc i) (suc j) = pos 4
+-- the entries' multipliers: the entries are 13 / 16, -3 / 16 and 1 / 16
+abbrev pub sixteenths-z : Matrix
+sixteenths-z zero j = pos 13
+sixteenths-z (suc i) zero = negsuc 2
+sixteenths-z (suc i) (suc j) = pos 1
 
 -- f64's table
-abbrev quarters-float-table : ℕ → ℕ → Float
-quarters-float-table = table floats float-off float-on 2 quarters-float-diag quarters-floats
+abbrev sixteenths-float-table : ℕ → ℕ → Float
+sixteenths-float-table = table floats float-off float-on 2 sixteenths-float-diag sixteenths-floats
 
-quarters-table : triangle₂ quarters-float-table ≡ fin false 1 (negsuc 0) ∷ fin true 1 (negsuc 0) ∷ fin false 1 (pos 0) ∷ []
+sixteenths-table : triangle₂ sixteenths-float-table ≡ fin false 13 (negsuc 3) ∷ fin true 3 (negsuc 3) ∷ fin false 1 (negsuc 3) ∷ []
 unfolding add sub mul div neg
-quarters-table = refl
+sixteenths-table = refl
 
-quarters-recurs : Recurs (pos 4) quarters-diag quarters (Lower 2) quarters-z
-quarters-recurs = record {
+pub sixteenths-recurs : Recurs (pos 16) sixteenths-diag sixteenths (Lower 2) sixteenths-z
+sixteenths-recurs = record {
   below-is =
-      pairs₂ (λ i j. j < i → quarters-z i j *ℤ quarters-diag j ≡ negℤ (dot integers (λ k. at quarters-z i k) (quarters j)))
+      pairs₂ (λ i j. j < i → sixteenths-z i j *ℤ sixteenths-diag j ≡ negℤ (dot integers (λ k. at sixteenths-z i k) (sixteenths j)))
       (λ h. absurd (lt-irrefl 0 h)) (λ h. refl) (λ h. absurd (lt-irrefl 1 h));
   diagonal-is = λ j p.
       columns₂
-      (λ j. quarters-z j j *ℤ (quarters-diag j *ℤ quarters-diag j) ≡ pos 64 -ℤ dot integers (λ k. quarters-z k j) (quarters j) *ℤ quarters-diag j)
+      (λ j. sixteenths-z j j *ℤ (sixteenths-diag j *ℤ sixteenths-diag j) ≡ pos 4096 -ℤ dot integers (λ k. sixteenths-z k j) (sixteenths j) *ℤ sixteenths-diag j)
       refl refl j (p .1);
 }
 
-quarters-bounded : Bounded 2 quarters-diag quarters (Lower 2) quarters-z
-quarters-bounded = record {
-  entry = pairs₂ (λ i j. Small (quarters-z i j)) (lit≤ tt) (lit≤ tt) (lit≤ tt);
+-- the products and sums 6 / 16 and -18 / 16; d * d is 4 and 16, 1 / (d * d) is 4 / 16 and 1 / 16, and S / d is -9 / 16 and 0
+pub sixteenths-bounded : Bounded 4 sixteenths-diag sixteenths (Lower 2) sixteenths-z
+sixteenths-bounded = record {
+  entry = pairs₂ (λ i j. Small (sixteenths-z i j)) (lit≤ tt) (lit≤ tt) (lit≤ tt);
   product-below =
-      pairs₂ (λ i j. j < i → Products (Kept 2) (λ k. at quarters-z i k) (quarters j))
-      (λ h. absurd (lt-irrefl 0 h)) (λ h. ((pos 4, refl, lit≤ tt), tt)) (λ h. tt);
+      pairs₂ (λ i j. j < i → Products (Kept 4) (λ k. at sixteenths-z i k) (sixteenths j))
+      (λ h. absurd (lt-irrefl 0 h)) (λ h. ((pos 6, refl, lit≤ tt), tt)) (λ h. tt);
   sum-below =
-      pairs₂ (λ i j. j < i → RunningSums (Kept 2) (λ k. at quarters-z i k) (pos 0) (quarters j))
-      (λ h. absurd (lt-irrefl 0 h)) (λ h. ((pos 4, refl, lit≤ tt), tt)) (λ h. tt);
-  product-diagonal = λ j p. columns₂ (λ j. Products (Kept 2) (λ k. quarters-z k j) (quarters j)) ((negsuc 1, refl, lit≤ tt), tt) tt j (p .1);
-  sum-diagonal = λ j p. columns₂ (λ j. RunningSums (Kept 2) (λ k. quarters-z k j) (pos 0) (quarters j)) ((negsuc 1, refl, lit≤ tt), tt) tt j (p .1);
-  square = λ j p. columns₂ (λ j. Kept 2 (quarters-diag j *ℤ quarters-diag j)) (pos 16, refl, lit≤ tt) (pos 4, refl, lit≤ tt) j (p .1);
+      pairs₂ (λ i j. j < i → RunningSums (Kept 4) (λ k. at sixteenths-z i k) (pos 0) (sixteenths j))
+      (λ h. absurd (lt-irrefl 0 h)) (λ h. ((pos 6, refl, lit≤ tt), tt)) (λ h. tt);
+  product-diagonal = λ j p. columns₂ (λ j. Products (Kept 4) (λ k. sixteenths-z k j) (sixteenths j)) ((negsuc 17, refl, lit≤ tt), tt) tt j (p .1);
+  sum-diagonal = λ j p. columns₂ (λ j. RunningSums (Kept 4) (λ k. sixteenths-z k j) (pos 0) (sixteenths j)) ((negsuc 17, refl, lit≤ tt), tt) tt j (p .1);
+  square = λ j p. columns₂ (λ j. Kept 4 (sixteenths-diag j *ℤ sixteenths-diag j)) (pos 64, refl, lit≤ tt) (pos 256, refl, lit≤ tt) j (p .1);
   reciprocal = λ j p.
-      columns₂ (λ j. (r : ℤ) × (r *ℤ (quarters-diag j *ℤ quarters-diag j) ≡ pos 64) × Small r) (pos 1, refl, lit≤ tt) (pos 4, refl, lit≤ tt) j (p .1);
+      columns₂ (λ j. (r : ℤ) × (r *ℤ (sixteenths-diag j *ℤ sixteenths-diag j) ≡ pos 4096) × Small r) (pos 4, refl, lit≤ tt) (pos 1, refl, lit≤ tt) j (p .1);
   quotient = λ j p.
-      columns₂ (λ j. (t : ℤ) × (t *ℤ quarters-diag j ≡ dot integers (λ k. quarters-z k j) (quarters j)) × Small t)
-      (negsuc 0, refl, lit≤ tt) (pos 0, refl, lit≤ tt) j (p .1);
+      columns₂ (λ j. (t : ℤ) × (t *ℤ sixteenths-diag j ≡ dot integers (λ k. sixteenths-z k j) (sixteenths j)) × Small t)
+      (negsuc 8, refl, lit≤ tt) (pos 0, refl, lit≤ tt) j (p .1);
 }
 
-quarters-case : (P : Matrix) (Q : ℕ) → Inverse 2 (pos 4) (factor quarters-diag quarters) P Q → (i j : ℕ) → Lower 2 i j
-    → Multiple 2 (quarters-float-table i j) (quarters-z i j) × (quarters-z i j *ℤ pos Q ≡ pos 4 *ℤ P i j)
-quarters-case =
-    dyadic 2 2 quarters-diag quarters (columns₂ (λ j. quarters-diag j ≡ pos 0 → ⊥) (pos-nonzero 8 (lit< tt)) (pos-nonzero 4 (lit< tt)))
-    (columns₂ (λ j. Ascend 2 (suc j) (quarters j)) (lit≤ tt, lit< tt, tt) tt) (lit≤ tt) (Lower 2)
-    (lower-closed 2 quarters (columns₂ (λ j. Rows 2 j (quarters j)) (lit< tt, lit< tt, tt) tt)) quarters-z quarters-recurs quarters-bounded
-    quarters-float-diag quarters-floats (columns₂ (λ j. Multiple 2 (quarters-float-diag j) (quarters-diag j)) refl refl)
-    (columns₂ (λ j. Alike 2 (quarters-floats j) (quarters j)) (refl, refl, tt) tt) quarters-float-table
-    (table-solves floats float-off float-on 2 quarters-float-diag quarters-floats (columns₂ (λ j. Rows 2 j (quarters-floats j)) (lit< tt, lit< tt, tt) tt))
+sixteenths-nonzero : (j : ℕ) → j < 2 → sixteenths-diag j ≡ pos 0 → ⊥
+sixteenths-nonzero = columns₂ (λ j. sixteenths-diag j ≡ pos 0 → ⊥) (pos-nonzero 32 (lit< tt)) (pos-nonzero 64 (lit< tt))
+
+sixteenths-ascend : (j : ℕ) → j < 2 → Ascend 2 (suc j) (sixteenths j)
+sixteenths-ascend = columns₂ (λ j. Ascend 2 (suc j) (sixteenths j)) (lit≤ tt, lit< tt, tt) tt
+
+sixteenths-case : (P : Matrix) (Q : ℕ) → Inverse 2 (pos 16) (factor sixteenths-diag sixteenths) P Q → (i j : ℕ) → Lower 2 i j
+    → Multiple 4 (sixteenths-float-table i j) (sixteenths-z i j) × (sixteenths-z i j *ℤ pos Q ≡ pos 16 *ℤ P i j)
+sixteenths-case =
+    dyadic 4 2 sixteenths-diag sixteenths sixteenths-nonzero sixteenths-ascend (lit≤ tt) (Lower 2)
+    (lower-closed 2 sixteenths (columns₂ (λ j. Rows 2 j (sixteenths j)) (lit< tt, lit< tt, tt) tt)) sixteenths-z sixteenths-recurs sixteenths-bounded
+    sixteenths-float-diag sixteenths-floats (columns₂ (λ j. Multiple 4 (sixteenths-float-diag j) (sixteenths-diag j)) refl refl)
+    (columns₂ (λ j. Alike 4 (sixteenths-floats j) (sixteenths j)) (refl, refl, tt) tt) sixteenths-float-table
+    (table-solves floats float-off float-on 2 sixteenths-float-diag sixteenths-floats (columns₂ (λ j. Rows 2 j (sixteenths-floats j)) (lit< tt, lit< tt, tt) tt))
+
+-- an inverse of L * Lᵀ, which is 4 12 and 12 52: the whole numbers 13 -3 and -3 1 over 16
+abbrev pub sixteenths-matrix : Matrix
+sixteenths-matrix zero zero = pos 13
+sixteenths-matrix zero (suc j) = negsuc 2
+sixteenths-matrix (suc i) zero = negsuc 2
+sixteenths-matrix (suc i) (suc j) = pos 1
+
+abbrev sixteenths-inverts : ℕ → ℕ → Type 0
+sixteenths-inverts i j =
+    product 2 (product 2 (factor sixteenths-diag sixteenths) (transpose (factor sixteenths-diag sixteenths))) sixteenths-matrix i j ≡ pos 4096 *ℤ identity i j
+
+pub sixteenths-inverse : Inverse 2 (pos 16) (factor sixteenths-diag sixteenths) sixteenths-matrix 16
+sixteenths-inverse = record {
+  positive = lit< tt;
+  product-is = λ i j h l.
+      columns₂ (λ i. (j : ℕ) → j < 2 → sixteenths-inverts i j) (columns₂ (sixteenths-inverts 0) refl refl) (columns₂ (sixteenths-inverts 1) refl refl) i h j l;
+}
+
+-- the one that `has-inverse` gives: the same fractions over 4194304
+sixteenths-numerators : triangle₂ (numerators 2 (pos 16) (factor sixteenths-diag sixteenths)) ≡ pos 3407872 ∷ negsuc 786431 ∷ pos 262144 ∷ []
+sixteenths-numerators = refl
+
+sixteenths-denominator : denominator 2 (factor sixteenths-diag sixteenths) ≡ 4194304
+sixteenths-denominator = refl
+
+-- `multiples-ordered`: an inverse's entry at (0, 1) is that at (1, 0)
+sixteenths-ordered : (P : Matrix) (Q : ℕ) → Inverse 2 (pos 16) (factor sixteenths-diag sixteenths) P Q → P 1 0 ≡ P 0 1
+sixteenths-ordered P Q is = multiples-ordered 4 2 sixteenths-diag sixteenths sixteenths-nonzero sixteenths-ascend P Q is 0 1 (lit< tt)
 
 -- ---- outside the set: the factor with the rows 3 0 and 0 1, over the pair (1, 1) alone
 -- its diagonal
@@ -262,4 +303,4 @@ corner-outside = refl
 
 -- the inverse of F2 at (0, 1) is its entry at (1, 0)
 F2-ordered : (X : Matrix) → WholeInverse 2 (factor ones F2-entries) X → X 1 0 ≡ X 0 1
-F2-ordered X is = unit-ordered 2 F2-entries (columns₂ (λ j. Ascend 2 (suc j) (F2-entries j)) (lit≤ tt, lit< tt, tt) tt) X is 0 1 (lit< tt)
+F2-ordered X is = unit-ordered 2 F2-entries F2-ascend X is 0 1 (lit< tt)

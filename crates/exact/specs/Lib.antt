@@ -5,6 +5,7 @@ pub mod Factor
 pub mod SelectedInverse
 pub mod ExactCase
 pub mod PivotCase
+pub mod PivotMultiples
 pub mod Checked
 pub mod Exceeds
 pub mod Examples

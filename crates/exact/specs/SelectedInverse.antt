@@ -18,7 +18,7 @@ use Rattle.exact.specs.Exact.{integers, Recurs}
 use Rattle.exact.specs.Factor.{factor, factor-diagonal, factor-triangular, factor-sum}
 
 -- a sum of products scales with the entries
-run-scale : (c q : ℤ) (z p : ℕ → ℤ) (a b : ℤ) (es : List (Entry ℤ)) → Each (λ k. z k *ℤ q ≡ c *ℤ p k) es → a *ℤ q ≡ c *ℤ b
+pub run-scale : (c q : ℤ) (z p : ℕ → ℤ) (a b : ℤ) (es : List (Entry ℤ)) → Each (λ k. z k *ℤ q ≡ c *ℤ p k) es → a *ℤ q ≡ c *ℤ b
     → run integers z a es *ℤ q ≡ c *ℤ run integers p b es
 run-scale c q z p a b [] h ab = ab
 run-scale c q z p a b (e ∷ es) h ab =
@@ -30,7 +30,7 @@ run-scale c q z p a b (e ∷ es) h ab =
 
 -- one entry: S is the sum over z's entries, T that over P's, d the diagonal, z and p the two entries
 module _ (c q d S T z p : ℤ) (d0 : d ≢ pos 0) (scaled : S *ℤ q ≡ c *ℤ T) where
-  below-entry : T +ℤ d *ℤ p ≡ pos 0 → z *ℤ d ≡ negℤ S → z *ℤ q ≡ c *ℤ p
+  pub below-entry : T +ℤ d *ℤ p ≡ pos 0 → z *ℤ d ≡ negℤ S → z *ℤ q ≡ c *ℤ p
   below-entry h e =
       *ℤ-cancel-r (z *ℤ q) (c *ℤ p) d d0
       (*ℤ-right-comm z q d ∙ ap (λ (x : ℤ). x *ℤ q) e ∙ negℤ-*ℤ S q
@@ -59,15 +59,10 @@ module _ (c q d S T z p : ℤ) (d0 : d ≢ pos 0) (scaled : S *ℤ q ≡ c *ℤ 
       w₃ : (c d p : ℤ) → c *ℤ (d *ℤ (d *ℤ p)) ≡ c *ℤ p *ℤ (d *ℤ d)
       w₃ c d p = simp products
 
-module _ (n : ℕ) (c : ℤ) (c0 : c ≢ pos 0) (diag : ℕ → ℤ) (desc : ℕ → List (Entry ℤ)) (nonzero : (j : ℕ) → j < n → diag j ≢ pos 0)
-    (ascend : (j : ℕ) → j < n → Ascend n (suc j) (desc j)) (P : Matrix) (Q : ℕ) (inv : Inverse n c (factor diag desc) P Q) where
-  triangular : LowerTriangular n (factor diag desc)
-  triangular = factor-triangular n diag desc ascend nonzero
-
-  symmetric : (i j : ℕ) → i < n → j < n → P i j ≡ P j i
-  symmetric = inverse-symmetric n c c0 (factor diag desc) triangular P Q inv
-
-  at-is : (i k : ℕ) → i < n → k < n → at P i k ≡ P i k
+-- a symmetric P, and a factor's column
+module _ (n : ℕ) (diag : ℕ → ℤ) (desc : ℕ → List (Entry ℤ)) (ascend : (j : ℕ) → j < n → Ascend n (suc j) (desc j)) (P : Matrix)
+    (symmetric : (i j : ℕ) → i < n → j < n → P i j ≡ P j i) where
+  pub at-is : (i k : ℕ) → i < n → k < n → at P i k ≡ P i k
   at-is i k hi hk = elim (decLt i k) [
     | yes ik ↦ at-sym P i k ∙ at-lower P k i (le-of-lt ik) ∙ symmetric k i hk hi
     | no f ↦ at-lower P i k (other i k f)
@@ -77,18 +72,26 @@ module _ (n : ℕ) (c : ℤ) (c0 : c ≢ pos 0) (diag : ℕ → ℤ) (desc : ℕ
       other i k f = omega arith
 
   -- the sum over P's entries, with the diagonal's product
-  column : (i j : ℕ) (r : ℕ → ℤ) → j < n → ((k : ℕ) → k < n → r k ≡ P i k) → dot integers r (desc j) +ℤ diag j *ℤ P i j ≡ product n P (factor diag desc) i j
-  column i j r jn e =
+  pub column-product : (i j : ℕ) (r : ℕ → ℤ) → j < n → ((k : ℕ) → k < n → r k ≡ P i k) → dot integers r (desc j) +ℤ diag j *ℤ P i j ≡ product n P (factor diag desc) i j
+  column-product i j r jn e =
       ap (λ (x : ℤ). dot integers r (desc j) +ℤ diag j *ℤ x) (sym (e j jn)) ∙ factor-sum n diag desc ascend j r jn
       ∙ sum-cong n (λ k. r k *ℤ factor diag desc k j) (λ k. P i k *ℤ factor diag desc k j) (λ k kn. ap (λ (x : ℤ). x *ℤ factor diag desc k j) (e k kn))
 
+module _ (n : ℕ) (c : ℤ) (c0 : c ≢ pos 0) (diag : ℕ → ℤ) (desc : ℕ → List (Entry ℤ)) (nonzero : (j : ℕ) → j < n → diag j ≢ pos 0)
+    (ascend : (j : ℕ) → j < n → Ascend n (suc j) (desc j)) (P : Matrix) (Q : ℕ) (inv : Inverse n c (factor diag desc) P Q) where
+  triangular : LowerTriangular n (factor diag desc)
+  triangular = factor-triangular n diag desc ascend nonzero
+
+  symmetric : (i j : ℕ) → i < n → j < n → P i j ≡ P j i
+  symmetric = inverse-symmetric n c c0 (factor diag desc) triangular P Q inv
+
   below-zero : (i j : ℕ) → j < i → i < n → dot integers (λ k. at P i k) (desc j) +ℤ diag j *ℤ P i j ≡ pos 0
   below-zero i j ji hi =
-      column i j (λ k. at P i k) (lt-trans ji hi) (λ k kn. at-is i k hi kn) ∙ inverse-below n c c0 (factor diag desc) triangular P Q inv i j ji hi
+      column-product n diag desc ascend P symmetric i j (λ k. at P i k) (lt-trans ji hi) (λ k kn. at-is n diag desc ascend P symmetric i k hi kn) ∙ inverse-below n c c0 (factor diag desc) triangular P Q inv i j ji hi
 
   diagonal-square : (j : ℕ) → j < n → diag j *ℤ (dot integers (λ k. P k j) (desc j) +ℤ diag j *ℤ P j j) ≡ c *ℤ c *ℤ pos Q
   diagonal-square j jn =
-      ap₂ _*ℤ_ (sym (factor-diagonal n diag desc j)) (column j j (λ k. P k j) jn (λ k kn. symmetric k j kn jn))
+      ap₂ _*ℤ_ (sym (factor-diagonal n diag desc j)) (column-product n diag desc ascend P symmetric j j (λ k. P k j) jn (λ k kn. symmetric k j kn jn))
       ∙ inverse-diagonal n c c0 (factor diag desc) triangular P Q inv j jn
 
   scale : (r s : ℕ → ℤ) (j : ℕ) → Each (λ k. r k *ℤ pos Q ≡ c *ℤ s k) (desc j) → dot integers r (desc j) *ℤ pos Q ≡ c *ℤ dot integers s (desc j)

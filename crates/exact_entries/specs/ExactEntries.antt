@@ -1,31 +1,33 @@
--- The exact case, from a call's inputs to what a lookup returns.
+-- The exact case, from a call's inputs to what a lookup returns: whole numbers with diagonals of 1, or pivots of 1, which are the
+-- multiples of 2 ^ -s with s = 0.
 -- Assumes nothing.
 use Prim.Native.Nat.{ℕ, suc, _≤_, _<_, max, min}
-use mathlib.Core.Path.{_≡_, subst, refl}
+use mathlib.Core.Path.{_≡_, refl, sym, subst, _∙_}
 use mathlib.Core.Logic.{_↔_}
 use mathlib.Core.List.{List}
-use lib.IntN.{ℤ, pos}
+use lib.Dec.{lit≤}
+use lib.IntN.{ℤ, pos, _*ℤ_}
 use lib.Ieee.{Float}
 use Rattle.refusal.specs.Steps.{Step, refused, answered, Passed}
-use Rattle.columns.specs.Kept.{nonzero, entry, desc}
+use Rattle.columns.specs.Kept.{desc}
 use Rattle.columns.specs.Form.{Form, cholesky, pivoted, divisor}
 use Rattle.closed_set.specs.ClosedSet.{needed-range}
+use Rattle.integers.specs.Integer.{*ℤ-idl, *ℤ-idr}
 use Rattle.integers.specs.Matrix.{Matrix}
 use Rattle.integers.specs.Inverse.{WholeInverse}
 use Rattle.takahashi.specs.Entries.{Entry, Ascend}
-use Rattle.takahashi.specs.Recurrence.{at, RecurrenceClosed, Solves}
+use Rattle.takahashi.specs.Recurrence.{at, RecurrenceClosed}
 use Rattle.exact.specs.Multiple.{Whole}
-use Rattle.exact.specs.Exact.{floats, Alike}
+use Rattle.exact.specs.Exact.{Alike}
 use Rattle.exact.specs.Factor.{factor}
-use Rattle.exact.specs.ExactCase.{ones, WithinBound, unit-has-inverse, unit-symmetric, unit-ordered, exact-case}
-use Rattle.exact.specs.PivotCase.{pivot-case}
-use Rattle.entries.specs.Entries.{belowStep, diagonalStep}
+use Rattle.exact.specs.ExactCase.{ones, unit-table, WithinBound, whole-inverse, unit-recurs, unit-bounded, unit-has-inverse, unit-symmetric, unit-ordered}
+use Rattle.exact.specs.PivotMultiples.{unit-pivot-recurs, unit-pivot-bounded, whole-pivot-inverse}
 use Rattle.diagnostics.specs.declared.SelectedInverseStatus.the-variants.{Complete}
 use Rattle.selection.specs.Selection.{Selection, selectedPattern, fillingOf, Lent, roomOf, Accepted, selectedSize, selectedAnswer, selectedTable, ResultLists}
 use Rattle.selection.specs.Call.{Call, selectionOf, selectedSteps, accepted}
-use Rattle.entries.specs.Descendants.{desc-ascend}
-use Rattle.exact_entries.specs.Columns.{places-descend, alike-ascend, alike-each, needed-closed}
-use Rattle.exact_entries.specs.Recurrence.{InClosedSet, found, selected-pattern, table-recurs, reads-recurrence}
+use Rattle.exact_entries.specs.Recurrence.{InClosedSet, found, selected-pattern, reads-recurrence}
+use Rattle.exact_entries.specs.DyadicEntries.{DyadicCall, multipliers-ascend, multipliers-closed, dyadic-at}
+use Rattle.exact_entries.specs.PivotEntries.{DyadicPivots, pivots-at}
 
 module _ (x : Selection) where
   -- every kept diagonal of L is 1, or, where pivots are given, every pivot is; the other kept entries are the whole numbers `whole`; and no product, sum or
@@ -43,40 +45,65 @@ module _ (x : Selection) where
     pub others : selectedAnswer x .status ≡ Complete → (row col : ℕ) → (InClosedSet x (max row col) (min row col) → ⊥)
         → found x left row col ≡ refused 8
 
--- a table that solves the recurrence of either form has the inverse's entries
-exact-table : (form : Form) (n : ℕ) (starts rows : List ℕ) (values : List Float) (whole : ℕ → List (Entry ℤ)) → ((j : ℕ) → j < n → Ascend n (suc j) (whole j))
-    → (In : ℕ → ℕ → Type 0) → RecurrenceClosed n whole In → WithinBound n whole In → (X : Matrix) → WholeInverse n (factor ones whole) X
-    → ((j : ℕ) → j < n → Whole (divisor n starts rows values form j) (pos 1)) → ((j : ℕ) → j < n → Alike 0 (desc starts rows values j) (whole j))
-    → (Z : ℕ → ℕ → Float) → Solves floats (belowStep form) (diagonalStep form) (divisor n starts rows values form) (desc starts rows values) In Z
-    → (i j : ℕ) → In i j → Whole (Z i j) (X i j)
-exact-table cholesky n starts rows values whole ascend In closed within X is one alike Z solves i j p =
-    exact-case n whole ascend In closed within X is (divisor n starts rows values cholesky) (desc starts rows values) one alike Z solves i j p .0
-exact-table (pivoted pivots) n starts rows values whole ascend In closed within X is one alike Z solves i j p =
-    pivot-case n whole ascend In closed within X is (divisor n starts rows values (pivoted pivots)) (desc starts rows values) one alike Z solves i j p
-
 -- ---- an accepted selection in the exact case
 module _ (x : Selection) (lent : Lent) (A : Accepted x (roomOf lent)) (whole : ℕ → List (Entry ℤ)) (E : ExactCall x whole) where
-  abbrev pat : ℕ → List ℕ
-  pat = selectedPattern x
-
   ascend : (j : ℕ) → j < x .factor .n → Ascend (x .factor .n) (suc j) (whole j)
-  ascend j jn = alike-ascend 0 (x .factor .n) (suc j) (desc (x .factor .starts) (x .factor .rows) (x .factor .values) j) (whole j) (E .entries j jn) (desc-ascend (x .factor .values) (A .factor) j jn)
+  ascend = multipliers-ascend x lent A 0 whole (E .entries)
 
   closed : RecurrenceClosed (x .factor .n) whole (InClosedSet x)
-  closed =
-      needed-closed (x .factor .n) pat (x .requests) (selected-pattern x lent A) (A .requests) whole ascend
-      (λ j jn. alike-each 0 _ (desc (x .factor .starts) (x .factor .rows) (x .factor .values) j) (whole j) (E .entries j jn) (places-descend (entry (x .factor .rows) (x .factor .values)) (nonzero (x .factor .values)) (A .factor) (λ p. refl) j jn))
+  closed = multipliers-closed x lent A 0 whole (E .entries)
+
+  abbrev z : Matrix
+  z = unit-table (x .factor .n) whole
+
+  ones-of : {f : Form} → x .form ≡ f → (j : ℕ) → j < x .factor .n → Whole (divisor (x .factor .n) (x .factor .starts) (x .factor .rows) (x .factor .values) f j) (pos 1)
+  ones-of e =
+      subst
+      (λ (f : Form). (j : ℕ) → j < x .factor .n → Whole (divisor (x .factor .n) (x .factor .starts) (x .factor .rows) (x .factor .values) f j) (pos 1))
+      e (E .diagonals)
+
+  -- of L * Lᵀ, whole numbers with diagonals of 1 are the multiples of 2 ^ -s with s = 0
+  pub exact-dyadic : x .form ≡ cholesky → DyadicCall x 0 ones whole z
+  exact-dyadic e = record {
+    form-is = e;
+    scale = lit≤ tt;
+    diagonals = ones-of e;
+    entries = E .entries;
+    recurs = unit-recurs (x .factor .n) whole ascend (InClosedSet x) closed;
+    bounded = unit-bounded (x .factor .n) whole (InClosedSet x) (E .within);
+  }
+
+  -- and so they are with pivots of 1
+  pub exact-pivots : {pivots : List Float} → x .form ≡ pivoted pivots → DyadicPivots x pivots 0 ones whole z
+  exact-pivots e = record {
+    form-is = e;
+    scale = lit≤ tt;
+    pivots-are = ones-of e;
+    entries = E .entries;
+    recurs = unit-pivot-recurs (x .factor .n) whole ascend (InClosedSet x) closed;
+    bounded = unit-pivot-bounded (x .factor .n) whole (InClosedSet x) (E .within);
+  }
 
   -- L * Lᵀ has an inverse in whole numbers
   pub exact-inverse : (X : Matrix) × WholeInverse (x .factor .n) (factor ones whole) X
   exact-inverse = unit-has-inverse (x .factor .n) whole ascend
 
   module _ (X : Matrix) (is : WholeInverse (x .factor .n) (factor ones whole) X) where
-    -- an entry of the set is X's
+    -- the multiplier of an entry is X's
+    same : (v : Float) (m k : ℤ) → Whole v m × (m *ℤ pos 1 ≡ pos 1 *ℤ k) → Whole v k
+    same v m k both = subst (Whole v) (sym (*ℤ-idr m) ∙ both .1 ∙ *ℤ-idl k) (both .0)
+
+    -- an entry of the set is X's, of L * Lᵀ and where pivots are given
+    at-form : (f : Form) → x .form ≡ f → (i j : ℕ) → InClosedSet x i j → Whole (selectedTable x i j) (X i j)
+    at-form cholesky e i j p =
+        same (selectedTable x i j) (z i j) (X i j)
+        (dyadic-at x lent A 0 ones whole z (exact-dyadic e) X 1 (whole-inverse (x .factor .n) (factor ones whole) X is) i j p)
+    at-form (pivoted pivots) e i j p =
+        same (selectedTable x i j) (z i j) (X i j)
+        (pivots-at x lent A pivots 0 ones whole z (exact-pivots e) X 1 (whole-pivot-inverse (x .factor .n) (factor ones whole) X is) i j p)
+
     pub exact-at : (i j : ℕ) → InClosedSet x i j → Whole (selectedTable x i j) (X i j)
-    exact-at i j p =
-        exact-table (x .form) (x .factor .n) (x .factor .starts) (x .factor .rows) (x .factor .values) whole ascend (InClosedSet x) closed (E .within) X is (E .diagonals) (E .entries)
-        (selectedTable x) (table-recurs x lent A) i j p
+    exact-at = at-form (x .form) refl
 
     -- X is symmetric
     pub exact-symmetric : (i j : ℕ) → i < x .factor .n → j < x .factor .n → X i j ≡ X j i
@@ -85,7 +112,7 @@ module _ (x : Selection) (lent : Lent) (A : Accepted x (roomOf lent)) (whole : �
     -- read at either order of the indices
     pub exact-either : (row col : ℕ) → InClosedSet x (max row col) (min row col) → Whole (at (selectedTable x) row col) (X row col)
     exact-either row col p =
-        subst (Whole (at (selectedTable x) row col)) (unit-ordered (x .factor .n) whole ascend X is row col (needed-range pat (x .requests) (x .factor .n) (selected-pattern x lent A) (A .requests) p .1))
+        subst (Whole (at (selectedTable x) row col)) (unit-ordered (x .factor .n) whole ascend X is row col (needed-range (selectedPattern x) (x .requests) (x .factor .n) (selected-pattern x lent A) (A .requests) p .1))
         (exact-at (max row col) (min row col) p)
 
     -- the exact case of every call that fills result lists: X, any inverse of L * Lᵀ, is what reads back

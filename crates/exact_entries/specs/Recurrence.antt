@@ -2,7 +2,7 @@
 -- Assumes nothing.
 use Prim.Native.Nat.{ℕ, _+_, _≤_, max, min}
 use native.Mathlib.Omega.{arith}
-use mathlib.Core.Path.{_≡_, ap, _∙_}
+use mathlib.Core.Path.{_≡_, ap, subst, _∙_}
 use mathlib.Core.Bool.{Bool, cond}
 use mathlib.Core.Logic.{_↔_}
 use mathlib.Core.List.{List}
@@ -13,7 +13,7 @@ use Rattle.refusal.specs.Steps.{Step, Reply, refused, answered, Passed}
 use Rattle.pairs.specs.Pair.{pairTotal}
 use Rattle.columns.specs.Columns.{factorLists}
 use Rattle.columns.specs.Kept.{nonzero, desc}
-use Rattle.columns.specs.Form.{divisor}
+use Rattle.columns.specs.Form.{Form, divisor}
 use Rattle.columns.specs.Numbers.{Numbers, numbers}
 use Rattle.closed_set.specs.ClosedSet.{Needed, needed-range, Pattern, needed-member}
 use Rattle.closed_set.specs.Size.{closureSize-most}
@@ -76,6 +76,17 @@ module _ (x : Selection) (lent : Lent) (A : Accepted x (roomOf lent)) where
       (desc (x .factor .starts) (x .factor .rows) (x .factor .values)) (InClosedSet x) (Lower (x .factor .n)) (selectedTable x)
       (λ i j p. needed-range pat (x .requests) (x .factor .n) selected-pattern (A .requests) p)
       (form-solves (x .form) (x .factor .values) (A .factor))
+
+  -- with the last steps of the form that the factor is known to have
+  pub table-recurs-as : {f : Form} → x .form ≡ f
+      → Solves floats (belowStep f) (diagonalStep f) (divisor (x .factor .n) (x .factor .starts) (x .factor .rows) (x .factor .values) f)
+      (desc (x .factor .starts) (x .factor .rows) (x .factor .values)) (InClosedSet x) (selectedTable x)
+  table-recurs-as e =
+      subst
+      (λ (f : Form).
+      Solves floats (belowStep f) (diagonalStep f) (divisor (x .factor .n) (x .factor .starts) (x .factor .rows) (x .factor .values) f)
+      (desc (x .factor .starts) (x .factor .rows) (x .factor .values)) (InClosedSet x) (selectedTable x))
+      e table-recurs
 
   module _ (steps : List Step) (passed : Passed steps) {left : Lent} (L : ResultLists steps (fillingOf x) lent left) where
     most : selectedSize x ≤ pairTotal (x .factor .n)

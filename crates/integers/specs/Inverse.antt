@@ -45,6 +45,52 @@ numerators n c l i j = c *ℤ c *ℤ product n (transpose (adjugate n l)) (adjug
 abbrev pub denominator : ℕ → Matrix → ℕ
 denominator n l = natAbs (diagonal-product l n) * natAbs (diagonal-product l n)
 
+-- ---- what holds of every P with A * P = q times the identity, A symmetric
+module _ (n : ℕ) (q : ℤ) (q0 : q ≢ pos 0) (A : Matrix) (A-sym : (i j : ℕ) → A i j ≡ A j i) (P : Matrix)
+    (right : Same n (product n A P) (λ i j. q *ℤ identity i j)) where
+  -- P transposed is a left inverse
+  left : Same n (product n (transpose P) A) (λ i j. q *ℤ identity i j)
+  left i j hi hj =
+      product-transpose n (transpose P) A j i
+      ∙ product-cong n (transpose A) A P P (λ a b p r. A-sym b a) (λ a b p r. refl) j i hj hi
+      ∙ right j i hj hi ∙ ap (λ (x : ℤ). q *ℤ x) (identity-sym j i)
+
+  -- so it is P
+  pub quotient-symmetric : (i j : ℕ) → i < n → j < n → P i j ≡ P j i
+  quotient-symmetric i j hi hj =
+      *ℤ-cancel-l (P i j) (P j i) q q0
+      (sym (product-scale-left n q P i j hi)
+      ∙ product-cong n (λ a b. q *ℤ identity a b) (product n (transpose P) A) P P (λ a b p r. sym (left a b p r)) (λ a b p r. refl) i j hi hj
+      ∙ product-assoc n (transpose P) A P i j
+      ∙ product-cong n (transpose P) (transpose P) (product n A P) (λ a b. q *ℤ identity a b) (λ a b p r. refl) right i j hi hj
+      ∙ product-scale-right n q (transpose P) i j hj)
+
+-- A = m * lᵀ
+module _ (n : ℕ) (q : ℤ) (q0 : q ≢ pos 0) (l m : Matrix) (tr : LowerTriangular n l)
+    (A-sym : (i j : ℕ) → product n m (transpose l) i j ≡ product n m (transpose l) j i) (P : Matrix)
+    (right : Same n (product n (product n m (transpose l)) P) (λ i j. q *ℤ identity i j)) where
+  -- l times a row of P * m is that row of q times the identity
+  rows : (i j : ℕ) → i < n → j < n → Σℤ n (λ k. l j k *ℤ product n P m i k) ≡ q *ℤ identity i j
+  rows i j hi hj =
+      sum-cong n (λ k. l j k *ℤ product n P m i k) (λ k. product n P m i k *ℤ l j k) (λ k kn. *ℤ-comm (l j k) (product n P m i k))
+      ∙ product-assoc n P m (transpose l) i j
+      ∙ product-cong n P (transpose P) (product n m (transpose l)) (product n m (transpose l))
+      (λ a b p r. quotient-symmetric n q q0 (product n m (transpose l)) A-sym P right a b p r) (λ a b p r. refl) i j hi hj
+      ∙ left n q q0 (product n m (transpose l)) A-sym P right i j hi hj
+
+  -- P * m is zero below the diagonal
+  pub quotient-below : (i j : ℕ) → j < i → i < n → product n P m i j ≡ pos 0
+  quotient-below i j ji hi =
+      triangular-zero n l tr (λ k. product n P m i k) i (le-of-lt hi)
+      (λ k ki. rows i k hi (lt-trans ki hi) ∙ ap (λ (x : ℤ). q *ℤ x) (identity-other i k (ne-of-gt ki)) ∙ *ℤ-zero q)
+      j ji
+
+  -- and q / l j j on it
+  pub quotient-diagonal : (j : ℕ) → j < n → l j j *ℤ product n P m j j ≡ q
+  quotient-diagonal j jn =
+      sym (triangular-term n l tr (λ k. product n P m j k) j jn (λ k kj. quotient-below j k kj jn))
+      ∙ rows j j jn jn ∙ ap (λ (x : ℤ). q *ℤ x) (identity-same j) ∙ *ℤ-idr q
+
 -- ---- what holds of every inverse
 module _ (n : ℕ) (c : ℤ) (c0 : c ≢ pos 0) (l : Matrix) (tr : LowerTriangular n l) (P : Matrix) (Q : ℕ) (inv : Inverse n c l P Q) where
   q : ℤ
@@ -54,56 +100,24 @@ module _ (n : ℕ) (c : ℤ) (c0 : c ≢ pos 0) (l : Matrix) (tr : LowerTriangul
   unfolding q
   q0 = *ℤ-nonzero (c *ℤ c) (pos Q) (*ℤ-nonzero c c c0 c0) (pos-nonzero Q (inv .positive))
 
-  A : Matrix
-  A = product n l (transpose l)
-
-  A-sym : (i j : ℕ) → A i j ≡ A j i
-  unfolding A
+  A-sym : (i j : ℕ) → product n l (transpose l) i j ≡ product n l (transpose l) j i
   A-sym i j = product-transpose n l (transpose l) j i
 
-  right : Same n (product n A P) (λ i j. q *ℤ identity i j)
-  unfolding q A
+  right : Same n (product n (product n l (transpose l)) P) (λ i j. q *ℤ identity i j)
+  unfolding q
   right = inv .product-is
 
-  -- P transposed is a left inverse
-  left : Same n (product n (transpose P) A) (λ i j. q *ℤ identity i j)
-  left i j hi hj =
-      product-transpose n (transpose P) A j i
-      ∙ product-cong n (transpose A) A P P (λ a b p r. A-sym b a) (λ a b p r. refl) j i hj hi
-      ∙ right j i hj hi ∙ ap (λ (x : ℤ). q *ℤ x) (identity-sym j i)
-
-  -- so it is P
   pub inverse-symmetric : (i j : ℕ) → i < n → j < n → P i j ≡ P j i
-  inverse-symmetric i j hi hj =
-      *ℤ-cancel-l (P i j) (P j i) q q0
-      (sym (product-scale-left n q P i j hi)
-      ∙ product-cong n (λ a b. q *ℤ identity a b) (product n (transpose P) A) P P (λ a b p r. sym (left a b p r)) (λ a b p r. refl) i j hi hj
-      ∙ product-assoc n (transpose P) A P i j
-      ∙ product-cong n (transpose P) (transpose P) (product n A P) (λ a b. q *ℤ identity a b) (λ a b p r. refl) right i j hi hj
-      ∙ product-scale-right n q (transpose P) i j hj)
-
-  -- l times a row of P * l is that row of q times the identity
-  rows : (i j : ℕ) → i < n → j < n → Σℤ n (λ k. l j k *ℤ product n P l i k) ≡ q *ℤ identity i j
-  unfolding A
-  rows i j hi hj =
-      sum-cong n (λ k. l j k *ℤ product n P l i k) (λ k. product n P l i k *ℤ l j k) (λ k kn. *ℤ-comm (l j k) (product n P l i k))
-      ∙ product-assoc n P l (transpose l) i j
-      ∙ product-cong n P (transpose P) A A (λ a b p r. inverse-symmetric a b p r) (λ a b p r. refl) i j hi hj
-      ∙ left i j hi hj
+  inverse-symmetric = quotient-symmetric n q q0 (product n l (transpose l)) A-sym P right
 
   -- P * l is zero below the diagonal
   pub inverse-below : (i j : ℕ) → j < i → i < n → product n P l i j ≡ pos 0
-  inverse-below i j ji hi =
-      triangular-zero n l tr (λ k. product n P l i k) i (le-of-lt hi)
-      (λ m mi. rows i m hi (lt-trans mi hi) ∙ ap (λ (x : ℤ). q *ℤ x) (identity-other i m (ne-of-gt mi)) ∙ *ℤ-zero q)
-      j ji
+  inverse-below = quotient-below n q q0 l l tr A-sym P right
 
   -- and c² * Q / l j j on it
   pub inverse-diagonal : (j : ℕ) → j < n → l j j *ℤ product n P l j j ≡ c *ℤ c *ℤ pos Q
   unfolding q
-  inverse-diagonal j jn =
-      sym (triangular-term n l tr (λ k. product n P l j k) j jn (λ k kj. inverse-below j k kj jn))
-      ∙ rows j j jn jn ∙ ap (λ (x : ℤ). q *ℤ x) (identity-same j) ∙ *ℤ-idr q
+  inverse-diagonal = quotient-diagonal n q q0 l l tr A-sym P right
 
 -- ---- there is one
 turn : (d p b : ℤ) → d *ℤ (p *ℤ b) ≡ p *ℤ d *ℤ b
@@ -152,23 +166,24 @@ diagonal-product-nonzero zero l h = pos-nonzero 1 (le-refl 1)
 diagonal-product-nonzero (suc n) l h =
     *ℤ-nonzero (diagonal-product l n) (l n n) (diagonal-product-nonzero n l (λ j jn. h j (le-step jn))) (h n (le-refl (suc n)))
 
-square : (p : ℤ) → pos (natAbs p * natAbs p) ≡ p *ℤ p
+pub square : (p : ℤ) → pos (natAbs p * natAbs p) ≡ p *ℤ p
 square (pos n) = refl
 square (negsuc n) = refl
 
-module _ (n : ℕ) (c : ℤ) (l : Matrix) (tr : LowerTriangular n l) where
+-- l * M = M * l = p times the identity, p the diagonal's product
+module _ (n : ℕ) (l : Matrix) (tr : LowerTriangular n l) where
   p : ℤ
   p = diagonal-product l n
 
   M : Matrix
   M = adjugate n l
 
-  right-M : Same n (product n l M) (λ i j. p *ℤ identity i j)
-  unfolding M p
-  right-M i j hi hj = forward-solves n l (tr .lower) (λ k. identity k j) i hi
+  pub adjugate-right : Same n (product n l (adjugate n l)) (λ i j. diagonal-product l n *ℤ identity i j)
+  adjugate-right i j hi hj = forward-solves n l (tr .lower) (λ k. identity k j) i hi
 
-  left-M : Same n (product n M l) (λ i j. p *ℤ identity i j)
-  left-M k j hk hj =
+  pub adjugate-left : Same n (product n (adjugate n l) l) (λ i j. diagonal-product l n *ℤ identity i j)
+  unfolding p M
+  adjugate-left k j hk hj =
       +ℤ-cancel-r (negℤ (p *ℤ identity k j)) (triangular-zero n l tr w n (le-refl n) zeros k hk ∙ sym (+ℤ-invr (p *ℤ identity k j)))
     where
       w : ℕ → ℤ
@@ -183,42 +198,44 @@ module _ (n : ℕ) (c : ℤ) (l : Matrix) (tr : LowerTriangular n l) where
           ∙ sum-add n (λ k. l i k *ℤ product n M l k j) (λ k. negℤ (l i k *ℤ (p *ℤ identity k j)))
           ∙ ap₂ _+ℤ_
           (sym (product-assoc n l M l i j)
-          ∙ product-cong n (product n l M) (λ a b. p *ℤ identity a b) l l right-M (λ a b r t. refl) i j hi hj
+          ∙ product-cong n (product n l M) (λ a b. p *ℤ identity a b) l l adjugate-right (λ a b r t. refl) i j hi hj
           ∙ product-scale-left n p l i j hi)
           (sum-neg n (λ k. l i k *ℤ (p *ℤ identity k j)) ∙ ap negℤ (product-scale-right n p l i j hj))
           ∙ +ℤ-invr (p *ℤ l i j)
 
-  pub inverse-exists : Inverse n c l (numerators n c l) (denominator n l)
-  unfolding p M
-  inverse-exists = record { positive = mul-pos above above; product-is = is }
-    where
-      G : Matrix
-      G = product n (transpose M) M
+-- for l and m lower triangular: m * lᵀ * (Mᵀ * N) is both products of the diagonals times the identity, M and N as `adjugate` has them of l and of m
+module _ (n : ℕ) (l m : Matrix) (tl : LowerTriangular n l) (tm : LowerTriangular n m) where
+  inner : Same n (product n (transpose l) (product n (transpose (adjugate n l)) (adjugate n m))) (λ i j. diagonal-product l n *ℤ adjugate n m i j)
+  inner i j hi hj =
+      sym (product-assoc n (transpose l) (transpose (adjugate n l)) (adjugate n m) i j)
+      ∙ product-cong n (product n (transpose l) (transpose (adjugate n l))) (λ a b. diagonal-product l n *ℤ identity a b) (adjugate n m) (adjugate n m)
+      (λ a b r t.
+      sym (product-transpose n (adjugate n l) l a b) ∙ adjugate-left n l tl b a t r ∙ ap (λ (x : ℤ). diagonal-product l n *ℤ x) (identity-sym b a))
+      (λ a b r t. refl) i j hi hj
+      ∙ product-scale-left n (diagonal-product l n) (adjugate n m) i j hi
 
-      above : 0 < natAbs p
-      above = natAbs-pos p (diagonal-product-nonzero n l (tr .diagonal))
+  pub quotient-exists : Same n (product n (product n m (transpose l)) (product n (transpose (adjugate n l)) (adjugate n m)))
+      (λ i j. diagonal-product l n *ℤ (diagonal-product m n *ℤ identity i j))
+  quotient-exists i j hi hj =
+      product-assoc n m (transpose l) (product n (transpose (adjugate n l)) (adjugate n m)) i j
+      ∙ product-cong n m m (product n (transpose l) (product n (transpose (adjugate n l)) (adjugate n m))) (λ a b. diagonal-product l n *ℤ adjugate n m a b)
+      (λ a b r t. refl) inner i j hi hj
+      ∙ product-scale n (diagonal-product l n) m (adjugate n m) i j ∙ ap (λ (x : ℤ). diagonal-product l n *ℤ x) (adjugate-right n m tm i j hi hj)
 
-      inner : Same n (product n (transpose l) G) (λ i j. p *ℤ M i j)
-      inner i j hi hj =
-          sym (product-assoc n (transpose l) (transpose M) M i j)
-          ∙ product-cong n (product n (transpose l) (transpose M)) (λ a b. p *ℤ identity a b) M M
-          (λ a b r t. sym (product-transpose n M l a b) ∙ left-M b a t r ∙ ap (λ (x : ℤ). p *ℤ x) (identity-sym b a)) (λ a b r t. refl) i j hi hj
-          ∙ product-scale-left n p M i j hi
+pub inverse-exists : (n : ℕ) (c : ℤ) (l : Matrix) → LowerTriangular n l → Inverse n c l (numerators n c l) (denominator n l)
+inverse-exists n c l tr = record {
+  positive = mul-pos above above;
+  product-is = λ i j hi hj.
+      product-scale n (c *ℤ c) (product n l (transpose l)) (product n (transpose (adjugate n l)) (adjugate n l)) i j
+      ∙ ap (λ (x : ℤ). c *ℤ c *ℤ x) (quotient-exists n l l tr tr i j hi hj)
+      ∙ w (c *ℤ c) (diagonal-product l n) (identity i j) ∙ ap (λ (x : ℤ). c *ℤ c *ℤ x *ℤ identity i j) (sym (square (diagonal-product l n)));
+}
+  where
+    above : 0 < natAbs (diagonal-product l n)
+    above = natAbs-pos (diagonal-product l n) (diagonal-product-nonzero n l (tr .diagonal))
 
-      outer : Same n (product n (product n l (transpose l)) G) (λ i j. p *ℤ (p *ℤ identity i j))
-      outer i j hi hj =
-          product-assoc n l (transpose l) G i j
-          ∙ product-cong n l l (product n (transpose l) G) (λ a b. p *ℤ M a b) (λ a b r t. refl) inner i j hi hj
-          ∙ product-scale n p l M i j ∙ ap (λ (x : ℤ). p *ℤ x) (right-M i j hi hj)
-
-      is : (i j : ℕ) → i < n → j < n
-          → product n (product n l (transpose l)) (λ a b. c *ℤ c *ℤ G a b) i j ≡ c *ℤ c *ℤ pos (natAbs p * natAbs p) *ℤ identity i j
-      is i j hi hj =
-          product-scale n (c *ℤ c) (product n l (transpose l)) G i j ∙ ap (λ (x : ℤ). c *ℤ c *ℤ x) (outer i j hi hj)
-          ∙ w (c *ℤ c) p (identity i j) ∙ ap (λ (x : ℤ). c *ℤ c *ℤ x *ℤ identity i j) (sym (square p))
-        where
-          w : (c p d : ℤ) → c *ℤ (p *ℤ (p *ℤ d)) ≡ c *ℤ (p *ℤ p) *ℤ d
-          w c p d = simp products
+    w : (c p d : ℤ) → c *ℤ (p *ℤ (p *ℤ d)) ≡ c *ℤ (p *ℤ p) *ℤ d
+    w c p d = simp products
 
 -- ---- with ones on the diagonal the inverse is in integers
 pub diagonal-product-one : (n : ℕ) (l : Matrix) → ((j : ℕ) → j < n → l j j ≡ pos 1) → diagonal-product l n ≡ pos 1

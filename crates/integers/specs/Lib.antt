@@ -3,6 +3,7 @@ pub mod Integer
 pub mod Sum
 pub mod Matrix
 pub mod Inverse
+pub mod PivotInverse
 pub mod Order
 pub mod MinMax
 pub mod Size

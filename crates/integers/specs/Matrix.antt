@@ -2,10 +2,10 @@
 use mathlib.Core.Path.{_≡_, refl, sym, _∙_, ap, ap₂}
 use mathlib.Core.Bool.{Bool, cond}
 use mathlib.Core.Logic.{_⊎_, inl, inr, _≢_}
-use Prim.Native.Nat.{ℕ, zero, suc, _≤_, _<_}
+use Prim.Native.Nat.{ℕ, zero, suc, _≤_, _<_, max, min}
 use native.Mathlib.Nat.{le-refl, le-step, le-of-lt, le-of-suc-le-suc, eq-or-lt-of-le, not-suc-le-zero}
 use native.Mathlib.Omega.{arith}
-use native.Mathlib.Decide.{ℕ-discrete, decLt}
+use native.Mathlib.Decide.{ℕ-discrete, decLe, decLt}
 use lib.Dec.{eqb}
 use lib.IntN.{ℤ, pos, _*ℤ_, *ℤ-zero, *ℤ-comm, zero-*ℤ}
 use borrow.Author.Tests.{eq-eqb, ne-eqb}
@@ -48,6 +48,20 @@ pub identity-sym : (i j : ℕ) → identity i j ≡ identity j i
 identity-sym i j = elim (ℕ-discrete i j) [
   | yes e ↦ ap (λ (x : ℕ). identity x j) e ∙ ap (λ (x : ℕ). identity j x) (sym e)
   | no f ↦ identity-other i j f ∙ sym (identity-other j i (λ e. f (sym e)))
+]
+
+-- ---- a symmetric matrix: its indices may be put in order
+pub symmetric-ordered : (n : ℕ) (P : Matrix) → ((i j : ℕ) → i < n → j < n → P i j ≡ P j i)
+    → (row col : ℕ) → max row col < n → P (max row col) (min row col) ≡ P row col
+symmetric-ordered n P symmetric row col h = elim (decLe col row) [
+  | yes l ↦
+      let a : max row col ≡ row = omega arith in
+      let b : min row col ≡ col = omega arith in
+      ap₂ P a b
+  | no l ↦
+      let a : max row col ≡ col = omega arith in
+      let b : min row col ≡ row = omega arith in
+      ap₂ P a b ∙ symmetric col row (omega arith) (omega arith)
 ]
 
 -- ---- the product

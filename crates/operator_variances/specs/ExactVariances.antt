@@ -1,11 +1,11 @@
--- The exact case of operator variances: for whole weights each row's value is the exact vᵀXv.
+-- The exact case of operator variances: for whole weights each row's value is the exact vᵀXv. Beyond unit diagonals, what reads back.
 -- Assumes nothing.
-use Prim.Native.Nat.{ℕ, _+_, _-_, _<_}
+use Prim.Native.Nat.{ℕ, _+_, _-_, _^_, _<_}
 use native.Mathlib.Omega.{arith}
 use mathlib.Core.Path.{_≡_, sym, ap, subst, _∙_}
 use mathlib.Core.List.{List}
 use lib.ListN.{length, getD}
-use lib.IntN.{ℤ}
+use lib.IntN.{ℤ, pos}
 use lib.Ieee.{Float, nan}
 use Rattle.lists.specs.Tabulate.{tabulate-at, tabulate-length}
 use Rattle.lists.specs.Overwrite.{overwrite-at}
@@ -14,7 +14,7 @@ use Rattle.refusal.specs.Told.{told-passed, told-answer}
 use Rattle.columns.specs.Columns.{start, value}
 use Rattle.columns.specs.Operator.{operatorRows}
 use Rattle.integers.specs.Matrix.{Matrix}
-use Rattle.integers.specs.Inverse.{WholeInverse}
+use Rattle.integers.specs.Inverse.{Inverse, WholeInverse}
 use Rattle.takahashi.specs.Entries.{Entry}
 use Rattle.exact.specs.Multiple.{Whole}
 use Rattle.exact.specs.Exact.{floats}
@@ -26,6 +26,7 @@ use Rattle.diagnostics.specs.declared.SelectedInverseStatus.the-variants.{Compl
 use Rattle.diagnostics.specs.declared.Selected.{Selected}
 use Rattle.diagnostics.specs.Selected.{selectedReplyOf}
 use Rattle.selection.specs.Selection.{Lent, roomOf, selectedAnswer, selectedTable, ResultLists, fillingOf}
+use Rattle.exact_entries.specs.DyadicEntries.{DyadicCall, ReadsMultiples, dyadic-entries}
 use Rattle.exact_entries.specs.ExactEntries.{ExactCall, ReadsBack, exact-entries, exact-either}
 use Rattle.request_marks.specs.OperatorRequests.{places-requested}
 use Rattle.operator_values.specs.Output.{outputAfter, after-complete}
@@ -87,10 +88,19 @@ module _ (x : TransformedCall) (lent : Lent) (output : List Float) (passed : Pas
           (omega (arith, tabulate-length (operatorValue (x .rowStarts) (x .columns) (x .weights) (selectedTable (transformedSelection x))) (operatorRows (x .rowStarts))))
           ∙ tabulate-at (operatorValue (x .rowStarts) (x .columns) (x .weights) (selectedTable (transformedSelection x))) (operatorRows (x .rowStarts)) i nan l
 
+-- ---- beyond unit diagonals: what reads back of the operator's own requests
+module _ (x : TransformedCall) (lent : Lent) (output : List Float) (passed : Passed (transformedSteps x (roomOf lent) (length output)))
+    (s : ℕ) (d : ℕ → ℤ) (l : ℕ → List (Entry ℤ)) (z : Matrix) (E : DyadicCall (transformedSelection x) s d l z) (P : Matrix) (Q : ℕ)
+    (is : Inverse (x .factor .n) (pos (2 ^ s)) (factor d l) P Q) where
+  pub transformed-dyadic : {left : Lent} → ResultLists (transformedSteps x (roomOf lent) (length output)) (fillingOf (transformedSelection x)) lent left
+      → ReadsMultiples (transformedSelection x) left s z P Q
+  transformed-dyadic L =
+      dyadic-entries (transformedSelection x) lent (transformed-accepted x (roomOf lent) (length output) passed .accepted) s d l z E P Q is
+      (transformedSteps x (roomOf lent) (length output)) passed L
+
 -- ---- of a reply
 module _ (x : TransformedCall) (lent : Lent) (output : List Float) {reply : Selected} {left : Lent} {out : List Float}
-    (C : TransformedDiagonal x lent output reply left out) {d : SelectedInverseDiagnostics} (answer : selectedReplyOf reply ≡ answered d)
-    (whole : ℕ → List (Entry ℤ)) (E : ExactCall (transformedSelection x) whole) (X : Matrix) (is : WholeInverse (x .factor .n) (factor ones whole) X) where
+    (C : TransformedDiagonal x lent output reply left out) {d : SelectedInverseDiagnostics} (answer : selectedReplyOf reply ≡ answered d) where
   abbrev checks : List Step
   checks = transformedSteps x (roomOf lent) (length output)
 
@@ -98,8 +108,18 @@ module _ (x : TransformedCall) (lent : Lent) (output : List Float) {reply : Sele
   all = told-passed checks (selectedAnswer (transformedSelection x)) (sym answer ∙ C .replies)
 
   -- demand 3, of the reply: d is the diagnosis, X is what reads back, and the output holds each row's vᵀXv
-  pub transformed-exact-reply : (d ≡ selectedAnswer (transformedSelection x)) × TransformedExact x left out X
-  transformed-exact-reply = (
+  pub transformed-exact-reply : (whole : ℕ → List (Entry ℤ)) → ExactCall (transformedSelection x) whole
+      → (X : Matrix) → WholeInverse (x .factor .n) (factor ones whole) X → (d ≡ selectedAnswer (transformedSelection x)) × TransformedExact x left out X
+  transformed-exact-reply whole E X is = (
     told-answer checks (selectedAnswer (transformedSelection x)) (sym answer ∙ C .replies),
     subst (λ (o : List Float). TransformedExact x left o X) (sym (C .output-is)) (transformed-exact x lent output all whole E X is (C .lists-are)),
+  )
+
+  -- beyond unit diagonals, of the reply: d is the diagnosis, and P / Q is what reads back
+  pub transformed-dyadic-reply : (s : ℕ) (m : ℕ → ℤ) (l : ℕ → List (Entry ℤ)) (z : Matrix) → DyadicCall (transformedSelection x) s m l z
+      → (P : Matrix) (Q : ℕ) → Inverse (x .factor .n) (pos (2 ^ s)) (factor m l) P Q
+      → (d ≡ selectedAnswer (transformedSelection x)) × ReadsMultiples (transformedSelection x) left s z P Q
+  transformed-dyadic-reply s m l z E P Q is = (
+    told-answer checks (selectedAnswer (transformedSelection x)) (sym answer ∙ C .replies),
+    transformed-dyadic x lent output all s m l z E P Q is (C .lists-are),
   )

@@ -1,13 +1,14 @@
--- F2 of document 01 with its two cells exchanged: the diagonal 5, 1 in factor order is the output 1, 5, exactly.
+-- F2 of document 01 with its two cells exchanged: the diagonal 5, 1 in factor order is the output 1, 5, exactly. The factor with the rows 2 0 and 6 4 likewise:
+-- its diagonal 13 / 16, 1 / 16 is the output 1 / 16, 13 / 16.
 -- Assumes nothing.
 use Prim.Native.Nat.{ℕ, zero, suc, _+_, _≤_, _<_}
 use native.Mathlib.Omega.{arith}
 use mathlib.Core.Path.{_≡_, refl, ap, subst, subst₂, _∙_}
-use mathlib.Core.Bool.{true}
+use mathlib.Core.Bool.{true, false}
 use mathlib.Core.List.{List, [], _∷_, _++_}
 use lib.Dec.{lit<, lit≤}
 use lib.ListN.{length, getD}
-use lib.IntN.{pos}
+use lib.IntN.{pos, _*ℤ_}
 use lib.Ieee.{Float, nan, ofBits, ofInt, ne, le, add, sub, mul, div, neg}
 use Rattle.lists.specs.Test.{any, anyIn}
 use Rattle.lists.specs.Select.{select, picked}
@@ -26,8 +27,8 @@ use Rattle.columns.specs.Diagonal.{diagonalSteps}
 use Rattle.columns.specs.Kept.{nonzero, pattern, factorPairs}
 use Rattle.columns.specs.Form.{cholesky}
 use Rattle.columns.specs.Examples.{whole, F2-starts, F2-rows, F2-values}
-use Rattle.exact.specs.Multiple.{Whole}
-use Rattle.exact.specs.Examples.{F2-entries, F2-matrix, F2-inverse}
+use Rattle.exact.specs.Multiple.{Multiple, Whole}
+use Rattle.exact.specs.Examples.{F2-entries, F2-matrix, F2-inverse, sixteenths-diag, sixteenths, sixteenths-z, sixteenths-matrix, sixteenths-inverse}
 use Rattle.closed_set.specs.ClosedSet.{descends, Needed, request, dependency, reach, member, descends-at, needed-member}
 use Rattle.closed_set.specs.FactorPattern.{factor-pattern}
 use Rattle.entries.specs.Entries.{floatTable}
@@ -39,11 +40,13 @@ use Rattle.diagnostics.specs.declared.Selected.the-variants.{Answered}
 use Rattle.diagnostics.specs.Selected.{selectedReplyOf}
 use Rattle.selection.specs.Diagnosis.{diagnosisOf}
 use Rattle.selection.specs.Selection.{Lent, lists, room, roomOf, roomSteps, Accepted, selectedSet, selectedSize, selectedAnswer, lists-passed, fillingOf}
+use Rattle.exact_entries.specs.DyadicEntries.{DyadicCall}
 use Rattle.exact_entries.specs.ExactEntries.{ExactCall}
 use Rattle.exact_entries.specs.Worked.{F2-diagonals, F2-exact, F2-lent, F2-lists}
+use Rattle.exact_entries.specs.DyadicWorked.{sixteenths-values, sixteenths-dyadic, sixteenth, sixteenths-lists}
 use Rattle.request_marks.specs.DiagonalMarks.{diagonalPairs}
 use Rattle.original_diagonal.specs.Original.{OriginalCall, originalCall, originalSelection, originalSteps, OriginalDiagonal, original-accepted}
-use Rattle.original_diagonal.specs.ExactDiagonal.{OriginalExact, within-reply, beyond-reply, original-exact-reply}
+use Rattle.original_diagonal.specs.ExactDiagonal.{OriginalExact, OriginalMultiples, within-reply, beyond-reply, original-exact-reply, original-dyadic-reply}
 
 abbrev F2-exchanged : OriginalCall
 F2-exchanged = originalCall 2 F2-starts F2-rows F2-values (1 ∷ 0 ∷ [])
@@ -91,6 +94,46 @@ F2-exchanged-first = F2-exchanged-variances .variances F2-exchanged-complete 0 (
 
 F2-exchanged-second : Whole (getD (whole 1 ∷ whole 5 ∷ []) 1 nan) (pos 5)
 F2-exchanged-second = F2-exchanged-variances .variances F2-exchanged-complete 1 (lit< tt)
+
+-- ---- the factor with the rows 2 0 and 6 4
+abbrev exchanged : OriginalCall
+exchanged = originalCall 2 F2-starts F2-rows sixteenths-values (1 ∷ 0 ∷ [])
+
+abbrev exchanged-output : List Float
+exchanged-output = sixteenth false 1 ∷ sixteenth false 13 ∷ []
+
+exchanged-passed : Passed (originalSteps exchanged (roomOf F2-lent) 2)
+unfolding any anyIn ofInt ofBits ne le first each pairTotal bitWords scratchWords boundSteps brokenSteps startsSteps rowsSteps columnSteps finiteSteps storedSteps factorSteps
+    diagonalSteps roomSteps originalSteps
+exchanged-passed = refl
+
+exchanged-dyadic : DyadicCall (originalSelection exchanged) 4 sixteenths-diag sixteenths sixteenths-z
+exchanged-dyadic = sixteenths-dyadic (diagonalPairs 2) 30 (roomOf F2-lent) (original-accepted exchanged (roomOf F2-lent) 2 exchanged-passed .accepted)
+
+exchanged-left : OriginalDiagonal exchanged F2-lent output (Answered (diagnosis 2 3 3 30 Complete)) sixteenths-lists exchanged-output
+unfolding any anyIn sumTo picked select cells cellCount tabulate filled overwrite ofInt ofBits ne le add sub mul div neg first after each pairTotal bitWords scratchWords
+    boundSteps brokenSteps startsSteps rowsSteps columnSteps finiteSteps storedSteps factorSteps diagonalSteps roomSteps originalSteps
+    reach member factorPairs diagnosisOf reordered floatTable
+exchanged-left = record {
+  replies = refl;
+  lists-are = lists-passed (originalSteps exchanged (roomOf F2-lent) 2) (fillingOf (originalSelection exchanged)) F2-lent exchanged-passed refl refl refl refl;
+  output-is = refl;
+}
+
+-- `original-dyadic-reply`: the outputs are the inverse's diagonal at 1 and at 0, 1 / 16 and 13 / 16
+exchanged-variances : OriginalMultiples exchanged sixteenths-lists exchanged-output 4 sixteenths-z sixteenths-matrix 16
+exchanged-variances =
+    original-dyadic-reply exchanged F2-lent output exchanged-left refl 4 sixteenths-diag sixteenths sixteenths-z exchanged-dyadic sixteenths-matrix 16 sixteenths-inverse .2
+
+exchanged-complete : selectedAnswer (originalSelection exchanged) .status ≡ Complete
+unfolding any sumTo picked select cellCount ofInt ofBits ne reach member
+exchanged-complete = exchanged-variances .reads .complete .1 (lit≤ tt)
+
+exchanged-first : Multiple 4 (getD exchanged-output 0 nan) (pos 1) × (pos 1 *ℤ pos 16 ≡ pos 16 *ℤ pos 1)
+exchanged-first = exchanged-variances .variances exchanged-complete 0 (lit< tt)
+
+exchanged-second : Multiple 4 (getD exchanged-output 1 nan) (pos 13) × (pos 13 *ℤ pos 16 ≡ pos 16 *ℤ pos 13)
+exchanged-second = exchanged-variances .variances exchanged-complete 1 (lit< tt)
 
 -- ---- a set beyond the default limit: 40 columns, the first full, the others with their diagonals alone. Of 79 entries the limit is 790, and all 820 pairs are needed
 abbrev arrow-starts : List ℕ

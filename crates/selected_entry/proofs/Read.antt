@@ -25,6 +25,7 @@ use Rattle.selected.specs.Selected.{SelectedEntries}
 use Rattle.diagnostics.specs.declared.Selected.{Selected}
 use Rattle.diagnostics.specs.declared.Selected.the-variants as reply
 use Rattle.exact_entries.specs.Recurrence.{found, found-entries}
+use Rattle.exact_entries.specs.DyadicEntries.{dyadic-call}
 use Rattle.exact_entries.specs.ExactEntries.{exact-call}
 use Rattle.selected_entry.specs.declared.SelectedEntry.the-variants.{Found, ClosureTooLarge, Refused}
 use Rattle.selected_entry.specs.declared.SelectedEntry.{SelectedEntry}
@@ -78,7 +79,12 @@ module _ (x : Call) (lent : Lent) where
       at-status status.ClosureTooLarge e r h =
           let large = status-tells (selectionOf x) status.ClosureTooLarge (status-same status.ClosureTooLarge e) in
           subst (λ (q : SelectedEntry). ReadEntry x lent row col q left) (sym h)
-          (record { replies = answer-large row col passed large; exact = λ whole C X inv. leb-false _ _ large; lists-are = E .lists-are })
+          (record {
+            replies = answer-large row col passed large;
+            exact = λ whole C X inv. leb-false _ _ large;
+            dyadic = λ s d l z C P Q inv. leb-false _ _ large;
+            lists-are = E .lists-are;
+          })
       at-status status.Complete e r h =
           let st = status-same status.Complete e in
           subst (λ (q : SelectedEntry). ReadEntry x lent row col q left) (sym (h .1))
@@ -90,6 +96,12 @@ module _ (x : Call) (lent : Lent) where
                   (λ p. let m = B .members st row col p in (m .0, h .2 ∙ m .1, m .2)),
                   (λ none. h .2 ∙ B .others st row col none),
                 );
+            dyadic = λ s d l z C P Q inv.
+                let B = dyadic-call x lent passed s d l z C P Q inv (E .lists-are) in (
+                  selected-complete (selectionOf x) .0 st,
+                  (λ p. let m = B .members st row col p in (m .0, h .2 ∙ m .1, m .2, m .3)),
+                  (λ none. h .2 ∙ B .others st row col none),
+                );
             lists-are = E .lists-are;
           })
 
@@ -99,7 +111,12 @@ module _ (x : Call) (lent : Lent) where
     read-entry (reply.Answered d) E r h = at-status E (d .status) refl r h
     read-entry (reply.Refused why) E r h =
         subst (λ (q : SelectedEntry). ReadEntry x lent row col q left) (sym h)
-        (record { replies = answer-refused row col (told-refused steps diagnosis (E .replies)); exact = λ whole C X inv. tt; lists-are = E .lists-are })
+        (record {
+          replies = answer-refused row col (told-refused steps diagnosis (E .replies));
+          exact = λ whole C X inv. tt;
+          dyadic = λ s d l z C P Q inv. tt;
+          lists-are = E .lists-are;
+        })
 
 -- ---- the lookup itself
 

@@ -1,19 +1,20 @@
 -- One selected entry: what a call for selected entries and a lookup in its result reply together, and that the reply is exact.
 -- Assumes nothing.
-use Prim.Native.Nat.{ℕ, _+_, _≤_, _<_, max, min}
+use Prim.Native.Nat.{ℕ, _+_, _^_, _≤_, _<_, max, min}
 use mathlib.Core.Path.{_≡_}
 use mathlib.Core.Bool.{Bool, true, false}
 use mathlib.Core.List.{List}
 use lib.ListN.{length, take}
-use lib.IntN.{ℤ}
+use lib.IntN.{ℤ, pos, _*ℤ_}
 use lib.Ieee.{Float}
 use Rattle.refusal.specs.Bounds.{maxDimension}
 use Rattle.refusal.specs.Steps.{Reply, refused, answered, verdict}
 use Rattle.refusal.specs.Refusal.{refusalNumber}
 use Rattle.integers.specs.Matrix.{Matrix}
-use Rattle.integers.specs.Inverse.{WholeInverse}
+use Rattle.integers.specs.Inverse.{Inverse, WholeInverse}
 use Rattle.takahashi.specs.Entries.{Entry}
-use Rattle.exact.specs.Multiple.{Whole}
+use Rattle.takahashi.specs.Recurrence.{at}
+use Rattle.exact.specs.Multiple.{Multiple, Whole}
 use Rattle.exact.specs.Factor.{factor}
 use Rattle.exact.specs.ExactCase.{ones}
 use Rattle.diagnostics.specs.declared.SelectedInverseStatus.{SelectedInverseStatus}
@@ -27,6 +28,7 @@ use Rattle.lookup.specs.Reply.{entryReply}
 use Rattle.result.specs.Lookup.{lookup}
 use Rattle.exact_entries.specs.ReadBack.{readBack}
 use Rattle.exact_entries.specs.Recurrence.{InClosedSet}
+use Rattle.exact_entries.specs.DyadicEntries.{DyadicCall}
 use Rattle.exact_entries.specs.ExactEntries.{ExactCall}
 use Rattle.selected_entry.specs.declared.SelectedEntry.{SelectedEntry}
 use Rattle.selected_entry.specs.declared.SelectedEntry.the-variants.{Found, ClosureTooLarge, Refused}
@@ -65,10 +67,22 @@ Exact x row col X (Found e) =
 Exact x row col X ClosureTooLarge = x .limit < selectedSize (selectionOf x)
 Exact x row col X (Refused why) = Unit {0}
 
--- the reply, the lists as the call leaves them, and the exact case for every inverse X of L * Lᵀ
+-- the same beyond unit diagonals: the pair reads back as z / 2 ^ s, where z * Q = 2 ^ s * P
+abbrev pub Dyadic : Call → ℕ → ℕ → ℕ → Matrix → Matrix → ℕ → SelectedEntry → Type 0
+Dyadic x row col s z P Q (Found e) =
+    (selectedSize (selectionOf x) ≤ x .limit)
+    × (InClosedSet (selectionOf x) (max row col) (min row col)
+    → (v : Float) × (entryReply e ≡ answered v) × Multiple s v (at z row col) × (at z row col *ℤ pos Q ≡ pos (2 ^ s) *ℤ P row col))
+    × ((InClosedSet (selectionOf x) (max row col) (min row col) → ⊥) → entryReply e ≡ refused 8)
+Dyadic x row col s z P Q ClosureTooLarge = x .limit < selectedSize (selectionOf x)
+Dyadic x row col s z P Q (Refused why) = Unit {0}
+
+-- the reply, the lists as the call leaves them, and the exact case for every inverse of L * Lᵀ: X in whole numbers, P / Q beyond unit diagonals
 pub record ReadEntry (x : Call) (lent : Lent) (row col : ℕ) (reply : SelectedEntry) (left : Lent) : Type 0 where
   pub replies : answerOf reply ≡ entryAnswer x (roomOf lent) row col
   pub exact : (whole : ℕ → List (Entry ℤ)) → ExactCall (selectionOf x) whole → (X : Matrix) → WholeInverse (x .factor .n) (factor ones whole) X → Exact x row col X reply
+  pub dyadic : (s : ℕ) (d : ℕ → ℤ) (l : ℕ → List (Entry ℤ)) (z : Matrix) → DyadicCall (selectionOf x) s d l z → (P : Matrix) (Q : ℕ)
+      → Inverse (x .factor .n) (pos (2 ^ s)) (factor d l) P Q → Dyadic x row col s z P Q reply
   pub lists-are : ResultLists (selectedSteps x (roomOf lent)) (fillingOf (selectionOf x)) lent left
 
 -- ---- the lookup after the call's answer

@@ -1,13 +1,14 @@
--- F2 of document 01 with the request (0, 0) and limit 3, and the pair (1, 0): what the contract says of every reply.
+-- F2 of document 01 with the request (0, 0) and limit 3, and the pair (1, 0): what the contract says of every reply. The same of the factor with the rows
+-- 2 0 and 6 4.
 -- Assumes nothing.
 use mathlib.Core.Path.{_≡_, sym, ap, _∙_}
 use mathlib.Core.Bool.{Bool, true}
-use lib.IntN.{negsuc}
+use lib.IntN.{pos, negsuc, _*ℤ_}
 use lib.Ieee.{Float, neg}
 use Rattle.refusal.specs.Steps.{Reply, answered}
 use Rattle.columns.specs.Examples.{whole}
-use Rattle.exact.specs.Multiple.{Whole}
-use Rattle.exact.specs.Examples.{F2-entries, F2-matrix, F2-inverse}
+use Rattle.exact.specs.Multiple.{Multiple, Whole}
+use Rattle.exact.specs.Examples.{F2-entries, F2-matrix, F2-inverse, sixteenths-diag, sixteenths, sixteenths-z, sixteenths-matrix, sixteenths-inverse}
 use Rattle.diagnostics.specs.declared.SelectedInverseStatus.the-variants.{Complete}
 use Rattle.selection.specs.Selection.{roomOf, selectedSet, selectedComplete, selectedTable, Lent}
 use Rattle.selection.specs.Status.{selected-complete, status-tells}
@@ -17,6 +18,7 @@ use Rattle.lookup.specs.Reply.{entryReply}
 use Rattle.exact_entries.specs.ReadBack.{readBack}
 use Rattle.exact_entries.specs.Recurrence.{found-entries}
 use Rattle.exact_entries.specs.Worked.{F2-lent, F2-call, F2-passed, F2-accepted, F2-call-exact, F2-left, F2-below, F2-complete, F2-recurs}
+use Rattle.exact_entries.specs.DyadicWorked.{sixteenths-call, sixteenths-call-dyadic, sixteenths-below}
 use Rattle.selected_entry.specs.declared.SelectedEntry.{SelectedEntry}
 use Rattle.selected_entry.specs.declared.SelectedEntry.the-variants.{Found}
 use Rattle.selected_entry.specs.SelectedEntry.{looked, answerOf, answerFrom, entryAnswer, ReadEntry}
@@ -45,3 +47,8 @@ F2-replies R =
 F2-found-exact : {e : inverse.Entry} {left : Lent} → ReadEntry F2-call F2-lent 1 0 (Found e) left
     → (v : Float) × (entryReply e ≡ answered v) × Whole v (negsuc 1)
 F2-found-exact R = R .exact F2-entries F2-call-exact F2-matrix F2-inverse .1 F2-below
+
+-- of the factor with the rows 2 0 and 6 4 what is found at (1, 0) is a number equal to -3 / 16
+sixteenths-found-exact : {e : inverse.Entry} {left : Lent} → ReadEntry sixteenths-call F2-lent 1 0 (Found e) left
+    → (v : Float) × (entryReply e ≡ answered v) × Multiple 4 v (negsuc 2) × (negsuc 2 *ℤ pos 16 ≡ pos 16 *ℤ negsuc 2)
+sixteenths-found-exact R = R .dyadic 4 sixteenths-diag sixteenths sixteenths-z sixteenths-call-dyadic sixteenths-matrix 16 sixteenths-inverse .1 sixteenths-below
