@@ -1,0 +1,5 @@
+-- Requests written as a Matrix Market file.
+pub mod Lines
+pub mod Marked
+pub mod Writer
+pub mod RoundTrip
