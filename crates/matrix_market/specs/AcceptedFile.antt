@@ -17,7 +17,7 @@ use Rattle.refusal.specs.Steps.{Step, Passed, Clear, passed-clear, clear-passed
 use Rattle.matrix_market.specs.Text.{lines}
 use Rattle.matrix_market.specs.Members.{some-below}
 use Rattle.matrix_market.specs.Examples.{told, sample, sample-passes}
-use Rattle.matrix_market.specs.File.{header, firstLine, sizeFields, entries, number, dimensionOf, pairOf, diagonalPair, diagonalPairs, standFor, fileRequests, fileRows, fileColumns}
+use Rattle.matrix_market.specs.File.{header, firstLine, sizeFields, entries, number, dimensionOf, pairOf, diagonalPair, everyDiagonal, standFor, fileRequests, fileRows, fileColumns}
 use Rattle.matrix_market.specs.File.{sameBytes, sameBytes-equal, outsideIndex, outsidePair, outsideEntry, requestRows, requestColumns, requests-most}
 use Rattle.matrix_market.specs.File.{fileSizeSteps, fileEntrySteps, fileRoomSteps, fileSteps}
 
@@ -76,10 +76,10 @@ module _ (n k : ℕ) where
       record { inside = omega (arith, r); below = omega (arith, r, c) }
 
   -- a diagonal pair
-  diagonal-inside : k < length (diagonalPairs n) → Inside (diagonalPairs n)
+  diagonal-inside : k < length (everyDiagonal n) → Inside (everyDiagonal n)
   diagonal-inside l =
       let h : k < n = omega (arith, tabulate-length diagonalPair n) in
-      request-inside (diagonalPairs n) k k l (tabulate-at diagonalPair n k (0, 0) h) h (omega arith)
+      request-inside (everyDiagonal n) k k l (tabulate-at diagonalPair n k (0, 0) h) h (omega arith)
 
   -- the pair of an entry
   entry-inside : (es : List (List (List ℕ))) → some (outsideEntry n) es ≡ false → k < length (map pairOf es) → Inside (map pairOf es)

@@ -1,6 +1,7 @@
 -- Files, and what is told and read of them.
 -- Assumes nothing.
-use Prim.Native.Nat.{ℕ, _+_}
+use Prim.Native.Nat.{ℕ, _+_, _<_}
+use native.Mathlib.Omega.{arith}
 use Prim.Native.Char.{code}
 use Prim.Native.String.{String, [] as ended, _∷_ as _then_}
 use mathlib.Core.Path.{_≡_, refl}
@@ -17,20 +18,20 @@ use Rattle.refusal.specs.Steps.{Reply, refused, answered, first, verdict, Passe
 use Rattle.matrix_market.specs.Text.{joined, onFirst, split, fields, isBlank, nonempty, isDigit, numeral}
 use Rattle.matrix_market.specs.File.{header, sameBytes, comment, fromSize, firstLine, laterLines, body, sizeFields, entries, areNumbers, outsidePair}
 use Rattle.matrix_market.specs.File.{fileRequests, fileRows, fileColumns, fileSizeSteps, fileEntrySteps, fileSteps, fileAnswer}
-use Rattle.matrix_market.specs.Decimal.{digitsWithin, decimal}
+use Rattle.matrix_market.specs.Decimal.{digitsWithin, decimal, decimal-leads}
 use Rattle.matrix_market.specs.FileOf.{spaced, fileOf}
 
 -- the bytes of a text; the file that begins with the header and goes on with a text
-bytes : String → List ℕ
+unfoldable pub bytes : String → List ℕ
 bytes ended = []
 bytes (c then s) = code c ∷ bytes s
 
-headed : String → List ℕ
+unfoldable pub headed : String → List ℕ
 unfolding bytes
 headed s = header ++ bytes s
 
 -- a verdict as a number: that of the refusal, 0 where there is none
-abbrev numberOf : Reply (Unit {0}) → ℕ
+abbrev pub numberOf : Reply (Unit {0}) → ℕ
 numberOf (refused k) = k
 numberOf (answered tt) = 0
 
@@ -223,6 +224,10 @@ diagonals-answer = refl
 digits-written : map decimal (0 ∷ 9 ∷ 10 ∷ 4096 ∷ 1048576 ∷ []) ≡ bytes "0" ∷ bytes "9" ∷ bytes "10" ∷ bytes "4096" ∷ bytes "1048576" ∷ []
 unfolding decimal digitsWithin bytes
 digits-written = refl
+
+no-leading-zero : 48 < 52
+unfolding decimal digitsWithin
+no-leading-zero = decimal-leads 4096 (omega arith)
 
 -- the pairs (0, 0), (2, 0), (1, 1) of three columns: column by column, not row by row
 corner : ℕ → ℕ → Bool

@@ -85,12 +85,12 @@ pairOf entry = (number 0 entry - 1, number 1 entry - 1)
 abbrev pub diagonalPair : ℕ → ℕ × ℕ
 diagonalPair c = (c, c)
 
-abbrev pub diagonalPairs : ℕ → List (ℕ × ℕ)
-diagonalPairs n = tabulate diagonalPair n
+abbrev pub everyDiagonal : ℕ → List (ℕ × ℕ)
+everyDiagonal n = tabulate diagonalPair n
 
 -- the requests that the entries of a file of this dimension stand for: their pairs, in file order; no entries stand for every diagonal pair
 abbrev pub standFor : ℕ → List (List (List ℕ)) → List (ℕ × ℕ)
-standFor n [] = diagonalPairs n
+standFor n [] = everyDiagonal n
 standFor n (e ∷ es) = map pairOf (e ∷ es)
 
 abbrev pub fileRequests : List ℕ → List (ℕ × ℕ)
@@ -172,7 +172,7 @@ stand-entries n [] h = absurd (not-suc-le-zero h)
 stand-entries n (e ∷ es) h = refl
 
 -- no entries stand for every diagonal pair
-pub stand-diagonals : (n : ℕ) (es : List (List (List ℕ))) → length es ≡ 0 → standFor n es ≡ diagonalPairs n
+pub stand-diagonals : (n : ℕ) (es : List (List (List ℕ))) → length es ≡ 0 → standFor n es ≡ everyDiagonal n
 stand-diagonals n [] h = refl
 stand-diagonals n (e ∷ es) h = absurd (omega arith)
 

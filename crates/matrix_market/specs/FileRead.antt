@@ -166,9 +166,9 @@ module _ (n : ℕ) (S : ℕ → ℕ → Bool) where
       ap (λ (ls : List (List ℕ)). fromSize (laterLines ls)) lines-are
       ∙ ap (λ (b : Bool). cond b (fromSize (entryLines n S)) (sizeLine n count ∷ entryLines n S)) size-kept
 
-  pub size-is : sizeFields (fileOf n S) ≡ map decimal (n ∷ (n ∷ (count ∷ [])))
+  pub sizeFields-are : sizeFields (fileOf n S) ≡ map decimal (n ∷ (n ∷ (count ∷ [])))
   unfolding sizeFields firstLine
-  size-is = ap (λ (ls : List (List ℕ)). fields (firstLine ls)) body-is ∙ size-fields
+  sizeFields-are = ap (λ (ls : List (List ℕ)). fields (firstLine ls)) body-is ∙ size-fields
 
   -- the entries' fields
   abbrev entryList : List (List (List ℕ))
@@ -182,13 +182,13 @@ module _ (n : ℕ) (S : ℕ → ℕ → Bool) where
       ∙ nonempty-same entryList (cells-every [] (byColumn S) columnFirst (columnEnd n) entryFields filledOne n (λ c r _ _ _ _. refl))
 
   pub dimension-is : dimensionOf (fileOf n S) ≡ n
-  dimension-is = ap (number 0) size-is ∙ numeral-decimal n
+  dimension-is = ap (number 0) sizeFields-are ∙ numeral-decimal n
 
   other-is : number 1 (sizeFields (fileOf n S)) ≡ n
-  other-is = ap (number 1) size-is ∙ numeral-decimal n
+  other-is = ap (number 1) sizeFields-are ∙ numeral-decimal n
 
   count-is : number 2 (sizeFields (fileOf n S)) ≡ count
-  count-is = ap (number 2) size-is ∙ numeral-decimal count
+  count-is = ap (number 2) sizeFields-are ∙ numeral-decimal count
 
   entries-count : length (entries (fileOf n S)) ≡ count
   entries-count = ap length entries-are ∙ setSize-length n S entryFields
@@ -270,7 +270,7 @@ module _ (n : ℕ) (S : ℕ → ℕ → Bool) (filled : 0 < n → 0 < setSize n 
   module _ (small : n ≤ maxDimension) (few : setSize n S ≤ maxEntries) (rows columns : ℕ) (rows-room : setSize n S ≤ rows) (columns-room : setSize n S ≤ columns) where
     size-formed : areNumbers 3 (sizeFields (fileOf n S)) ≡ true
     unfolding areNumbers
-    size-formed = ap (areNumbers 3) (size-is n S) ∙ decimals-formed (n ∷ (n ∷ (setSize n S ∷ [])))
+    size-formed = ap (areNumbers 3) (sizeFields-are n S) ∙ decimals-formed (n ∷ (n ∷ (setSize n S ∷ [])))
 
     size-passes : Passed (fileSizeSteps (sizeFields (fileOf n S)))
     unfolding fileSizeSteps

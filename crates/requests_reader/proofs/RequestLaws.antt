@@ -10,7 +10,7 @@ use borrow.Author.Tests.{eq-eqb, ne-eqb}
 use Rattle.lists.specs.Select.{map-snoc}
 use Rattle.lists.specs.Tabulate.{tabulate}
 use Rattle.lists.specs.Overwrite.{overwrite, filled, filled-none, filled-more}
-use Rattle.matrix_market.specs.File.{diagonalPair, diagonalPairs, requestRows, requestColumns, standFor, stand-entries, stand-diagonals, requestCount}
+use Rattle.matrix_market.specs.File.{diagonalPair, everyDiagonal, requestRows, requestColumns, standFor, stand-entries, stand-diagonals, requestCount}
 use Rattle.requests_reader.specs.EntryLines.{entriesFrom, pairsFrom, StoreEntriesInput, RequestsStored}
 
 -- ---- how many
@@ -56,12 +56,12 @@ module _ (n : ℕ) (rows₀ columns₀ : List ℕ) where
           most = omega arith;
         }
 
-    pub diagonal-end : n ≤ k → RequestsStored (diagonalPairs n) rows₀ columns₀ rows columns
+    pub diagonal-end : n ≤ k → RequestsStored (everyDiagonal n) rows₀ columns₀ rows columns
     unfolding filled
     diagonal-end h =
         let e : k ≡ n = omega (arith, D .most) in
-        let r : requestRows (diagonalPairs n) ≡ tabulate (λ i. i) n = tabulate-map (λ (p : ℕ × ℕ). p .0) diagonalPair n in
-        let c : requestColumns (diagonalPairs n) ≡ tabulate (λ i. i) n = tabulate-map (λ (p : ℕ × ℕ). p .1) diagonalPair n in
+        let r : requestRows (everyDiagonal n) ≡ tabulate (λ i. i) n = tabulate-map (λ (p : ℕ × ℕ). p .0) diagonalPair n in
+        let c : requestColumns (everyDiagonal n) ≡ tabulate (λ i. i) n = tabulate-map (λ (p : ℕ × ℕ). p .1) diagonalPair n in
         record {
           rows-are = D .rows-are ∙ ap (λ (i : ℕ). overwrite (tabulate (λ j. j) i) rows₀) e ∙ ap (λ (l : List ℕ). overwrite l rows₀) (sym r);
           columns-are = D .columns-are ∙ ap (λ (i : ℕ). overwrite (tabulate (λ j. j) i) columns₀) e ∙ ap (λ (l : List ℕ). overwrite l columns₀) (sym c);
@@ -74,7 +74,7 @@ module _ (n : ℕ) (text : List ℕ) (p count : ℕ) (rows₀ columns₀ rows co
   abbrev Stored : List (ℕ × ℕ) → Type 0
   Stored requests = RequestsStored requests rows₀ columns₀ rows columns
 
-  pub stored-diagonals : count ≡ 0 → Stored (diagonalPairs n) → Stored (standFor n (entriesFrom text p))
+  pub stored-diagonals : count ≡ 0 → Stored (everyDiagonal n) → Stored (standFor n (entriesFrom text p))
   stored-diagonals e = subst Stored (sym (stand-diagonals n (entriesFrom text p) (I .counted ∙ e)))
 
   pub stored-entries : (count ≡ 0 → ⊥) → Stored (pairsFrom text p) → Stored (standFor n (entriesFrom text p))

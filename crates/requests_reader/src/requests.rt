@@ -3,7 +3,7 @@ ghost use Prim.Native.Nat.{_≤_};
 ghost use mathlib.Core.Path.{_≡_};
 ghost use lib.ListN.{length};
 ghost use Rattle.refusal.specs.Bounds.{maxDimension};
-ghost use Rattle.matrix_market.specs.File.{diagonalPairs, standFor, requestCount};
+ghost use Rattle.matrix_market.specs.File.{everyDiagonal, standFor, requestCount};
 ghost use Rattle.requests_reader.specs.EntryLines.{entriesFrom, StoreEntriesInput, RequestsStored};
 use super::entries::store_entries;
 
@@ -20,7 +20,7 @@ pub fn request_count(n: usize, count: usize) -> usize
 // Stores the diagonal pairs of n columns to the front of the lists, ascending.
 fn store_diagonals(n: usize, rows: &mut [u32], columns: &mut [u32])
     requires { ⌜ (n ≤ maxDimension) × (n ≤ length (now rows)) × (n ≤ length (now columns)) ⌝ }
-    ensures { λ _. ⌜ RequestsStored (diagonalPairs n) (now (rows .entry)) (now (columns .entry)) (now (rows .exit)) (now (columns .exit)) ⌝ }
+    ensures { λ _. ⌜ RequestsStored (everyDiagonal n) (now (rows .entry)) (now (columns .entry)) (now (rows .exit)) (now (columns .exit)) ⌝ }
 {
     let mut k = 0;
     while k < n {
