@@ -9,7 +9,8 @@ use lib.Seq.{length-take-le}
 use borrow.Author.Tests.{lt-ltb, le-ltb}
 use Rattle.lists.specs.Tabulate.{tabulate, tabulate-length}
 use Rattle.lists.specs.Overwrite.{overwrite, splice, splice-first, filled, cleared, filled-all}
-use Rattle.refusal.specs.Steps.{Step, refused, answered, first, after, settle, verdict, Passed, first-hit, first-skip, first-end, first-refused, first-passed, after-refused, after-passed, append-refused, append-passed}
+use Rattle.refusal.specs.Steps.{Step, refused, answered, first, after, settle, verdict, Passed}
+use Rattle.refusal.specs.Steps.{first-hit, first-skip, first-end, first-refused, first-passed, after-refused, after-passed, append-refused, append-passed}
 use Rattle.refusal.specs.Refusal.{refusalNumber}
 use Rattle.refusal.specs.declared.Refusal.{Refusal}
 use Rattle.refusal.specs.declared.Refusal.the-variants.{TooShort}
@@ -36,7 +37,8 @@ module _ (n : ℕ) (S : ℕ → ℕ → Bool) (marks output : List ℕ) where
           output-is = sym (after-refused steps 7 (overwrite (fileOf n S) output) output t);
         }
 
-    pub set-all : {marks′ output′ : List ℕ} → marks′ ≡ cleared (length marks) marks → m ≤ length output → output′ ≡ splice 0 (fileOf n S) output → SetWritten n S (Written m) marks output marks′ output′
+    pub set-all : {marks′ output′ : List ℕ} → marks′ ≡ cleared (length marks) marks → m ≤ length output → output′ ≡ splice 0 (fileOf n S) output
+        → SetWritten n S (Written m) marks output marks′ output′
     set-all c h q =
         let t : Passed steps = first-skip 7 [] tt (le-ltb _ _ (subst (λ (k : ℕ). k ≤ length output) e h)) (first-end tt) in
         record {
@@ -74,7 +76,8 @@ module _ (n : ℕ) (rows columns output scratch : List ℕ) where
   file = requestsFile n rows columns
 
   -- the requests are refused: nothing is touched
-  pub requests-refused : (why : Refusal) → verdict (writeChecks n rows columns) ≡ refused (refusalNumber why) → RequestsWritten n rows columns output scratch (Refused why) output scratch
+  pub requests-refused : (why : Refusal) → verdict (writeChecks n rows columns) ≡ refused (refusalNumber why)
+      → RequestsWritten n rows columns output scratch (Refused why) output scratch
   requests-refused why e =
       let part = append-refused (writeChecks n rows columns) _ (refusalNumber why) tt e in
       let whole = append-refused (markSteps n rows columns (length scratch)) (outputStep (length file) (length output) ∷ []) (refusalNumber why) tt part in
@@ -98,7 +101,8 @@ module _ (n : ℕ) (rows columns output scratch : List ℕ) where
         }
 
     -- the marks are the scratch's first words
-    pub scratch-part : {reply : WrittenRequests} {part left output′ scratch′ : List ℕ} → markWords n ≤ length scratch → part ≡ take (markWords n) scratch → scratch′ ≡ left ++ drop (markWords n) scratch
+    pub scratch-part : {reply : WrittenRequests} {part left output′ scratch′ : List ℕ} → markWords n ≤ length scratch → part ≡ take (markWords n) scratch
+        → scratch′ ≡ left ++ drop (markWords n) scratch
         → SetWritten n (requested rows columns) reply part output left output′ → RequestsWritten n rows columns output scratch reply output′ scratch′
     unfolding after
     scratch-part {reply} {part} h a q W =

@@ -49,7 +49,8 @@ module _ (n : ℕ) (rows columns output₀ scratch₀ : List ℕ) {reply : Writt
   answer-set r c = ap (λ (t : List ℕ). requested (fileRows t) (fileColumns t) r c) answer-bytes ∙ written-requested n rows columns checked r c
 
 -- two calls that answer, with equal sets of one dimension: as many bytes, and equal ones
-pub same-bytes : (n : ℕ) (rows columns output₀ scratch₀ rows′ columns′ output₀′ scratch₀′ : List ℕ) {reply reply′ : WrittenRequests} {output scratch output′ scratch′ : List ℕ}
+pub same-bytes : (n : ℕ) (rows columns output₀ scratch₀ rows′ columns′ output₀′ scratch₀′ : List ℕ)
+    {reply reply′ : WrittenRequests} {output scratch output′ scratch′ : List ℕ}
     → RequestsWritten n rows columns output₀ scratch₀ reply output scratch → RequestsWritten n rows′ columns′ output₀′ scratch₀′ reply′ output′ scratch′
     → {m m′ : ℕ} → writtenReply reply ≡ answered m → writtenReply reply′ ≡ answered m′
     → ((r c : ℕ) → c ≤ r → r < n → requested rows columns r c ≡ requested rows′ columns′ r c) → (m ≡ m′) × (take m output ≡ take m′ output′)

@@ -23,7 +23,10 @@ mark-words-requires : tie.Need-mark-words-requires
 mark-words-requires c κs = writeChecks-small _ _ _ (c .before .before .before .before .pre)
 
 returns : tie.Need-returns
-returns c = let s = begin (c .before) in let a = s .args in scratch-short (a .n) (now (a .rows)) (now (a .columns)) (now (a .output)) (now (a .scratch)) (s .pre) (omega (arith, c .if1 .taken, c .before .mark-words .ensures .0))
+returns c =
+    let s = begin (c .before) in
+    let a = s .args in
+    scratch-short (a .n) (now (a .rows)) (now (a .columns)) (now (a .output)) (now (a .scratch)) (s .pre) (omega (arith, c .if1 .taken, c .before .mark-words .ensures .0))
 
 sub-write-with : tie.Need-sub-write-with
 sub-write-with c = search needs

@@ -55,7 +55,10 @@ pair-total-requires : tie.Need-pair-total-requires
 pair-total-requires c κs = search needs
 
 count-bits-requires : tie.Need-count-bits-requires
-count-bits-requires c κs = let t = c .pair-total .ensures in let P = c .before .before .before .before .pre in (omega arith, omega (arith, t .1), omega (arith, ap bitWords (t .0), P .1))
+count-bits-requires c κs =
+    let t = c .pair-total .ensures in
+    let P = c .before .before .before .before .pre in
+    (omega arith, omega (arith, t .1), omega (arith, ap bitWords (t .0), P .1))
 
 head-length-requires : tie.Need-head-length-requires
 head-length-requires c κs = let s = begin c in (s .pre .0, omega (arith, counted c, size-small (s .args .n) (set s) (s .pre .0)))
@@ -64,7 +67,9 @@ slice-aggregate-lines-length : tie.Need-slice-aggregate-lines-length
 slice-aggregate-lines-length c = search needs
 
 lines-length-requires : tie.Need-lines-length-requires
-lines-length-requires c κs = let s = begin (c .before .before .before) in record { small = s .pre .0; all = s .pre .1; room = omega (arith, s .pre .0, length-replicate {A = ℕ} maxDimension 0) }
+lines-length-requires c κs =
+    let s = begin (c .before .before .before) in
+    record { small = s .pre .0; all = s .pre .1; room = omega (arith, s .pre .0, length-replicate {A = ℕ} maxDimension 0) }
 
 add-length : tie.Need-add-length
 add-length c = let l = c .before in omega (arith, l .before .before .before .head-length .ensures .1, l .lines-length .ensures .1)

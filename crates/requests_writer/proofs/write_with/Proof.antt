@@ -10,7 +10,10 @@ mark-requests-requires : tie.Need-mark-requests-requires
 mark-requests-requires c κs = search needs
 
 write-marked-requires : tie.Need-write-marked-requires
-write-marked-requires c κs = let m = c .before .before .before .before in let s = m .before .before .before .before .before .before in (s .pre .small, m .mark-requests .ensures .long ∙ s .pre .all)
+write-marked-requires c κs =
+    let m = c .before .before .before .before in
+    let s = m .before .before .before .before .before .before in
+    (s .pre .small, m .mark-requests .ensures .long ∙ s .pre .all)
 
 same-length : tie.Need-same-length
 same-length c = search needs

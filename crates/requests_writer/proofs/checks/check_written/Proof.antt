@@ -24,7 +24,10 @@ unfolding writeChecks
 returns-3 c =
     let e2 = c .before in
     let e1 = e2 .before in
-    sym (first-skip 1 _ tt (le-ltb _ _ (e1 .if1 .left)) (first-skip 1 _ tt (le-ltb _ _ (e2 .if2 .left)) (first-hit 4 _ tt (ap not (ne-eqb _ _ (c .if3 .taken))))))
+    sym
+    (first-skip 1 _ tt (le-ltb _ _ (e1 .if1 .left))
+    (first-skip 1 _ tt (le-ltb _ _ (e2 .if2 .left))
+    (first-hit 4 _ tt (ap not (ne-eqb _ _ (c .if3 .taken))))))
 
 index-outside-requires : tie.Need-index-outside-requires
 index-outside-requires c κs = search needs
@@ -35,7 +38,11 @@ returns-4 c =
     let e3 = c .before .before in
     let e2 = e3 .before in
     let e1 = e2 .before in
-    sym (first-skip 1 _ tt (le-ltb _ _ (e1 .if1 .left)) (first-skip 1 _ tt (le-ltb _ _ (e2 .if2 .left)) (first-skip 4 _ tt (ap not (eq-eqb _ _ (e3 .if3 .left))) (first-hit 5 _ tt (sym (c .before .index-outside .ensures) ∙ c .if4 .taken)))))
+    sym
+    (first-skip 1 _ tt (le-ltb _ _ (e1 .if1 .left))
+    (first-skip 1 _ tt (le-ltb _ _ (e2 .if2 .left))
+    (first-skip 4 _ tt (ap not (eq-eqb _ _ (e3 .if3 .left)))
+    (first-hit 5 _ tt (sym (c .before .index-outside .ensures) ∙ c .if4 .taken)))))
 
 index-outside-requires-2 : tie.Need-index-outside-requires-2
 index-outside-requires-2 c κs = search needs
@@ -47,7 +54,12 @@ returns-5 c =
     let e3 = e4 .before .before in
     let e2 = e3 .before in
     let e1 = e2 .before in
-    sym (first-skip 1 _ tt (le-ltb _ _ (e1 .if1 .left)) (first-skip 1 _ tt (le-ltb _ _ (e2 .if2 .left)) (first-skip 4 _ tt (ap not (eq-eqb _ _ (e3 .if3 .left))) (first-skip 5 _ tt (sym (e4 .before .index-outside .ensures) ∙ e4 .if4 .left) (first-hit 5 _ tt (sym (c .before .index-outside2 .ensures) ∙ c .if5 .taken))))))
+    sym
+    (first-skip 1 _ tt (le-ltb _ _ (e1 .if1 .left))
+    (first-skip 1 _ tt (le-ltb _ _ (e2 .if2 .left))
+    (first-skip 4 _ tt (ap not (eq-eqb _ _ (e3 .if3 .left)))
+    (first-skip 5 _ tt (sym (e4 .before .index-outside .ensures) ∙ e4 .if4 .left)
+    (first-hit 5 _ tt (sym (c .before .index-outside2 .ensures) ∙ c .if5 .taken))))))
 
 some-upper-requires : tie.Need-some-upper-requires
 some-upper-requires c κs = search needs
@@ -60,7 +72,13 @@ returns-6 c =
     let e3 = e4 .before .before in
     let e2 = e3 .before in
     let e1 = e2 .before in
-    sym (first-skip 1 _ tt (le-ltb _ _ (e1 .if1 .left)) (first-skip 1 _ tt (le-ltb _ _ (e2 .if2 .left)) (first-skip 4 _ tt (ap not (eq-eqb _ _ (e3 .if3 .left))) (first-skip 5 _ tt (sym (e4 .before .index-outside .ensures) ∙ e4 .if4 .left) (first-skip 5 _ tt (sym (e5 .before .index-outside2 .ensures) ∙ e5 .if5 .left) (first-hit 5 _ tt (sym (c .before .some-upper .ensures) ∙ c .if6 .taken)))))))
+    sym
+    (first-skip 1 _ tt (le-ltb _ _ (e1 .if1 .left))
+    (first-skip 1 _ tt (le-ltb _ _ (e2 .if2 .left))
+    (first-skip 4 _ tt (ap not (eq-eqb _ _ (e3 .if3 .left)))
+    (first-skip 5 _ tt (sym (e4 .before .index-outside .ensures) ∙ e4 .if4 .left)
+    (first-skip 5 _ tt (sym (e5 .before .index-outside2 .ensures) ∙ e5 .if5 .left)
+    (first-hit 5 _ tt (sym (c .before .some-upper .ensures) ∙ c .if6 .taken)))))))
 
 no-requests-requires : tie.Need-no-requests-requires
 no-requests-requires c κs = search needs
@@ -74,7 +92,14 @@ returns-7 c =
     let e3 = e4 .before .before in
     let e2 = e3 .before in
     let e1 = e2 .before in
-    sym (first-skip 1 _ tt (le-ltb _ _ (e1 .if1 .left)) (first-skip 1 _ tt (le-ltb _ _ (e2 .if2 .left)) (first-skip 4 _ tt (ap not (eq-eqb _ _ (e3 .if3 .left))) (first-skip 5 _ tt (sym (e4 .before .index-outside .ensures) ∙ e4 .if4 .left) (first-skip 5 _ tt (sym (e5 .before .index-outside2 .ensures) ∙ e5 .if5 .left) (first-skip 5 _ tt (sym (e6 .before .some-upper .ensures) ∙ e6 .if6 .left) (first-hit 24 _ tt (sym (c .before .no-requests .ensures) ∙ c .if7 .taken))))))))
+    sym
+    (first-skip 1 _ tt (le-ltb _ _ (e1 .if1 .left))
+    (first-skip 1 _ tt (le-ltb _ _ (e2 .if2 .left))
+    (first-skip 4 _ tt (ap not (eq-eqb _ _ (e3 .if3 .left)))
+    (first-skip 5 _ tt (sym (e4 .before .index-outside .ensures) ∙ e4 .if4 .left)
+    (first-skip 5 _ tt (sym (e5 .before .index-outside2 .ensures) ∙ e5 .if5 .left)
+    (first-skip 5 _ tt (sym (e6 .before .some-upper .ensures) ∙ e6 .if6 .left)
+    (first-hit 24 _ tt (sym (c .before .no-requests .ensures) ∙ c .if7 .taken))))))))
 
 returns-8 : tie.Need-returns-8
 unfolding writeChecks
@@ -86,7 +111,15 @@ returns-8 c =
     let e3 = e4 .before .before in
     let e2 = e3 .before in
     let e1 = e2 .before in
-    sym (first-skip 1 _ tt (le-ltb _ _ (e1 .if1 .left)) (first-skip 1 _ tt (le-ltb _ _ (e2 .if2 .left)) (first-skip 4 _ tt (ap not (eq-eqb _ _ (e3 .if3 .left))) (first-skip 5 _ tt (sym (e4 .before .index-outside .ensures) ∙ e4 .if4 .left) (first-skip 5 _ tt (sym (e5 .before .index-outside2 .ensures) ∙ e5 .if5 .left) (first-skip 5 _ tt (sym (e6 .before .some-upper .ensures) ∙ e6 .if6 .left) (first-skip 24 _ tt (sym (e7 .before .no-requests .ensures) ∙ e7 .if7 .left) (first-end tt))))))))
+    sym
+    (first-skip 1 _ tt (le-ltb _ _ (e1 .if1 .left))
+    (first-skip 1 _ tt (le-ltb _ _ (e2 .if2 .left))
+    (first-skip 4 _ tt (ap not (eq-eqb _ _ (e3 .if3 .left)))
+    (first-skip 5 _ tt (sym (e4 .before .index-outside .ensures) ∙ e4 .if4 .left)
+    (first-skip 5 _ tt (sym (e5 .before .index-outside2 .ensures) ∙ e5 .if5 .left)
+    (first-skip 5 _ tt (sym (e6 .before .some-upper .ensures) ∙ e6 .if6 .left)
+    (first-skip 24 _ tt (sym (e7 .before .no-requests .ensures) ∙ e7 .if7 .left)
+    (first-end tt))))))))
 
 pub check-written-spec : {M : Type 1} → statement M
 check-written-spec =

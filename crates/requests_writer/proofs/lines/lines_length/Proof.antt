@@ -16,7 +16,9 @@ use Rattle.requests_writer.proofs.lines.lines_length.Statement.{stateme
 use Rattle.requests_writer.proofs.lines.lines_length.Tie as tie
 
 abbrev Inv-loop : tie.InvT-loop
-Inv-loop n marks list₀ total₀ place₀ c₀ list total place c = (total ≡ length (columnsBytes n (columnMarking n marks) c)) × (total ≤ lineMost * pairsTo n (columnMarking n marks) c) × (place ≡ colStart n c) × (c ≤ n) × (length list ≡ length list₀)
+Inv-loop n marks list₀ total₀ place₀ c₀ list total place c =
+    (total ≡ length (columnsBytes n (columnMarking n marks) c)) × (total ≤ lineMost * pairsTo n (columnMarking n marks) c)
+    × (place ≡ colStart n c) × (c ≤ n) × (length list ≡ length list₀)
 
 abbrev μ-loop : tie.MeasureT-loop
 μ-loop n marks list₀ total₀ place₀ c₀ list total place c = n - c
@@ -63,7 +65,10 @@ rows-length-requires : tie.Need-rows-length-requires Inv-loop μ-loop
 rows-length-requires c κs = let b = c .before .before .before in column b .0
 
 add-total : tie.Need-add-total Inv-loop μ-loop
-add-total c = let b = c .before .before .before .before in let q = b .before .before .before in omega (arith, q .loop .inv .1, c .rows-length .ensures .1, column b .2, column b .4)
+add-total c =
+    let b = c .before .before .before .before in
+    let q = b .before .before .before in
+    omega (arith, q .loop .inv .1, c .rows-length .ensures .1, column b .2, column b .4)
 
 sub-place : tie.Need-sub-place Inv-loop μ-loop
 sub-place c = search needs

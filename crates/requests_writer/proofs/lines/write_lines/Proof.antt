@@ -15,7 +15,9 @@ use Rattle.requests_writer.proofs.lines.write_lines.Statement.{statemen
 use Rattle.requests_writer.proofs.lines.write_lines.Tie as tie
 
 abbrev Inv-loop : tie.InvT-loop
-Inv-loop n marks list₀ start text₀ next₀ place₀ c₀ list text next place c = Wrote (columnsBytes n (columnMarking n marks) c) start text₀ text next × (place ≡ colStart n c) × (c ≤ n) × (length list ≡ length list₀) × (length text ≡ length text₀)
+Inv-loop n marks list₀ start text₀ next₀ place₀ c₀ list text next place c =
+    Wrote (columnsBytes n (columnMarking n marks) c) start text₀ text next × (place ≡ colStart n c) × (c ≤ n)
+    × (length list ≡ length list₀) × (length text ≡ length text₀)
 
 abbrev μ-loop : tie.MeasureT-loop
 μ-loop n marks list₀ start text₀ next₀ place₀ c₀ list text next place c = n - c
@@ -58,7 +60,9 @@ room b =
     omega (arith, e, m, length-append (columnsBytes (a .n) S (l .c)) (rowsBytes (l .c) (take (b .list-bits .result) (b .list-bits .last .1 .1 .1 .1 .0))), begin q .pre .1, l .inv .0 .next-is, l .inv .4)
 
 loop-holds : tie.Need-loop-holds Inv-loop μ-loop
-loop-holds c = let a = c .before .before .before .args in (wrote-cong (sym (columns-none (a .n) (columnMarking (a .n) (now (a .marks))))) (wrote-none (a .start) (now (a .text))), sym (colStart-none _), omega arith, refl, refl)
+loop-holds c =
+    let a = c .before .before .before .args in
+    (wrote-cong (sym (columns-none (a .n) (columnMarking (a .n) (now (a .marks))))) (wrote-none (a .start) (now (a .text))), sym (colStart-none _), omega arith, refl, refl)
 
 list-bits-requires : tie.Need-list-bits-requires Inv-loop μ-loop
 list-bits-requires c κs =

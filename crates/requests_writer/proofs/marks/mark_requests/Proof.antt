@@ -86,7 +86,10 @@ same-length : tie.Need-same-length Inv-loop μ-loop
 same-length c = let q = c .before in q .loop .inv .long ∙ clean-long _ _ _ _ (start q .pre) _ (wiped q .clear .ensures)
 
 returns : tie.Need-returns Inv-loop μ-loop
-returns c = let q = c .before in let M = marked-end _ _ _ _ (input q) _ _ (q .loop .inv) (c .loop-test .left) in record { marks-are = M .marks-are; long = M .long ∙ clean-long _ _ _ _ (start q .pre) _ (wiped q .clear .ensures) }
+returns c =
+    let q = c .before in
+    let M = marked-end _ _ _ _ (input q) _ _ (q .loop .inv) (c .loop-test .left) in
+    record { marks-are = M .marks-are; long = M .long ∙ clean-long _ _ _ _ (start q .pre) _ (wiped q .clear .ensures) }
 
 pub mark-requests-spec : {M : Type 1} → statement M
 mark-requests-spec =

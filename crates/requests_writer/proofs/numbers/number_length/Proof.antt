@@ -18,7 +18,9 @@ loop-holds : tie.Need-loop-holds Inv-loop μ-loop
 loop-holds c = search needs
 
 add-m : tie.Need-add-m Inv-loop μ-loop
-add-m c = let l = c .before .loop in omega (arith, l .inv .0, l .inv .1, decimal-longer (l .y) (c .loop-test .taken), decimal-some (l .y / 10), decimal-less (c .before .before .args .x) (omega (arith, l .inv .1, c .loop-test .taken)))
+add-m c =
+    let l = c .before .loop in
+    omega (arith, l .inv .0, l .inv .1, decimal-longer (l .y) (c .loop-test .taken), decimal-some (l .y / 10), decimal-less (c .before .before .args .x) (omega (arith, l .inv .1, c .loop-test .taken)))
 
 loop-less : tie.Need-loop-less Inv-loop μ-loop
 loop-less c = search needs

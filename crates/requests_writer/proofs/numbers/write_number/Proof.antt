@@ -45,7 +45,10 @@ slice-write-text : tie.Need-slice-write-text Inv-loop μ-loop
 slice-write-text c = let q = c .before .before in digits-inside _ _ _ (start q .pre) _ _ _ (q .loop .inv .0)
 
 sub-i-2 : tie.Need-sub-i-2 Inv-loop μ-loop
-sub-i-2 c = let t = c .before in let l = t .before .loop in omega (arith, l .inv .0 .place-is, decimal-longer (l .y) (t .loop-test .taken), decimal-some (l .y / 10))
+sub-i-2 c =
+    let t = c .before in
+    let l = t .before .loop in
+    omega (arith, l .inv .0 .place-is, decimal-longer (l .y) (t .loop-test .taken), decimal-some (l .y / 10))
 
 loop-less : tie.Need-loop-less Inv-loop μ-loop
 loop-less c = search needs

@@ -33,7 +33,9 @@ room t r e =
     omega (arith, n, m, P .1, l .inv .0 .next-is, l .inv .2, ap (λ (x : ℕ). length (entryBytes (a .c) x)) e)
 
 loop-holds : tie.Need-loop-holds Inv-loop μ-loop
-loop-holds c = let a = c .before .before .args in (wrote-cong (sym (rows-none (a .c) (now (a .rows)))) (wrote-none (a .place) (now (a .text))), omega arith, refl)
+loop-holds c =
+    let a = c .before .before .args in
+    (wrote-cong (sym (rows-none (a .c) (now (a .rows)))) (wrote-none (a .place) (now (a .text))), omega arith, refl)
 
 at-requires : tie.Need-at-requires Inv-loop μ-loop
 at-requires c κs = let q = c .before in omega (arith, c .loop-test .taken, start q .pre .0 .listed)
