@@ -155,13 +155,13 @@ fn sys_numbers() -> BTreeSet<String> {
 #[test]
 fn functions() {
     assert_eq!(sys_functions(), header_functions());
-    assert_eq!(sys_functions().len(), 28);
+    assert_eq!(sys_functions().len(), 29);
 }
 
 #[test]
 fn structs() {
     assert_eq!(sys_structs(), header_structs());
-    assert_eq!(sys_structs().len(), 9);
+    assert_eq!(sys_structs().len(), 10);
 }
 
 #[test]
