@@ -4,11 +4,13 @@
 //! nothing is held but one case and its answer. What the library must reply and leave is the Rust's answer; where
 //! document 01 refuses, or document 02 a factor that is not finite, it is that refusal, and how the Rust differs is
 //! counted. The set `whole` is the driver's own: calls of the whole-number engine, which the Rust answers as floats. So is
-//! the set `variances`: rows whose weights are known within ranges, and tracks, which the Rust has not.
+//! the set `variances`: rows whose weights are known within ranges, and tracks, which the Rust has not; and the set
+//! `multiples`: selected entries in the exact case beyond unit diagonals.
 
 use crate::call::Call;
 use crate::chains::{chosen, Chains};
 use crate::engines::{compare_engines, compare_whole_cases, whole_call, Made};
+use crate::exactness::{compare_multiple_cases, Exactness};
 use crate::expected::Expected;
 use crate::function::{Function, LOOKUPS};
 use crate::lend::lend;
@@ -66,6 +68,7 @@ pub fn compare(folder: &Path, seeds: &[u64], huge: bool) -> io::Result<usize> {
             }
             compare_whole_cases(folder, seed, &mut tally)?;
             compare_variance_cases(seed, &mut tally);
+            compare_multiple_cases(seed, &mut tally);
         }
     }
     tally.report();
@@ -76,6 +79,14 @@ pub fn compare(folder: &Path, seeds: &[u64], huge: bool) -> io::Result<usize> {
 pub fn compare_variances(seeds: &[u64]) -> usize {
     let mut tally = Tally::default();
     seeds_of(seeds).iter().for_each(|&seed| compare_variance_cases(seed, &mut tally));
+    tally.report();
+    tally.unexpected
+}
+
+/// The same of the set `multiples` alone.
+pub fn compare_multiples(seeds: &[u64]) -> usize {
+    let mut tally = Tally::default();
+    seeds_of(seeds).iter().for_each(|&seed| compare_multiple_cases(seed, &mut tally));
     tally.report();
     tally.unexpected
 }
@@ -103,6 +114,7 @@ pub struct Tally {
     /// of calls of the whole-number engine that look at sizes: the kinds of numbers that pass 2^53, how often
     sizes: BTreeMap<Vec<Kind>, usize>,
     pub choices: Choices,
+    pub exactness: Exactness,
     /// how the Rust differs where a document says otherwise: how often, and a case
     intended: BTreeMap<String, (usize, String)>,
     pub unexpected: usize,
@@ -166,6 +178,7 @@ impl Tally {
             println!("  {kinds:?}: {count}");
         }
         self.choices.report();
+        self.exactness.report();
         if !self.intended.is_empty() {
             println!("\nwhere a document says otherwise than the Rust");
         }

@@ -1,11 +1,13 @@
 //! The library's driver: comparison with the Rust's functions, malformed calls, benchmark.
 
 mod benchmark;
+mod big;
 mod bounds;
 mod call;
 mod chains;
 mod compare;
 mod engines;
+mod exactness;
 mod expected;
 mod faults;
 mod files;
@@ -16,6 +18,8 @@ mod list;
 mod lookups;
 mod malformed;
 mod matrix_market;
+mod multiple_cases;
+mod multiples;
 mod random;
 mod ranges;
 mod reading;
@@ -44,6 +48,7 @@ const USAGE: &str = "usage:
   driver compare ORACLE_FOLDER [SEED..]            every set but huge with each seed, 1 7 11 where none is given
   driver compare ORACLE_FOLDER --huge              the set huge
   driver compare-variances [SEED..]                the set of rows and tracks over results alone, which needs no oracle
+  driver compare-multiples [SEED..]                the set of the exact case beyond unit diagonals alone, which needs none
   driver malformed [COUNT [SEED [FIRST]]] [--only FUNCTION] [--bare]
                                                    random calls, 1,000,000 where no number is given, from call FIRST on;
                                                    with --only of one function, named as in the header without
@@ -101,6 +106,10 @@ fn run(words: &[&str]) -> Option<std::io::Result<usize>> {
         ["compare-variances", seeds @ ..] => {
             let seeds: Vec<u64> = seeds.iter().map(|s| s.parse().ok()).collect::<Option<_>>()?;
             Some(Ok(compare::compare_variances(&seeds)))
+        }
+        ["compare-multiples", seeds @ ..] => {
+            let seeds: Vec<u64> = seeds.iter().map(|s| s.parse().ok()).collect::<Option<_>>()?;
+            Some(Ok(compare::compare_multiples(&seeds)))
         }
         ["malformed", rest @ .., "--bare"] => {
             list::leave_out_guards();

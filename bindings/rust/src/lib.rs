@@ -47,6 +47,7 @@ mod columns;
 mod covariances;
 mod diagnostics;
 mod error;
+mod exact;
 mod factor;
 mod floor;
 mod index;
@@ -70,6 +71,10 @@ pub use covariances::{
 };
 pub use diagnostics::{SelectedInverseDiagnostics, SelectedInverseStatus};
 pub use error::Error;
+pub use exact::{
+    exact_multipliers, least_exact_multipliers, ExactFault, ExactMultipliers, ExactStep, Fraction, NotExact, Uncovered,
+    MAX_SCALE,
+};
 pub use factor::{CholeskyFactor, SparseCholeskyFactor};
 pub use floor::{count_and_least, stabilize_variances, CountAndLeast, StabilizedVariance, VarianceFloor};
 pub use inverse::{

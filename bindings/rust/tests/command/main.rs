@@ -2,6 +2,7 @@
 
 mod demo;
 mod document;
+mod exact;
 mod factors;
 mod operators;
 mod pictures;

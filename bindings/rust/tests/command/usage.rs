@@ -55,6 +55,23 @@ fn bad_usage() {
         (&["f2.mtx", "--whole", "--whole"], "--whole is given twice"),
         (&["f2.mtx", "--whole", "--why=1,2"], "--why does not go with --whole"),
         (&["--demo", "--whole"], "--demo does not go with --whole"),
+        (&["f2.mtx", "--exact"], "--exact needs a value"),
+        (
+            &["f2.mtx", "--exact=54"],
+            "--exact needs a whole number from 0 to 53, or least, not 54",
+        ),
+        (
+            &["--exact", "f2.mtx"],
+            "--exact needs a whole number from 0 to 53, or least, not f2.mtx",
+        ),
+        (&["f2.mtx", "--exact=4", "--exact=4"], "--exact is given twice"),
+        (&["f2.mtx", "--exact=4", "--whole"], "--exact does not go with --whole"),
+        (
+            &["f2.mtx", "--exact=4", "--operator=a.mtx"],
+            "--exact does not go with --operator",
+        ),
+        (&["f2.mtx", "--exact=4", "--why=1,2"], "--exact does not go with --why"),
+        (&["--demo", "--exact=4"], "--demo does not go with --exact"),
         (
             &["f2.mtx", "--whole", "--track=t.txt"],
             "--track and --width need each other",

@@ -10,6 +10,8 @@ pub const BAD_FILE: u8 = 1;
 pub const BAD_USAGE: u8 = 2;
 /// The closed set passes the limit, so there are no values.
 pub const TOO_MANY_PAIRS: u8 = 3;
+/// With `--exact`, a number for which the theorem does not cover the call.
+pub const NOT_EXACT: u8 = 4;
 /// A refusal's number is added to this.
 pub const REFUSED: u8 = 10;
 

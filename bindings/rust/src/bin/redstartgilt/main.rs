@@ -3,6 +3,7 @@
 mod calibration;
 mod cell_lists;
 mod demo;
+mod exact;
 mod failure;
 mod grid;
 mod html;
@@ -22,6 +23,7 @@ mod trail;
 mod wholes;
 mod why;
 
+use exact::Exact;
 use failure::{written, Failure};
 use map::{Cell, Map, Placed};
 use options::{Command, Options};
@@ -107,10 +109,17 @@ fn run_factor(output: &mut impl Write, file: &Path, options: &Options) -> Result
         return written(report::why(output, options.csv, why, None));
     }
     let found = find(file.display(), &factor, &requested, options)?;
+    let scale = options
+        .exact
+        .map(|scale| exact::check(file.display(), &factor, &requested, scale));
+    let scale = scale.transpose()?;
     if let Some(placed) = &placed {
         let cells = found.variances.iter().map(|variance| cell_of(*variance));
         let map = Map {
-            title: &format!("Variances of {}", name_of(file)),
+            title: &match scale {
+                Some(_) => format!("Exact variances of {}", name_of(file)),
+                None => format!("Variances of {}", name_of(file)),
+            },
             unit: None,
             cells: &cells.collect::<Vec<_>>(),
             placed,
@@ -120,9 +129,29 @@ fn run_factor(output: &mut impl Write, file: &Path, options: &Options) -> Result
         };
         write_map(options, &map)?;
     }
-    match &why {
-        Some(why) => written(report::why(output, options.csv, why, placed.as_ref())),
-        None => print(output, options, found),
+    match (&why, scale) {
+        (Some(why), _) => written(report::why(output, options.csv, why, placed.as_ref())),
+        (None, Some(scale)) => {
+            if !options.csv {
+                written(writeln!(output, "{}", exact::yes(scale)))?;
+            }
+            print(output, options, found.exact())
+        }
+        (None, None) => print(output, options, found),
+    }
+}
+
+impl Found {
+    /// The same, of values that are exact.
+    fn exact(self) -> Found<Exact> {
+        let entries = self.entries.into_iter();
+        Found {
+            diagnostics: self.diagnostics,
+            variances: self.variances.into_iter().map(|variance| variance.map(Exact)).collect(),
+            entries: entries
+                .map(|(row, column, value)| (row, column, Exact(value)))
+                .collect(),
+        }
     }
 }
 

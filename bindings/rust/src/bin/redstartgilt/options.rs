@@ -1,5 +1,6 @@
 //! The words of the command line.
 
+use crate::exact::Scale;
 use crate::failure::Failure;
 use crate::grid::Grid;
 use std::ffi::OsString;
@@ -44,6 +45,15 @@ Options:
                       size with 20. The message of 20 has the line of an entry of the file that is beyond it; or else,
                       where no more than 1,048,576 pairs are to be computed, the column of the factor in which the
                       recurrence, which goes from the last column to the first, comes upon such a number
+  --exact S           print the entries only where a proved theorem says that they are the exact ones. For one s from 0 to
+                      53 every kept entry of FACTOR must be a whole multiple of 2^-s, and every product, sum, quotient and
+                      entry of the recurrence, computed without rounding, one too with a multiplier of at most 2^53 in
+                      size; diagonals may then be 2, 4 or 1/2. S is that number, or the word least for the least that will
+                      do. The command checks these hypotheses and says yes, or no and which number fails and what it is,
+                      with the exit status 4; then nothing is promised, though a value may be exact all the same. The
+                      theorem is proved, this check is a program. Values have all their digits; --csv and maps say that
+                      they are exact as with --whole. Not with --whole, whose answers are exact, nor with --operator,
+                      --why and --demo
   --ranges FILE       with --whole: print bounds on the variance of weighted sums of cells whose weights are known within
                       ranges, and not the variances of the cells. Four whole numbers a line, in any order of the lines:
                       row, cell, and the low and the high end of the weight of that cell in that row's sum. The pairs of
@@ -101,6 +111,7 @@ Exit status:
   2   bad usage
   3   ClosureTooLarge: the requests, or the rows of operators, need more pairs than the limit; for the variances of all
       cells without --limit, --entries and --whole it is 18
+  4   with --exact: a number does not meet the theorem's hypotheses, and nothing is promised
   10 + N  the library refuses with number N:
 ";
 
@@ -131,6 +142,7 @@ pub struct Options {
     pub limit: Option<usize>,
     pub entries: bool,
     pub whole: bool,
+    pub exact: Option<Scale>,
     pub ranges: Option<PathBuf>,
     pub track: Option<PathBuf>,
     pub width: Option<usize>,
@@ -162,6 +174,7 @@ pub fn read(words: impl IntoIterator<Item = OsString>) -> Result<Command, Failur
         limit: None,
         entries: false,
         whole: false,
+        exact: None,
         ranges: None,
         track: None,
         width: None,
@@ -195,6 +208,7 @@ pub fn read(words: impl IntoIterator<Item = OsString>) -> Result<Command, Failur
                 | "--with"
                 | "--pairs"
                 | "--limit"
+                | "--exact"
                 | "--ranges"
                 | "--track"
                 | "--width"
@@ -219,6 +233,7 @@ pub fn read(words: impl IntoIterator<Item = OsString>) -> Result<Command, Failur
             "--with" => options.with.replace(value.into()).is_some(),
             "--pairs" => options.pairs.replace(value.into()).is_some(),
             "--limit" => options.limit.replace(number(name, &value)?).is_some(),
+            "--exact" => options.exact.replace(scale(&value)?).is_some(),
             "--ranges" => options.ranges.replace(value.into()).is_some(),
             "--track" => options.track.replace(value.into()).is_some(),
             "--width" => options.width.replace(number(name, &value)?).is_some(),
@@ -259,6 +274,7 @@ fn checked(options: Options, demo: bool) -> Result<Command, Failure> {
             ("--limit", options.limit.is_some()),
             ("--entries", options.entries),
             ("--whole", options.whole),
+            ("--exact", options.exact.is_some()),
             ("--grid", options.grid.is_some()),
         ];
         alone("--demo", &others)?;
@@ -274,6 +290,14 @@ fn checked(options: Options, demo: bool) -> Result<Command, Failure> {
         if options.grid.is_some() && options.svg.is_none() && options.html.is_none() {
             return Err(Failure::usage("--grid needs --svg or --html"));
         }
+    }
+    if options.exact.is_some() {
+        let others = [
+            ("--operator", options.operator.is_some()),
+            ("--whole", options.whole),
+            ("--why", options.why.is_some()),
+        ];
+        alone("--exact", &others)?;
     }
     if options.ranges.is_some() {
         let others = [
@@ -352,6 +376,15 @@ fn number(name: &str, value: &OsString) -> Result<usize, Failure> {
         Failure::usage(format!(
             "{name} needs a whole number up to {}, not {}",
             usize::MAX,
+            value.to_string_lossy()
+        ))
+    })
+}
+
+fn scale(value: &OsString) -> Result<Scale, Failure> {
+    Scale::read(value).ok_or_else(|| {
+        Failure::usage(format!(
+            "--exact needs a whole number from 0 to 53, or least, not {}",
             value.to_string_lossy()
         ))
     })

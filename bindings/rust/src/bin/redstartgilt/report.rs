@@ -12,12 +12,16 @@ pub trait Value: Copy + Debug {
     /// What stands before the word for a value, in a line of names.
     const EXACT: &'static str;
 
+    /// What says that values are exact.
+    const SENTENCE: Option<&'static str>;
+
     /// What is said of a summary's values as a whole; there is at least one.
     fn summary(values: &[Self]) -> String;
 }
 
 impl Value for f64 {
     const EXACT: &'static str = "";
+    const SENTENCE: Option<&'static str> = None;
 
     fn summary(values: &[Self]) -> String {
         let counted = count_and_least(values);
@@ -30,6 +34,7 @@ impl Value for f64 {
 
 impl Value for i64 {
     const EXACT: &'static str = "exact_";
+    const SENTENCE: Option<&'static str> = Some(EXACT);
 
     fn summary(values: &[Self]) -> String {
         format!("the least {}", values.iter().min().expect("there is one"))
@@ -52,13 +57,13 @@ pub fn counts(output: &mut impl Write, diagnostics: &SelectedInverseDiagnostics)
 /// Status and counts, and whether the values are exact.
 fn counts_of<V: Value>(output: &mut impl Write, diagnostics: &SelectedInverseDiagnostics) -> io::Result<()> {
     counts(output, diagnostics)?;
-    if V::EXACT.is_empty() {
-        return Ok(());
+    match V::SENTENCE {
+        Some(sentence) => writeln!(output, "{sentence}"),
+        None => Ok(()),
     }
-    writeln!(output, "{EXACT}")
 }
 
-/// The words that say that values are exact.
+/// The words that say that whole numbers are exact.
 pub const EXACT: &str = "Exact: computed in whole numbers, and nothing was rounded.";
 
 /// How many cells were computed, in two lines.
