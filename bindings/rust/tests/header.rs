@@ -152,7 +152,7 @@ fn sys_numbers() -> BTreeSet<String> {
 #[test]
 fn functions() {
     assert_eq!(sys_functions(), header_functions());
-    assert_eq!(sys_functions().len(), 28);
+    assert_eq!(sys_functions().len(), 30);
 }
 
 #[test]

@@ -5,6 +5,7 @@ mod document;
 mod factors;
 mod operators;
 mod pictures;
+mod pivots;
 mod ranges;
 mod requests;
 mod tracks;

@@ -48,6 +48,28 @@ fn bad_usage() {
         (&["f2.mtx", "--whole", "--whole"], "--whole is given twice"),
         (&["f2.mtx", "--whole", "--why=1,2"], "--why does not go with --whole"),
         (&["--demo", "--whole"], "--demo does not go with --whole"),
+        (&["f2.mtx", "--pivots"], "--pivots needs a value"),
+        (
+            &["f2.mtx", "--pivots=d.txt", "--pivots=d.txt"],
+            "--pivots is given twice",
+        ),
+        (
+            &["f2.mtx", "--whole", "--pivots=d.txt"],
+            "--pivots does not go with --whole",
+        ),
+        (
+            &["f2.mtx", "--pivots=d.txt", "--operator=a.mtx"],
+            "--pivots does not go with --operator",
+        ),
+        (
+            &["f2.mtx", "--pivots=d.txt", "--why=1,2"],
+            "--pivots does not go with --why",
+        ),
+        (
+            &["f2.mtx", "--pivots=d.txt", "--ranges=r.txt"],
+            "--ranges needs --whole",
+        ),
+        (&["--demo", "--pivots=d.txt"], "--demo does not go with --pivots"),
         (
             &["f2.mtx", "--whole", "--track=t.txt"],
             "--track and --width need each other",
@@ -152,6 +174,7 @@ fn help_and_version() {
         "--operator",
         "--with",
         "--pairs",
+        "--pivots",
         "--limit",
         "--entries",
         "--whole",
@@ -170,7 +193,7 @@ fn help_and_version() {
     }
     for error in redstartgilt::Error::ALL {
         let listed = help.contains(&format!("  {}  {error}\n", 10 + error.number()));
-        assert_eq!(listed, error.number() <= 22, "{error}");
+        assert_eq!(listed, error.number() <= 23, "{error}");
     }
     assert!(help.contains(&format!("\n  {HEADER}\n")));
     assert_eq!(

@@ -10,6 +10,7 @@ redstartgilt: variances from a sparse Cholesky factor, by a proved selected inve
 
 Usage:
   redstartgilt [OPTIONS] FACTOR
+  redstartgilt --pivots FILE [--requests FILE] [--permutation FILE] [--limit N] [--entries] [--csv] [--grid WxH ..] FACTOR
   redstartgilt --whole [--requests FILE] [--permutation FILE] [--limit N] [--entries] [--csv] [--grid WxH ..] FACTOR
   redstartgilt --whole --ranges FILE [--permutation FILE] [--limit N] [--csv] FACTOR
   redstartgilt --whole --track FILE --width K [--permutation FILE] [--limit N] [--csv] [--grid WxH ..] FACTOR
@@ -32,6 +33,13 @@ Options:
                       then in the order of the cells, not of the factor
   --limit N           give no entries if the requests and what the recurrence needs for them are more than N pairs;
                       without it 10 times the stored entries
+  --pivots FILE       FACTOR is L of L times D times its transpose, with ones on its diagonal, stored or not, and FILE has
+                      the diagonal D: line j has the pivot of column j of the factor, one number a line. Or it is a
+                      Matrix Market file with the header %%MatrixMarket matrix array real general and one column. Without
+                      this option FACTOR is L of L times its transpose, and its diagonal is stored. A list of another
+                      length is refused with 4, a pivot at most 0 with 6, one that is not finite with 18, a diagonal
+                      other than 1 with 23; the message has the line, or both lengths. Diagonals that are not stored do
+                      not count in the limit
   --entries           print row, column and value of every entry that was computed, by column then row, and not the
                       variances
   --whole             compute in whole numbers, exactly: FACTOR is an integer file with 1 on its diagonal. The answer
@@ -100,7 +108,7 @@ Exit status:
 ";
 
 /// The last refusal that the help lists: no call gives a later one yet.
-const LAST_REFUSAL: u32 = redstartgilt::sys::REDSTARTGILT_BAD_WIDTH;
+const LAST_REFUSAL: u32 = redstartgilt::sys::REDSTARTGILT_PIVOT_DIAGONAL_NOT_ONE;
 
 /// The help with the list of refusals.
 pub fn help() -> String {
@@ -119,6 +127,7 @@ pub struct Options {
     pub factor: Option<PathBuf>,
     pub requests: Option<PathBuf>,
     pub permutation: Option<PathBuf>,
+    pub pivots: Option<PathBuf>,
     pub operator: Option<PathBuf>,
     pub with: Option<PathBuf>,
     pub pairs: Option<PathBuf>,
@@ -149,6 +158,7 @@ pub fn read(words: impl IntoIterator<Item = OsString>) -> Result<Command, Failur
         factor: None,
         requests: None,
         permutation: None,
+        pivots: None,
         operator: None,
         with: None,
         pairs: None,
@@ -183,6 +193,7 @@ pub fn read(words: impl IntoIterator<Item = OsString>) -> Result<Command, Failur
             name,
             "--requests"
                 | "--permutation"
+                | "--pivots"
                 | "--operator"
                 | "--with"
                 | "--pairs"
@@ -206,6 +217,7 @@ pub fn read(words: impl IntoIterator<Item = OsString>) -> Result<Command, Failur
         let twice = match name {
             "--requests" => options.requests.replace(value.into()).is_some(),
             "--permutation" => options.permutation.replace(value.into()).is_some(),
+            "--pivots" => options.pivots.replace(value.into()).is_some(),
             "--operator" => options.operator.replace(value.into()).is_some(),
             "--with" => options.with.replace(value.into()).is_some(),
             "--pairs" => options.pairs.replace(value.into()).is_some(),
@@ -246,6 +258,7 @@ fn checked(options: Options, demo: bool) -> Result<Command, Failure> {
         let others = [
             ("a factor", options.factor.is_some()),
             ("--permutation", options.permutation.is_some()),
+            ("--pivots", options.pivots.is_some()),
             ("--operator", options.operator.is_some()),
             ("--limit", options.limit.is_some()),
             ("--entries", options.entries),
@@ -265,6 +278,14 @@ fn checked(options: Options, demo: bool) -> Result<Command, Failure> {
         if options.grid.is_some() && options.svg.is_none() && options.html.is_none() {
             return Err(Failure::usage("--grid needs --svg or --html"));
         }
+    }
+    if options.pivots.is_some() {
+        let others = [
+            ("--whole", options.whole),
+            ("--operator", options.operator.is_some()),
+            ("--why", options.why.is_some()),
+        ];
+        alone("--pivots", &others)?;
     }
     if options.ranges.is_some() {
         let others = [
