@@ -22,7 +22,7 @@ fn both_forms_answer_alike() {
     for words in [&["--csv"][..], &["--csv", "--entries"], &["--csv", "--limit", "3"]] {
         let with = |more: &[&'static str]| folder.prints(&[words, more].concat());
         let cholesky = with(&["cholesky.mtx"]);
-        assert_eq!(cholesky.contains("4.25"), true);
+        assert!(cholesky.contains("4.25"));
         for factor in ["unit.mtx", "stored.mtx"] {
             assert_eq!(with(&[factor, "--pivots", "d.txt"]), cholesky, "{factor}");
         }
@@ -169,9 +169,10 @@ fn refusals_say_which() {
         );
     }
     for (pivots, line, number, told) in [
-        ("0\n1\n", 1, 1, "0"),
-        ("\n4\n-0.0\n", 3, 2, "-0"),
+        ("0\n1\n", 1, 1, "0.0"),
+        ("\n4\n-0.0\n", 3, 2, "-0.0"),
         ("4\n-2.5\n", 2, 2, "-2.5"),
+        ("4\n-1e300\n", 2, 2, "-1e300"),
     ] {
         assert_eq!(
             message(pivots, 16),

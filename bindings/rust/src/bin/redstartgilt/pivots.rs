@@ -63,7 +63,7 @@ fn refused(file: &Path, list: &Path, columns: usize, pivots: &[Pivot], error: Er
         Some(Failure::refused_because(
             format_args!("{}:{}", list.display(), pivot.line),
             error,
-            format_args!("pivot {number} is {}, {what}", pivot.value),
+            format_args!("pivot {number} is {:?}, {what}", pivot.value),
         ))
     };
     let told = match error {
