@@ -4,11 +4,18 @@
  * and its values. Lists are a pointer and a length, in that order; a list of length 0 may have any pointer but NULL
  * that is aligned for its elements. Lists lent for writing must not overlap any other list of the call. The library
  * allocates nothing and keeps nothing: a call reads and writes the lists that it is lent, and no others, and ends. It
- * needs at most 64 KiB of stack.
+ * needs at most 128 KiB of stack, whatever n is; the deepest call takes 117. So much must be free where it is made: a
+ * thread with a smaller stack is ended by the system, not refused.
  *
  * A call that cannot be answered is refused by a number (REDSTARTGILT_*), the lowest of its steps that fails, and
  * leaves every list as it was unless its paragraph says otherwise. A list may be longer than needed; places past those
  * filled keep their contents. T is n(n+1)/2.
+ *
+ * Dimensions, limits, lengths and counts are size_t, of 64 bits. None is cut: a limit of 2^32 + 5 is not 5, and the
+ * reply has the limit as it was given, up to 2^64 - 1. At n = 4,096, the largest dimension, T is 8,390,656; the scratch
+ * of selected entries is 8,669,248 words (34.7 MB), that of a pattern list 262,208 (1.05 MB), that of a chain 16,797,696
+ * (67.2 MB); result rows and values are at most 100.7 MB, 12 bytes for each of the lesser of limit and T pairs, and
+ * work, in whole numbers, 67.1 MB, 8 bytes for each.
  */
 #ifndef REDSTARTGILT_H
 #define REDSTARTGILT_H
@@ -19,6 +26,9 @@
 #ifdef __cplusplus
 extern "C" {
 #endif
+
+/* Where size_t does not have 64 bits, this type of negative length is an error. */
+typedef char redstartgilt_size_t_has_64_bits[sizeof(size_t) == 8 ? 1 : -1];
 
 /* Refusals; 0 is none. Those from 19 on:
  *   19  a kept diagonal other than 1 of a factor of whole numbers
@@ -106,7 +116,7 @@ typedef struct { size_t num_negative; double min_value; } redstartgilt_least;
  *
  * Lengths needed: result_starts n + 1, result_rows and result_values the lesser of limit and T, scratch
  * ceil(T/32) + T + 4n, of any contents. Refuses, in this order:
- *   1   n above 2,048, or more than 1,048,576 rows or request rows
+ *   1   n above 4,096, or more than 1,048,576 rows or request rows
  *   2   starts not n + 1, the first not 0, a falling one, the last not rows_len, or values_len not rows_len
  *   3   a row index of n or more, or not above the one before it in its column
  *   18  an entry that is kept and is NaN or infinite, in any column; one above the diagonal may be either
@@ -228,7 +238,7 @@ redstartgilt_selected redstartgilt_selected_inverse_entries_whole(
     uint32_t *scratch, size_t scratch_len, int64_t *work, size_t work_len);
 
 /* Whether a factor's lists are well formed and its kept entries finite, which every call with a factor checks first.
- * Refuses with 1 for n above 2,048 or more than 1,048,576 rows, then with 2, 3 and 18 as selected entries does. It reads
+ * Refuses with 1 for n above 4,096 or more than 1,048,576 rows, then with 2, 3 and 18 as selected entries does. It reads
  * every start, row and value. Writes nothing. A factor that it accepts may still be refused with 6 by a call that needs
  * the diagonal of each column. */
 uint32_t redstartgilt_check_factor(
@@ -356,7 +366,7 @@ uint32_t redstartgilt_diag(
  * then output[i] is the entry at (orig_to_perm[i], orig_to_perm[i]). The result lists are filled as by selected entries,
  * and need as much; output needs n places. Refuses, in this order:
  *   1, 2, 3, 18   as selected entries does
- *   4   orig_to_perm_len not n, also one above 2,048
+ *   4   orig_to_perm_len not n, also one above 4,096
  *   10, 11   an index of n or more, or one that came before; the first fault in the list decides
  *   6   as above
  *   7   a list too short
@@ -373,7 +383,7 @@ redstartgilt_selected redstartgilt_selected_inverse_diag_with_diagnostics(
  * b, (weight a * weight b) * entry is added. The requests are all pairs of columns of each row, the limit is the default
  * one, 10 times rows_len, and the result lists are filled as by selected entries, and need as much; output needs a place
  * for each operator row. A column may repeat in a row. Weights are not checked. Refuses, in this order:
- *   1   as selected entries does, or more than 2,048 operator rows or 1,048,576 columns
+ *   1   as selected entries does, or more than 4,096 operator rows or 1,048,576 columns
  *   2, 3, 18   as selected entries does
  *   4   ncols not n
  *   9   no row starts, the first not 0, a falling one, the last not columns_len, weights_len not columns_len, or a column
@@ -394,7 +404,7 @@ redstartgilt_selected redstartgilt_selected_inverse_transformed_diag(
  * a row with itself gives its variance. The limit is the default one, 10 times rows_len, and the result lists are filled
  * as by selected entries, and need as much; output needs a place for each row pair. Weights are not checked. Refuses, in
  * this order:
- *   1   as selected entries does, or of either operator more than 2,048 rows or 1,048,576 columns, or more than 1,048,576
+ *   1   as selected entries does, or of either operator more than 4,096 rows or 1,048,576 columns, or more than 1,048,576
  *       row pairs, counted by a_rows_len
  *   2, 3, 18   as selected entries does
  *   4   a_ncols or b_ncols not n, or a_rows_len not b_rows_len
@@ -479,7 +489,7 @@ redstartgilt_pairs redstartgilt_dependency_chain(
  * for each entry: 1,048,576 places are enough for every file, so are as many as the text has LFs, and the size line has
  * the number itself. Refuses, in this order, each step for the whole file before the next:
  *   15  another first line, or none
- *   16  a size or entry line that is missing or not of this form, unequal sizes, a size above 2,048, an entry count that
+ *   16  a size or entry line that is missing or not of this form, unequal sizes, a size above 4,096, an entry count that
  *       is above 1,048,576 or not the number of entry lines
  *   17  an index of 0 or above the size, or a row less than its column
  *   7   a list too short
@@ -502,30 +512,30 @@ redstartgilt_pairs redstartgilt_from_cholesky_factor(
 
 /* The pairs (a, b), a >= b, of columns of one operator row, equal ones too, each once, ascending by row then column. T is
  * that of ncols. Scratch needs ceil(T/32) words, the outputs a place for each pair, at most T: a row of k columns alone
- * has k(k+1)/2. Refuses with 1 for ncols above 2,048, more than 2,048 operator rows or 1,048,576 columns, with 9 as
+ * has k(k+1)/2. Refuses with 1 for ncols above 4,096, more than 4,096 operator rows or 1,048,576 columns, with 9 as
  * operator variances does, and with 7 as the call above, which leaves scratch and outputs alike. */
 redstartgilt_pairs redstartgilt_from_transformed_operator(
     size_t ncols, const uint32_t *row_starts, size_t row_starts_len, const uint32_t *columns, size_t columns_len, const double *weights, size_t weights_len,
     uint32_t *scratch, size_t scratch_len, uint32_t *pair_rows, size_t pair_rows_len, uint32_t *pair_columns, size_t pair_columns_len);
 
-/* Whether two lists are permutations of 0 to n - 1 and each other's inverses. Refuses with 1 for a list above 2,048,
+/* Whether two lists are permutations of 0 to n - 1 and each other's inverses. Refuses with 1 for a list above 4,096,
  * with 12 for unequal lengths, then element by element of orig_to_perm, the first fault deciding: 10 for an index of n
  * or more, 11 for one that came before, 12 where perm_to_orig does not lead back. Writes nothing. */
 uint32_t redstartgilt_validate(const uint32_t *orig_to_perm, size_t orig_to_perm_len, const uint32_t *perm_to_orig, size_t perm_to_orig_len);
 
 /* The inverse of a permutation: perm_to_orig[orig_to_perm[i]] is i. Needs n places, n being orig_to_perm_len. Refuses
- * with 1 for n above 2,048, then element by element with 10 and 11 as above, then with 7. */
+ * with 1 for n above 4,096, then element by element with 10 and 11 as above, then with 7. */
 uint32_t redstartgilt_from_orig_to_perm(const uint32_t *orig_to_perm, size_t orig_to_perm_len, uint32_t *perm_to_orig, size_t perm_to_orig_len);
 
 /* Values in factor order put in original order: output[i] is input[orig_to_perm[i]]. Output needs n places, n being
- * orig_to_perm_len. Refuses with 1 for a list read that is above 2,048, with 4 for input_len not n, then element by
+ * orig_to_perm_len. Refuses with 1 for a list read that is above 4,096, with 4 for input_len not n, then element by
  * element with 10 and 11 as above, then with 7. */
 uint32_t redstartgilt_permute_factor_to_original(
     const uint32_t *orig_to_perm, size_t orig_to_perm_len, const double *input, size_t input_len, double *output, size_t output_len);
 
 /* The same for values with their marks: output[i] is input[orig_to_perm[i]] and output_marks[i] is
  * marks[orig_to_perm[i]], so both are of the same cell. Marks are bytes of any value. Both outputs need n places, n being
- * orig_to_perm_len. Refuses with 1 for a list read, marks too, that is above 2,048, with 4 for input_len or marks_len
+ * orig_to_perm_len. Refuses with 1 for a list read, marks too, that is above 4,096, with 4 for input_len or marks_len
  * not n, then element by element with 10 and 11 as above, then with 7 for either output too short; both are then as they
  * were. */
 uint32_t redstartgilt_permute_factor_to_original_marked(

@@ -25,7 +25,7 @@ pub struct SelectedInverseDiagnostics {
     pub factor_pairs: usize,
     /// `closure_pairs / max(factor_pairs, 1)`.
     pub closure_over_factor: f64,
-    /// The limit that was applied.
+    /// The limit that was applied, as it was given.
     pub closure_limit: usize,
     /// Whether the entries are given.
     pub status: SelectedInverseStatus,

@@ -158,7 +158,7 @@ impl Error {
     pub const fn reason(self) -> &'static str {
         match self {
             Error::TooLarge => {
-                "too large: a dimension, a permutation or a number of operator rows above 2,048, or more than \
+                "too large: a dimension, a permutation or a number of operator rows above 4,096, or more than \
                  1,048,576 stored entries, requests, operator terms, row pairs or variances"
             }
             Error::BrokenStarts => {
@@ -198,7 +198,7 @@ impl Error {
                  pattern symmetric"
             }
             Error::MalformedFile => {
-                "malformed request file: after comments it must have a line with two equal sizes of at most 2,048 and \
+                "malformed request file: after comments it must have a line with two equal sizes of at most 4,096 and \
                  the number of entries, at most 1,048,576, then so many lines of two numbers"
             }
             Error::FileIndexOutside => {

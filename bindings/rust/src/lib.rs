@@ -34,9 +34,15 @@
 //! - [`sys`], the C interface as it is.
 //!
 //! Indices count from 0. A call that cannot be answered gives an [`Error`], whose number is the same in every layer
-//! and language.
+//! and language. Limits and counts have 64 bits and are never cut; [`SelectedInverseDiagnostics`] has the limit as it
+//! was given.
+//!
+//! A call needs up to 128 KiB of stack: [`STACK_BYTES`] says how a thread with a small stack is made.
 #![deny(missing_docs)]
 #![deny(unsafe_op_in_unsafe_fn)]
+
+#[cfg(not(target_pointer_width = "64"))]
+compile_error!("redstartgilt: limits and counts have 64 bits, and usize here has not");
 
 mod chain;
 mod columns;
@@ -95,8 +101,32 @@ pub use workspace::Workspace;
 
 /// The largest dimension, permutation and number of operator rows; above it a call is refused with
 /// [`Error::TooLarge`], a request file with [`Error::MalformedFile`].
-pub const MAX_DIMENSION: usize = 2_048;
+pub const MAX_DIMENSION: usize = 4_096;
 
 /// The largest number of stored entries, requests, operator terms, row pairs and variances; above it a call is refused with
 /// [`Error::TooLarge`], a request file with [`Error::MalformedFile`].
 pub const MAX_ENTRIES: usize = 1_048_576;
+
+/// The stack that a call of the library needs at most, in bytes: 128 KiB, whatever the dimension. The deepest call takes 117.
+///
+/// A thread must have it free where it calls. As a rule the main thread has it, and so have threads of
+/// [`std::thread::spawn`]; one that is made with less is ended by the system when it calls, and no [`Error`] tells why. A
+/// thread's stack also holds what the thread itself needs and the functions that lead to the call: 64 KiB are enough
+/// where those hold little.
+///
+/// ```
+/// use redstartgilt::{selected_inverse_diag, CholeskyFactor, MAX_DIMENSION, STACK_BYTES};
+/// use std::thread;
+///
+/// // Of the largest dimension: 2 on the diagonal, 1 below it.
+/// let below = (1..MAX_DIMENSION).map(|row| (row, row - 1, 1.0));
+/// let entries = (0..MAX_DIMENSION).map(|cell| (cell, cell, 2.0)).chain(below).collect::<Vec<_>>();
+/// let factor = CholeskyFactor::from_triplets(MAX_DIMENSION, &entries)?;
+///
+/// let thread = thread::Builder::new().stack_size(STACK_BYTES + 64 * 1024);
+/// let thread = thread.spawn(move || selected_inverse_diag(&factor))?;
+/// let variances = thread.join().expect("the stack is enough")?.values;
+/// assert_eq!(variances[MAX_DIMENSION - 2..], [0.3125, 0.25]);
+/// # Ok::<(), Box<dyn std::error::Error>>(())
+/// ```
+pub const STACK_BYTES: usize = 128 * 1024;

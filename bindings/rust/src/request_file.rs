@@ -364,7 +364,7 @@ mod tests {
             text += random.of(&["%\n", "% 3 3 1\n", "\n"]);
         }
         let entries = random.below(6);
-        let sizes = random.of(&["3 3", "3 3", "3 3", "03\t3", " 3  3", "3 4", "2049 2049", "0 0"]);
+        let sizes = random.of(&["3 3", "3 3", "3 3", "03\t3", " 3  3", "3 4", "4097 4097", "0 0"]);
         let count = entries + random.below(8) / 7;
         text += &format!("{sizes} {count}\n");
         for _ in 0..entries {

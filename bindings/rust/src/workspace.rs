@@ -5,10 +5,9 @@ use crate::lent::{chain_places, chain_words, result_places, scratch_words, Resul
 
 /// Result lists and scratch for one call after another.
 ///
-/// A call makes them longer where it needs to and never shorter. In dimension 2,048 they take up to 34 megabytes, 42
-/// once a chain was asked for and 34 more once entries were asked for in whole numbers, so a caller who makes many calls
-/// should lend one workspace to all. Answers do not depend
-/// on what a workspace was used for before.
+/// A call makes them longer where it needs to and never shorter. In dimension 4,096 they take up to 135 megabytes, 168
+/// once a chain was asked for and 134 more once entries were asked for in whole numbers, so a caller who makes many calls
+/// should lend one workspace to all. Answers do not depend on what a workspace was used for before.
 ///
 /// ```
 /// use redstartgilt::{selected_inverse_diag_with_diagnostics_in, CholeskyFactor, Workspace};

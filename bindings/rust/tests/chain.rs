@@ -307,7 +307,7 @@ fn a_chain_list_too_short() {
 #[test]
 fn refusals_in_order() {
     let mut call = Call {
-        n: 2_049,
+        n: 4_097,
         starts: vec![1, 3, 4, 5],
         rows: vec![0, 2, 1, 1, 2],
         values: vec![f64::NAN, 2.0, 3.0, 0.0, -1.0],

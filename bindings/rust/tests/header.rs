@@ -1,5 +1,6 @@
 //! The declarations of `sys` are those of include/redstartgilt.h: the same names, types, orders and numbers.
 
+use redstartgilt::lent;
 use std::collections::BTreeSet;
 use std::path::Path;
 
@@ -80,7 +81,9 @@ fn kind_of(kind: &str) -> &str {
 
 fn header_functions() -> BTreeSet<String> {
     let header = header();
-    let declarations = header.split(';').filter_map(|statement| statement.split_once('('));
+    let statements = header.split(';').map(str::trim_start);
+    let declarations = statements.filter(|statement| !statement.starts_with("typedef"));
+    let declarations = declarations.filter_map(|statement| statement.split_once('('));
     declarations
         .map(|(left, right)| {
             let left = one_space(left);
@@ -165,4 +168,32 @@ fn structs() {
 fn numbers() {
     assert_eq!(sys_numbers(), header_numbers());
     assert_eq!(sys_numbers().len(), 27);
+}
+
+/// A number as the header writes it, with a comma before every three digits.
+fn grouped(number: usize) -> String {
+    match number {
+        0..=999 => number.to_string(),
+        _ => format!("{},{:03}", grouped(number / 1_000), number % 1_000),
+    }
+}
+
+/// The stack, the largest dimension and the lengths of lists that it needs are those that the crate has.
+#[test]
+fn sizes() {
+    let header = one_space(&text("../../include/redstartgilt.h").replace("\n *", "\n"));
+    let n = redstartgilt::MAX_DIMENSION;
+    for said in [
+        format!("at most {} KiB of stack", redstartgilt::STACK_BYTES / 1_024),
+        format!(
+            "At n = {}, the largest dimension, T is {};",
+            grouped(n),
+            grouped(lent::pair_total(n))
+        ),
+        format!("of selected entries is {} words", grouped(lent::scratch_words(n))),
+        format!("of a pattern list {} ", grouped(lent::mark_words(n))),
+        format!("of a chain {} ", grouped(lent::chain_words(n))),
+    ] {
+        assert!(header.contains(&said), "{said}");
+    }
 }

@@ -108,7 +108,7 @@ fn looks_counted_by_hand() {
 /// of the number of rows, which a row below the first one takes.
 #[test]
 fn looks_of_every_row() {
-    for count in (0..=260).chain([511, 512, 1_023, 1_024, 2_047, 2_048]) {
+    for count in (0..=260).chain([511, 512, 1_023, 1_024, 2_047, 2_048, 4_095, 4_096]) {
         let rows = (0..count as u32).map(|place| 2 * place + 1).collect::<Vec<_>>();
         let lists = Lists::column(&rows, 2 * count + 1);
         let mut most = 0;

@@ -84,9 +84,9 @@ fn refusals_of_the_marked_permutation() {
             assert!(values.iter().all(|value| *value == 7.0) && moved.iter().all(|mark| *mark == 7));
         }
     };
-    refused(&[0; 2_049], 1, 1, Error::TooLarge);
-    refused(&[0], 2_049, 1, Error::TooLarge);
-    refused(&[0], 1, 2_049, Error::TooLarge);
+    refused(&[0; 4_097], 1, 1, Error::TooLarge);
+    refused(&[0], 4_097, 1, Error::TooLarge);
+    refused(&[0], 1, 4_097, Error::TooLarge);
     refused(&[9, 9], 1, 2, Error::DimensionMismatch);
     refused(&[9, 9], 2, 1, Error::DimensionMismatch);
     refused(&[9, 9], 2, 3, Error::DimensionMismatch);

@@ -214,7 +214,7 @@ fn malformed_size_lines() {
         2,
         "the sizes must be equal, and are 0 rows and 1 columns",
     );
-    malformed("2049 02049 0\n", 2, "the size 2049 is above 2048");
+    malformed("4097 04097 0\n", 2, "the size 4097 is above 4096");
     malformed("2 2 1048577\n1 1\n", 2, "the entry count 1048577 is above 1048576");
 }
 
@@ -284,7 +284,7 @@ fn long_numbers() {
     malformed(
         format!("{long} {long} 0\n"),
         2,
-        &format!("the size {shown} is above 2048"),
+        &format!("the size {shown} is above 4096"),
     );
     malformed(
         format!("{long} 2 0\n"),

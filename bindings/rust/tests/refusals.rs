@@ -25,20 +25,31 @@ fn numbers_and_words() {
 
 #[test]
 fn too_large() {
-    assert_eq!(CholeskyFactor::from_triplets(2_049, &[]), Err(Error::TooLarge));
+    assert_eq!(CholeskyFactor::from_triplets(4_097, &[]), Err(Error::TooLarge));
     assert_eq!(
         CholeskyFactor::new(1, vec![0, 1], vec![0; MAX_ENTRIES + 1], vec![]),
         Err(Error::TooLarge)
     );
-    let identity = (0..2_049).collect::<Vec<_>>();
+    let identity = (0..4_097).collect::<Vec<_>>();
     assert_eq!(Permutation::from_orig_to_perm(identity.clone()), Err(Error::TooLarge));
-    assert_eq!(Permutation::identity(2_049).validate(), Err(Error::TooLarge));
-    assert_eq!(SparseRowOperator::new(1, vec![vec![]; 2_049]), Err(Error::TooLarge));
-    assert_eq!(SparseRowOperator::new(2_049, vec![]), Err(Error::TooLarge));
+    assert_eq!(Permutation::identity(4_097).validate(), Err(Error::TooLarge));
+    assert_eq!(SparseRowOperator::new(1, vec![vec![]; 4_097]), Err(Error::TooLarge));
+    assert_eq!(SparseRowOperator::new(4_097, vec![]), Err(Error::TooLarge));
     assert_eq!(
         stabilize_variances(&vec![1.0; MAX_ENTRIES + 1], VarianceFloor::Zero),
         Err(Error::TooLarge)
     );
+}
+
+/// The largest dimension is accepted.
+#[test]
+fn not_too_large() {
+    for n in [2_049, 4_095, 4_096] {
+        assert!(CholeskyFactor::from_triplets(n, &[]).is_ok());
+        assert_eq!(Permutation::identity(n).validate(), Ok(()));
+        assert!(SparseRowOperator::new(1, vec![vec![]; n]).is_ok());
+        assert!(SparseRowOperator::new(n, vec![]).is_ok());
+    }
 }
 
 #[test]
@@ -195,7 +206,7 @@ fn covariances_in_order() {
     let broken = |diagonal: f64| CholeskyFactor::from_triplets(2, &[(0, 0, 1.0), (1, 1, diagonal)]).unwrap();
     let large = SparseRowOperator {
         ncols: 3,
-        rows: vec![vec![(9, 1.0)]; 2_049],
+        rows: vec![vec![(9, 1.0)]; 4_097],
     };
     let other = SparseRowOperator {
         ncols: 3,
@@ -564,13 +575,13 @@ fn entries_that_are_not_finite_in_order() {
         let values = [value, 2.0, 1.0];
         let broken = FactorLists { values: &values, ..F2 };
         for factor in [
-            FactorLists { n: 2_049, ..broken },
+            FactorLists { n: 4_097, ..broken },
             FactorLists { rows: &long, ..broken },
         ] {
             assert_eq!(refusals(factor, SOUND), [Some(Error::TooLarge); 7]);
         }
         let many_rows = OperatorLists {
-            row_starts: &long[..2_050],
+            row_starts: &long[..4_098],
             ..SUM
         };
         for (beside, numbers) in [
@@ -690,7 +701,7 @@ fn checked_factors() {
         starts: &[0, 2, 2],
         ..rows
     };
-    let large = FactorLists { n: 2_049, ..starts };
+    let large = FactorLists { n: 4_097, ..starts };
     for (factor, refused) in [
         (large, Error::TooLarge),
         (starts, Error::BrokenStarts),
@@ -706,7 +717,7 @@ fn checked_factors() {
         );
         assert_eq!(made, Err(refused));
     }
-    let most = FactorLists { n: 2_048, ..starts };
+    let most = FactorLists { n: 4_096, ..starts };
     assert_eq!(lent::check_factor(most), Err(Error::BrokenStarts));
     for values in [[0.0; 3], [-1.0, 2.0, -0.0], [1.0, 2.0, 1.0]] {
         assert_eq!(lent::check_factor(FactorLists { values: &values, ..F2 }), Ok(()));

@@ -67,6 +67,19 @@ fn f2_past_the_limit() {
     assert!(selected.inverse.is_none());
 }
 
+/// Limits that would be 0 to 5 if they were cut to 32 bits, and the largest: the set has 3 pairs. Each is told as given.
+#[test]
+fn limits_above_32_bits() {
+    let cut = (0..6).map(|limit| (1 << 32) + limit);
+    for limit in cut.chain([1 << 63, usize::MAX - 1, usize::MAX]) {
+        let selected = select(&f2(), &[(0, 0)], limit);
+        assert!(selected.diagnostics.is_complete(), "{limit}");
+        assert_eq!(selected.diagnostics.closure_pairs, 3);
+        assert_eq!(selected.diagnostics.closure_limit, limit);
+        assert_eq!(selected.inverse.unwrap().get(0, 0), Some(5.0));
+    }
+}
+
 #[test]
 fn f2_with_other_requests() {
     assert_eq!(select(&f2(), &[(1, 0)], 3).diagnostics.closure_pairs, 2);
@@ -143,9 +156,9 @@ fn one_column() {
 
 #[test]
 fn too_many_columns() {
-    assert_eq!(CholeskyFactor::from_triplets(2_049, &[]), Err(Error::TooLarge));
+    assert_eq!(CholeskyFactor::from_triplets(4_097, &[]), Err(Error::TooLarge));
     assert_eq!(
-        CholeskyFactor::new(2_049, vec![0; 2_050], vec![], vec![]),
+        CholeskyFactor::new(4_097, vec![0; 4_098], vec![], vec![]),
         Err(Error::TooLarge)
     );
     assert_eq!(CholeskyFactor::from_triplets(usize::MAX, &[]), Err(Error::TooLarge));

@@ -128,7 +128,7 @@ fn refusals_in_order() {
     };
     let cases = [
         // 1: also of the requests, before the factor's starts.
-        (whole(2_049, &[], &[], &[]), 1, (&[9][..], &[][..]), Error::TooLarge),
+        (whole(4_097, &[], &[], &[]), 1, (&[9][..], &[][..]), Error::TooLarge),
         (whole(2, &[], &[], &[]), 1, (&many[..], &[][..]), Error::TooLarge),
         (
             whole(2, &[0, 3, 2], &[1, 0, 1], odd),
@@ -276,7 +276,7 @@ fn sizes() {
 
 #[test]
 fn factors() {
-    assert_eq!(WholeFactor::from_triplets(2_049, &[]), Err(Error::TooLarge));
+    assert_eq!(WholeFactor::from_triplets(4_097, &[]), Err(Error::TooLarge));
     assert_eq!(
         WholeFactor::new(1, vec![0, 1], vec![0; MAX_ENTRIES + 1], vec![]),
         Err(Error::TooLarge)

@@ -1,11 +1,12 @@
 //! A workspace used again gives the same answers.
 
 use redstartgilt::{
-    selected_inverse_diag_with_diagnostics, selected_inverse_diag_with_diagnostics_in, selected_inverse_entries,
-    selected_inverse_entries_in, selected_inverse_entries_with_limit, selected_inverse_entries_with_limit_in,
+    dependency_chain_in, selected_inverse_diag_with_diagnostics, selected_inverse_diag_with_diagnostics_in,
+    selected_inverse_entries, selected_inverse_entries_in, selected_inverse_entries_whole_with_limit_in,
+    selected_inverse_entries_with_limit, selected_inverse_entries_with_limit_in,
     selected_inverse_transformed_covariances, selected_inverse_transformed_covariances_in,
     selected_inverse_transformed_diag, selected_inverse_transformed_diag_in, CholeskyFactor, SparseRowOperator,
-    SparseSymmetricPattern, Workspace,
+    SparseSymmetricPattern, WholeFactor, Workspace,
 };
 
 /// The same factors at each run: a linear congruence chooses pattern and values.
@@ -74,6 +75,27 @@ fn a_limit_keeps_the_lists_short() {
     let requested = SparseSymmetricPattern::new(30);
     selected_inverse_entries_with_limit_in(&factor, &requested, 10, &mut workspace).unwrap();
     assert_eq!(workspace.bytes(), 4 * (31 + 10 + 600) + 8 * 10);
+}
+
+/// What the documentation says of dimension 4,096, in megabytes.
+#[test]
+fn the_memory_of_the_largest_dimension() {
+    let megabytes = |workspace: &Workspace| (workspace.bytes() as f64 / 1e6).round();
+    let n = redstartgilt::MAX_DIMENSION;
+    let ones = (0..n).map(|cell| (cell, cell, 1.0)).collect::<Vec<_>>();
+    let whole_ones = (0..n).map(|cell| (cell, cell, 1)).collect::<Vec<_>>();
+    let factor = CholeskyFactor::from_triplets(n, &ones).unwrap();
+    let whole_factor = WholeFactor::from_triplets(n, &whole_ones).unwrap();
+    let requested = SparseSymmetricPattern::diagonal(n);
+    let mut workspace = Workspace::new();
+    selected_inverse_entries_with_limit_in(&factor, &requested, usize::MAX, &mut workspace).unwrap();
+    assert_eq!(megabytes(&workspace), 135.0);
+    let chain = dependency_chain_in(&factor, &requested, n - 1, n - 1, &mut workspace).unwrap();
+    assert_eq!(chain, Some(vec![(n - 1, n - 1)]));
+    assert_eq!(megabytes(&workspace), 168.0);
+    let before = workspace.bytes();
+    selected_inverse_entries_whole_with_limit_in(&whole_factor, &requested, usize::MAX, &mut workspace).unwrap();
+    assert_eq!(((workspace.bytes() - before) as f64 / 1e6).round(), 134.0);
 }
 
 /// The recurrence on every pair, against the equation L Lᵀ Z = I.

@@ -103,7 +103,7 @@ fn refusals_of_the_library() {
         assert_eq!(message, format!("{place}: {error}"));
     };
     let head = "%%MatrixMarket matrix coordinate real general\n";
-    for size in ["2049 2049 0", "18446744073709551615 18446744073709551615 0"] {
+    for size in ["4097 4097 0", "18446744073709551615 18446744073709551615 0"] {
         folder.write("f.mtx", format!("{head}{size}\n"));
         refused(&["f.mtx"], 1, "f.mtx");
     }

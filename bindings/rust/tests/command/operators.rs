@@ -109,7 +109,7 @@ fn malformed_operators() {
         );
     }
     let large = redstartgilt::Error::TooLarge;
-    for size in ["2049 2 0", "2049 3 0", "18446744073709551615 2 1\n2050 1 1"] {
+    for size in ["4097 2 0", "4097 3 0", "18446744073709551615 2 1\n4098 1 1"] {
         folder.write("a.mtx", format!("{head}{size}\n"));
         assert_eq!(
             folder.fails(&["f2.mtx", "--operator", "a.mtx"], 11),

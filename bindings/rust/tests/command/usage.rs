@@ -13,7 +13,14 @@ fn bad_usage() {
         (&["f2.mtx", "--colour"], "there is no option --colour"),
         (&["f2.mtx", "-"], "there is no option -"),
         (&["f2.mtx", "--limit"], "--limit needs a value"),
-        (&["f2.mtx", "--limit", "-1"], "--limit needs a whole number, not -1"),
+        (
+            &["f2.mtx", "--limit", "-1"],
+            "--limit needs a whole number up to 18446744073709551615, not -1",
+        ),
+        (
+            &["f2.mtx", "--limit", "18446744073709551616"],
+            "--limit needs a whole number up to 18446744073709551615, not 18446744073709551616",
+        ),
         (&["f2.mtx", "--why"], "--why needs a value"),
         (
             &["f2.mtx", "--why", "2"],
@@ -79,8 +86,14 @@ fn bad_usage() {
             "--track and --width need each other",
         ),
         (&["f2.mtx", "--track=t.txt", "--width=2"], "--track needs --whole"),
-        (&["f2.mtx", "--width", "two"], "--width needs a whole number, not two"),
-        (&["f2.mtx", "--width=-1"], "--width needs a whole number, not -1"),
+        (
+            &["f2.mtx", "--width", "two"],
+            "--width needs a whole number up to 18446744073709551615, not two",
+        ),
+        (
+            &["f2.mtx", "--width=-1"],
+            "--width needs a whole number up to 18446744073709551615, not -1",
+        ),
         (
             &["f2.mtx", "--whole", "--track=t.txt", "--width=2", "--requests=a.txt"],
             "--track does not go with --requests",

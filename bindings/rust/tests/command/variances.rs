@@ -66,6 +66,27 @@ fn entries() {
     );
 }
 
+/// A limit that would be 5 if it were cut to 32 bits, and the largest; the set has 6 pairs.
+#[test]
+fn limits_above_32_bits() {
+    let folder = Folder::new("limits");
+    folder.write("f3.mtx", F3);
+    for limit in ["4294967301", "18446744073709551615"] {
+        for words in [&["f3.mtx"][..], &["--whole", "f3.mtx"]] {
+            let words = [words, &["--limit", limit]].concat();
+            let first = folder.prints(&words);
+            let first = first.lines().next().unwrap();
+            let told = format!("Complete: 3 pairs requested, 6 computed, 5 in the factor, limit {limit}");
+            assert_eq!(first, told, "{words:?}");
+        }
+        let words = ["f3.mtx", "--limit", limit, "--grid=3x1", "--html=map.html"];
+        folder.prints(&words);
+        assert!(folder.read("map.html").contains(limit));
+    }
+    let past = "ClosureTooLarge: the requests need more than 5 entries, so none is given; raise --limit";
+    assert_eq!(folder.fails(&["f3.mtx", "--limit", "5"], 3), past);
+}
+
 /// Values are read back bit for bit, and the order of the cells is used for requests and output.
 #[test]
 fn a_permutation() {

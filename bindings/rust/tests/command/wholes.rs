@@ -173,7 +173,7 @@ fn factors_that_are_not_whole() {
             format!("w.mtx: refusal 6: column {column} of the factor has no diagonal entry")
         );
     }
-    folder.write("w.mtx", format!("{HEADER}\n2049 2049 0\n"));
+    folder.write("w.mtx", format!("{HEADER}\n4097 4097 0\n"));
     assert!(folder
         .fails(&["--whole", "w.mtx"], 11)
         .starts_with("w.mtx: refusal 1: "));

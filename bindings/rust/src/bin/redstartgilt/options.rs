@@ -32,7 +32,7 @@ Options:
   --permutation FILE  the order of the factor: line i has the place of cell i in the factor. Requests and output are
                       then in the order of the cells, not of the factor
   --limit N           give no entries if the requests and what the recurrence needs for them are more than N pairs;
-                      without it 10 times the stored entries
+                      without it 10 times the stored entries. N is up to 18446744073709551615, and told as given
   --pivots FILE       FACTOR is L of L times D times its transpose, with ones on its diagonal, stored or not, and FILE has
                       the diagonal D: line j has the pivot of column j of the factor, one number a line. Or it is a
                       Matrix Market file with the header %%MatrixMarket matrix array real general and one column. Without
@@ -349,10 +349,13 @@ fn checked(options: Options, demo: bool) -> Result<Command, Failure> {
 }
 
 fn number(name: &str, value: &OsString) -> Result<usize, Failure> {
-    value
-        .to_str()
-        .and_then(|text| text.parse().ok())
-        .ok_or_else(|| Failure::usage(format!("{name} needs a whole number, not {}", value.to_string_lossy())))
+    value.to_str().and_then(|text| text.parse().ok()).ok_or_else(|| {
+        Failure::usage(format!(
+            "{name} needs a whole number up to {}, not {}",
+            usize::MAX,
+            value.to_string_lossy()
+        ))
+    })
 }
 
 /// Two cells as in 5,3, counted from 1.
