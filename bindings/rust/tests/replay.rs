@@ -923,7 +923,7 @@ fn every_answer_is_that_of_the_proved_program() {
     let (stdin, stdout) = (text("stdin"), text("stdout"));
     let (cases, expected) = (cases(&stdin), cases(&stdout));
     assert_eq!(cases.len(), expected.len());
-    assert!(cases.len() >= 3_968);
+    assert!(cases.len() >= 4_033);
     for (lines, expected) in cases.iter().zip(expected) {
         let fields = lines[1..lines.len() - 1].iter().map(|line| {
             let mut words = line.split_whitespace();
