@@ -147,11 +147,14 @@ redstartgilt_selected redstartgilt_selected_inverse_entries(
  *   L times its transpose: the diagonal of L is stored, and positive. All other calls of this header take this one.
  *   L times D times the transpose of L: L has ones on its diagonal, stored or not, and D is a list of pivots, one for each
  *   column. The two calls below take this one.
- * They fill the result lists with the entries of the inverse of L times D times the transpose of L. Z(i, j) is -S for
- * i > j, and Z(j, j) is 1 / pivot j - S', with the sums S and S' of selected entries, each step rounded once; where S is
- * 0.0 the entry is -0.0. A diagonal of 0.0 of either sign is dropped, as every entry of 0.0, so that it is as one that is
- * not stored. Closed set, status, result, scratch and counts are as in selected entries, but each column counts one kept
- * pair for its diagonal, stored or not: factor_pairs is n and the kept entries below the diagonal.
+ * They fill the result lists with the entries Z of the inverse of L times D times the transpose of L. Z(i, j) is -S for
+ * i > j, and Z(j, j) is 1 / pivot j - S'. S and S' are sums from 0.0, over the kept L(k, j) with k > j, k ascending, of
+ * L(k, j) * Z(i, k), the indices put in order, and of L(k, j) * Z(k, j). Each product, sum, quotient and difference is
+ * rounded once; where S is 0.0 the entry is -0.0.
+ *
+ * A diagonal of 0.0 of either sign is dropped, as every entry of 0.0, and so is as one that is not stored. Closed set,
+ * status, result, scratch and counts are as in selected entries, but each column counts one kept pair for its diagonal,
+ * stored or not: factor_pairs is n and the number of kept entries below the diagonal.
  *
  * Lengths needed: as selected entries. Refuses, in this order:
  *   1, 2, 3, 18   as selected entries does
