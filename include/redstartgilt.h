@@ -36,9 +36,8 @@ typedef char redstartgilt_size_t_has_64_bits[sizeof(size_t) == 8 ? 1 : -1];
  *       a row's variance, beyond 2^40 in the variances along a track
  *   21  weights: a low one above its high one, one beyond 1,024 in size, or more than 64 terms
  *   22  a width of 0, above 1,024 or above the track's length
- *   24  an empty request list of a dimension above 0 that is to be written as a file
- * No call of this header gives the other, which is named for calls that are not in it:
- *   23  a kept diagonal other than 1 beside pivots */
+ *   23  a kept diagonal other than 1 of a factor with pivots
+ *   24  an empty request list of a dimension above 0 that is to be written as a file */
 enum {
     REDSTARTGILT_ACCEPTED = 0,
     REDSTARTGILT_TOO_LARGE = 1,
@@ -142,6 +141,60 @@ redstartgilt_selected redstartgilt_selected_inverse_entries_with_limit(
  * result_rows and result_values need the lesser of that limit and T. */
 redstartgilt_selected redstartgilt_selected_inverse_entries(
     size_t n, const uint32_t *starts, size_t starts_len, const uint32_t *rows, size_t rows_len, const double *values, size_t values_len,
+    size_t dimension, const uint32_t *request_rows, size_t request_rows_len, const uint32_t *request_columns, size_t request_columns_len,
+    uint32_t *result_starts, size_t result_starts_len, uint32_t *result_rows, size_t result_rows_len, double *result_values, size_t result_values_len,
+    uint32_t *scratch, size_t scratch_len);
+
+/* Selected entries of a factor with pivots. A factor is given in one of two forms:
+ *   L times its transpose: the diagonal of L is stored, and positive. All other calls of this header take this one.
+ *   L times D times the transpose of L: L has ones on its diagonal, stored or not, and D is a list of pivots, one for each
+ *   column. The two calls below take this one.
+ * They fill the result lists with the entries Z of the inverse of L times D times the transpose of L. Z(i, j) is -S for
+ * i > j, and Z(j, j) is 1 / pivot j - S'. S and S' are sums from 0.0, over the kept L(k, j) with k > j, k ascending, of
+ * L(k, j) * Z(i, k), the indices put in order, and of L(k, j) * Z(k, j). Each product, sum, quotient and difference is
+ * rounded once; where S is 0.0 the entry is -0.0.
+ *
+ * A diagonal of 0.0 of either sign is dropped, as every entry of 0.0, and so is as one that is not stored. Closed set,
+ * status, result, scratch and counts are as in selected entries, but each column counts one kept pair for its diagonal,
+ * stored or not: factor_pairs is n and the number of kept entries below the diagonal.
+ *
+ * Lengths needed: as selected entries. Refuses, in this order:
+ *   1, 2, 3, 18   as selected entries does
+ *   4   pivots_len not n, however long the list is
+ *   18  a pivot that is NaN or infinite
+ *   4   dimension not n, or request lists of unequal length
+ *   5   a request index of n or more
+ *   23  a diagonal entry that is kept and is not 1, in any column
+ *   6   a pivot at most 0.0, in any column; a column without a diagonal entry is accepted
+ *   7   a list too short
+ *
+ * Of the matrix (4, 8; 8, 17), whose inverse is (4.25, -2; -2, 1). As L times its transpose, L has the columns (2, 4) and
+ * (1), and for redstartgilt_selected_inverse_entries_with_limit its lists are
+ *   const uint32_t starts[] = {0, 2, 3}, rows[] = {0, 1, 1};
+ *   const double values[] = {2.0, 4.0, 1.0};
+ * As L times D times the transpose of L, L has 2 below its diagonal of ones, and the pivots are 4 and 1:
+ *   const uint32_t starts[] = {0, 1, 1}, rows[] = {1}, request_rows[] = {0}, request_columns[] = {0};
+ *   const double values[] = {2.0}, pivots[] = {4.0, 1.0};
+ *   uint32_t result_starts[3], result_rows[3], scratch[12];
+ *   double result_values[3];
+ *   redstartgilt_selected reply = redstartgilt_selected_inverse_entries_ldl_with_limit(
+ *       2, starts, 3, rows, 1, values, 1, pivots, 2, 2, request_rows, 1, request_columns, 1, 3,
+ *       result_starts, 3, result_rows, 3, result_values, 3, scratch, 12);
+ * gives refusal 0, COMPLETE, and the entries 4.25, -2 and 1. */
+redstartgilt_selected redstartgilt_selected_inverse_entries_ldl_with_limit(
+    size_t n, const uint32_t *starts, size_t starts_len, const uint32_t *rows, size_t rows_len, const double *values, size_t values_len,
+    const double *pivots, size_t pivots_len,
+    size_t dimension, const uint32_t *request_rows, size_t request_rows_len, const uint32_t *request_columns, size_t request_columns_len,
+    size_t limit,
+    uint32_t *result_starts, size_t result_starts_len, uint32_t *result_rows, size_t result_rows_len, double *result_values, size_t result_values_len,
+    uint32_t *scratch, size_t scratch_len);
+
+/* Selected entries of a factor with pivots with the default limit, 10 times rows_len; dropped entries count, diagonals that
+ * are not stored do not. So where nothing is stored every request is past the limit, and a limit must be given. Otherwise
+ * as the call above: result_rows and result_values need the lesser of that limit and T. */
+redstartgilt_selected redstartgilt_selected_inverse_entries_ldl(
+    size_t n, const uint32_t *starts, size_t starts_len, const uint32_t *rows, size_t rows_len, const double *values, size_t values_len,
+    const double *pivots, size_t pivots_len,
     size_t dimension, const uint32_t *request_rows, size_t request_rows_len, const uint32_t *request_columns, size_t request_columns_len,
     uint32_t *result_starts, size_t result_starts_len, uint32_t *result_rows, size_t result_rows_len, double *result_values, size_t result_values_len,
     uint32_t *scratch, size_t scratch_len);

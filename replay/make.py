@@ -37,9 +37,12 @@ numbers: the answers of kinds `wentries` and `wget` are those of `whole_answer` 
 numbers, which have no bound, and both sets are made here. Where the answer to `wentries` is Complete, the Rust is
 asked for the entries of the same factor as doubles; its entries must be equal as numbers, and the rest of its answer the same.
 Nor has it weights in ranges or variances along a track: the answers of kinds `bounds` and `track` are those of
-`variance_bounds` and `track_variances` below, and both sets are made here.
+`variance_bounds` and `track_variances` below, and both sets are made here. Nor does it take a factor with pivots: the
+answers of kind `ldl` are those of `ldl_answer` below, and its set is made here. Where every pivot is a power of 4 and no
+number is very large or small, the Rust is asked for the entries of L with each column times its pivot's root, which has
+the same numbers to a power of 2; its answer must be the same bit for bit.
 """
-import collections, itertools, math, os, random, re, struct, subprocess, sys
+import collections, fractions, itertools, math, os, random, re, struct, subprocess, sys
 
 # set: how many cases, the largest case in bytes, and the least number of a group
 SETS = {
@@ -57,6 +60,7 @@ SETS = {
     "opvar": (80, 4000, 12),
     "covar": (56, 2000, 4),
     "chain": (60, 1500, 4),
+    "ldl": (160, 2500, 12),
     "wentries": (160, 2500, 12),
     "wget": (60, 1500, 8),
     "bounds": (100, 2500, 12),
@@ -86,6 +90,7 @@ CHAIN = {"lscratch": 67072, "lcrows": ENTRIES, "lccols": ENTRIES}
 WHOLE = {"lstarts": ROOM, "lrows": ENTRIES, "lwvalues": ENTRIES, "lscratch": 67072, "lwork": ENTRIES}
 LENT = {
     "entries": RESULT,
+    "ldl": RESULT,
     "get": {},
     "wentries": WHOLE,
     "wget": {},
@@ -110,6 +115,7 @@ LENT = {
 # the fields after the lists lent
 READ = {
     "entries": FACTOR + ("rdim", "rrows", "rcols", "limit", "prows", "pcols"),
+    "ldl": FACTOR + ("pivots", "rdim", "rrows", "rcols", "limit", "prows", "pcols"),
     "get": FACTOR[1:] + ("prows", "pcols"),
     "wentries": WHOLE_FACTOR + ("rdim", "rrows", "rcols", "limit", "prows", "pcols"),
     "wget": WHOLE_FACTOR[1:] + ("prows", "pcols"),
@@ -133,7 +139,7 @@ READ = {
 }
 FIELDS = {kind: (*LENT[kind], *READ[kind]) for kind in READ}
 SCALARS = ("n", "rdim", "limit", "ncols", "ancols", "bncols", "prow", "pcol", "width", "floor", "scale")
-VALUES = ("values", "oweights", "aweights", "bweights", "input", "lvalues", "lout")
+VALUES = ("values", "pivots", "oweights", "aweights", "bweights", "input", "lvalues", "lout")
 WHOLES = ("wvalues", "lwvalues", "lwork", "lows", "highs", "lwout")
 BYTES = ("file",)
 MARKS = ("marks", "lmarks")
@@ -288,15 +294,24 @@ def byte_items(data):
     return ["%02x" % byte for byte in data]
 
 
+def expected_words(kind, words):
+    """What a case of cases.txt expects: of ldl the refusal and the digits of values, else numbers; or that the set is past the limit."""
+    if words == ["past"]:
+        return words
+    if kind == "ldl":
+        return [whole_of(words[0])] + ["nan" if x == "nan" else value_bits(x) for x in words[1:]]
+    return [whole_of(x) for x in words]
+
+
 def readable_fields(lines):
-    """The fields of a case of cases.txt, and the replies it expects."""
+    """The fields of a case of cases.txt, and the words of what it expects."""
     f, expect = {}, []
     for line in lines:
         name, *words = line.split("#")[0].split()
         if name in BYTES:
             f[name] = byte_items(file_bytes(line[len(name) + 1 :]))
         elif name == "expect":
-            expect = [x if x == "past" else whole_of(x) for w in words for x in items(w)]
+            expect = [x for w in words for x in items(w)]
         elif name in SCALARS:
             f[name] = value_bits(words[0]) if name == "scale" else scalar(name, words[0])
         else:
@@ -632,24 +647,32 @@ def asked_pairs(f):
     return {ordered(*pair) for pair in zip(f["rrows"], f["rcols"], strict=True)}
 
 
-def whole_inverse(f):
-    """The inverse of L times its transpose, row by row, for ones on the diagonal: the rows of L's inverse first, by substitution."""
-    n, inverse = f["n"], []
-    columns = [dict(kept(f, c)) for c in range(f["n"])]
+def inverse_of(f, read, firsts):
+    """The inverse of L times D times L's transpose, row by row, for ones on L's diagonal: the rows of L's inverse first, by
+    substitution. `read` gives the numbers of L, and `firsts` the inverses of D's."""
+    n, rows = f["n"], []
+    columns = [{r: read(x) for r, x in kept(f, c) if r > c} for c in range(n)]
     for r in range(n):
         row = [int(c == r) for c in range(n)]
         for k in range(r):
-            row = [x - columns[k].get(r, 0) * y for x, y in zip(row, inverse[k])]
-        inverse.append(row)
-    return [[sum(row[i] * row[j] for row in inverse) for j in range(n)] for i in range(n)]
+            row = [x - columns[k].get(r, 0) * y for x, y in zip(row, rows[k])]
+        rows.append(row)
+    weighted = [[first * x for x in row] for first, row in zip(firsts, rows)]
+    return [[sum(one[i] * other[j] for one, other in zip(weighted, rows)) for j in range(n)] for i in range(n)]
 
 
-def whole_recurrence(f, pairs):
-    """The entries of the exact recurrence over a closed set, and all its products, sums and entries."""
+def whole_inverse(f):
+    """The inverse of L times its transpose, for ones on the diagonal."""
+    return inverse_of(f, int, [1] * f["n"])
+
+
+def recurrence(f, pairs, read, firsts):
+    """The entries over a closed set for ones on L's diagonal, and all products, sums and entries; each column's diagonal is its
+    first number less a sum. They are numbers of the kind that `read` and `firsts` give."""
     entry, met = {}, []
 
-    def total(below, pair_of):
-        running = 0
+    def total(below, pair_of, zero):
+        running = zero
         for k, l in below:
             product = l * entry[pair_of(k)]
             running += product
@@ -657,15 +680,26 @@ def whole_recurrence(f, pairs):
         return running
 
     for j in reversed(range(f["n"])):
-        below = [(k, l) for k, l in kept(f, j) if k > j]
+        below, zero = [(k, read(l)) for k, l in kept(f, j) if k > j], type(firsts[j])(0)
         for i in sorted(i for i, c in pairs if c == j and i > j):
-            entry[i, j] = -total(below, lambda k, i=i: ordered(i, k))
+            entry[i, j] = -total(below, lambda k, i=i: ordered(i, k), zero)
         if (j, j) in pairs:
-            entry[j, j] = 1 - total(below, lambda k, j=j: (k, j))
-    if f["n"] <= EVERY_INVERSE:
-        inverse = whole_inverse(f)
-        assert all(z == inverse[i][j] for (i, j), z in entry.items()), f
+            entry[j, j] = firsts[j] - total(below, lambda k, j=j: (k, j), zero)
     return entry, met + list(entry.values())
+
+
+def exact_recurrence(f, pairs, read, firsts):
+    """The same in numbers that are never rounded."""
+    entry, met = recurrence(f, pairs, read, firsts)
+    if f["n"] <= EVERY_INVERSE:
+        inverse = inverse_of(f, read, firsts)
+        assert all(z == inverse[i][j] for (i, j), z in entry.items()), f
+    return entry, met
+
+
+def whole_recurrence(f, pairs):
+    """The entries of the exact recurrence over a closed set, and all its products, sums and entries."""
+    return exact_recurrence(f, pairs, int, [1] * f["n"])
 
 
 def exceeds(f, pairs):
@@ -692,29 +726,35 @@ def wentries_refusals(f):
         yield 20
 
 
-def whole_answer(f):
-    """The answer to an accepted case, as the Rust tells those of other kinds."""
+def selected_answer(f, factor, name, entries):
+    """The answer to an accepted case, as the Rust tells those of other kinds: so many kept pairs, and values of that name, which
+    `entries` gives for the pairs of a closed set."""
     n, limit = f["n"], limit_of(f)
     pairs = closed_set(f, asked_pairs(f), limit)
     complete = len(pairs) <= limit
-    closure, factor = len(pairs) if complete else limit + 1, sum(len(kept(f, c)) for c in range(n))
+    closure = len(pairs) if complete else limit + 1
     counts = {"requested": len(asked_pairs(f)), "closure": closure, "factor": factor, "limit": limit}
     got = {"reply": ["ok"], "status": ["Complete" if complete else "ClosureTooLarge"]}
-    got.update({name: [str(count)] for name, count in counts.items()})
+    got.update({x: [str(count)] for x, count in counts.items()})
     got["ratio"] = [struct.pack(">d", closure / max(factor, 1)).hex()]
     if complete:
-        entry = whole_recurrence(f, pairs)[0]
+        entry = entries(pairs)
         columns = [sorted(i for i, c in pairs if c == j) for j in range(n)]
         lists = {
             "starts": [0, *itertools.accumulate(map(len, columns))],
             "rows": [i for column in columns for i in column],
-            "wvalues": [entry[i, j] for j, column in enumerate(columns) for i in column],
+            name: [entry[i, j] for j, column in enumerate(columns) for i in column],
         }
-        got.update({name: [str(len(held))] + [str(x) for x in held] for name, held in lists.items()})
+        got.update({x: [str(len(held))] + [str(item) for item in held] for x, held in lists.items()})
         if "prows" in f:
             found = [lookup_word(x) for x in lookups({**lists, "prows": f["prows"], "pcols": f["pcols"]})]
             got["gets"] = [str(len(found))] + found
     return got
+
+
+def whole_answer(f):
+    factor = sum(len(kept(f, c)) for c in range(f["n"]))
+    return selected_answer(f, factor, "wvalues", lambda pairs: whole_recurrence(f, pairs)[0])
 
 
 def check_doubles(f, got, doubles):
@@ -725,6 +765,72 @@ def check_doubles(f, got, doubles):
         wholes, digits = (answer.get(x, ["0"])[1:] for answer, x in ((got, name), (doubles, other)))
         for whole, value in zip(wholes, digits, strict=True):
             assert value == whole if "none" in (whole, value) else int(whole) == number_of(value), f
+
+
+# ---- document 02: selected entries of a unit lower factor with pivots
+
+ONE = value_bits("1.0")
+# the largest root of a pivot, and the largest number, for which the Rust is asked about a factor with roots; their inverses are the least
+MOST_ROOT, MOST_NUMBER = 2.0**60, 2.0**900
+
+
+def ldl_refusals(f):
+    n, pivots = f["n"], f["pivots"]
+    yield from bound_refusals(f)
+    yield from factor_refusals(f)
+    if len(pivots) != n:
+        yield 4
+    if not all(finite(d) for d in pivots):
+        yield 18
+    yield from pair_refusals(f)
+    if any(dict(kept(f, c)).get(c, ONE) != ONE for c in range(n)):
+        yield 23
+    if any(at_most_zero(d) for d in pivots):
+        yield 6
+    yield from room_refusals("ldl", f, limit_of(f))
+
+
+def ldl_recurrence(f, pairs):
+    """The entries of an accepted case over a closed set, and all its numbers. Where the exact ones are doubles too, they are equal."""
+    pivots = [number_of(d) for d in f["pivots"]]
+    firsts = [1.0 / d for d in pivots]
+    entry, met = recurrence(f, pairs, number_of, firsts)
+    if f["n"] <= EVERY_INVERSE:
+        exact_firsts = [1 / fractions.Fraction(d) for d in pivots]
+        exact, numbers = exact_recurrence(f, pairs, lambda x: fractions.Fraction(number_of(x)), exact_firsts)
+        if all(abs(x) < MOST_NUMBER and float(x) == x for x in numbers + exact_firsts):
+            assert entry == exact, f
+    return entry, met + firsts
+
+
+def ldl_answer(f):
+    n = f["n"]
+    factor = n + sum(r > c for c in range(n) for r, _ in kept(f, c))
+    digits = lambda entry: {pair: "nan" if math.isnan(z) else struct.pack(">d", z).hex() for pair, z in entry.items()}
+    return selected_answer(f, factor, "values", lambda pairs: digits(ldl_recurrence(f, pairs)[0]))
+
+
+def rooted(f):
+    """An accepted case as one of entries, with each column times its pivot's root; None where a pivot is no power of 4, or a number
+    is so large or small that a power of 2 more may round it."""
+    roots = [math.sqrt(number_of(d)) for d in f["pivots"]]
+    pairs = closed_set(f, asked_pairs(f), limit_of(f))
+    numbers = [number_of(x) for c in range(f["n"]) for _, x in kept(f, c)]
+    numbers += ldl_recurrence(f, pairs)[1] if len(pairs) <= limit_of(f) else []
+    if any(math.frexp(root)[0] != 0.5 or not 1 / MOST_ROOT <= root <= MOST_ROOT for root in roots):
+        return None
+    if not all(x == 0 or 1 / MOST_NUMBER < abs(x) < MOST_NUMBER for x in numbers):
+        return None
+    columns = [{c: root, **{r: number_of(x) * root for r, x in kept(f, c) if r > c}} for c, root in enumerate(roots)]
+    factor = {"n": f["n"], "starts": [0, *itertools.accumulate(map(len, columns))], "rows": [r for column in columns for r in column]}
+    factor["values"] = [struct.pack(">d", x).hex() for column in columns for x in column.values()]
+    return {**factor, **{x: f[x] for x in ("rdim", "rrows", "rcols", "prows", "pcols") if x in f}, "limit": limit_of(f)}
+
+
+def check_rooted(f, got, rust):
+    """Holds an accepted case to the Rust's answer for the factor with roots."""
+    for name in ("reply", *DIAGNOSIS, "starts", "rows", "values", "gets"):
+        assert got.get(name) == rust.get(name), (f, name)
 
 
 # ---- document 02: a result of whole numbers: the bounds on a row's variance with weights in ranges, and the variances along a track
@@ -1018,6 +1124,7 @@ def no_refusals(f):
 
 REFUSALS = {
     "entries": entries_refusals,
+    "ldl": ldl_refusals,
     "get": no_refusals,
     "wentries": wentries_refusals,
     "wget": no_refusals,
@@ -1097,6 +1204,7 @@ DIAGNOSIS = ("status", "requested", "closure", "factor", "limit", "ratio")
 # the answer's lines that the Rust gives in front of the lists
 TOLD = {
     "entries": DIAGNOSIS,
+    "ldl": DIAGNOSIS,
     "wentries": DIAGNOSIS,
     "diagorig": DIAGNOSIS,
     "opvar": DIAGNOSIS,
@@ -1202,6 +1310,10 @@ def expected(kind, f, answer):
     if kind == "wentries" and not number:
         doubles, got = got, whole_answer(f)
         check_doubles(f, got, doubles)
+    if kind == "ldl" and not number:
+        rust, got = got, ldl_answer(f)
+        if rust:
+            check_rooted(f, got, rust)
     reply = got.get("reply", [])
     said = 0 if reply == ["ok"] else error_number(kind, reply[-1]) if reply else number
     if said != number:
@@ -1229,7 +1341,7 @@ def run(program, *args, text=""):
 
 def asked(name, kind, f):
     """What the Rust is asked for a case: of values with marks the values alone, of covariances the entries that they need, of
-    whole numbers the same as doubles."""
+    whole numbers the same as doubles, of a factor with pivots the one with roots."""
     if kind == "permmarked":
         return name, "permapply", {x: f[x] for x in READ["permapply"]}
     if kind == "covar":
@@ -1239,7 +1351,14 @@ def asked(name, kind, f):
     if kind == "wentries":
         doubles = {x: f[x] for x in READ["entries"] if x in f}
         return name, "entries", {**doubles, "values": [struct.pack(">d", x).hex() for x in f["wvalues"]]}
+    if kind == "ldl":
+        return name, "entries", rooted(f)
     return name, kind, f
+
+
+def is_asked(kind, f):
+    """Whether the Rust is asked for an accepted case of a kind that it is asked about."""
+    return kind != "ldl" or rooted(f) is not None
 
 
 def answers(programs, cases):
@@ -1509,8 +1628,8 @@ def some_edge_columns(chance, n):
     return [first] + [[(c, 1), (n - 1, chance.pick(near) * chance.pick((1, -1)))] for c in range(1, n - 1)] + [[(n - 1, 1)]]
 
 
-def spoil_whole(chance, f):
-    """One fault, or something that looks like one."""
+def spoil_whole(chance, f, values="wvalues"):
+    """One fault, or something that looks like one; of other values than whole numbers, of the lists alone."""
     n, which = min(f["n"], 2**32 - 2), chance.below(9)
     if which == 0:
         f["rdim"] = chance.pick((n + 1, max(n - 1, 0), 2**32 + n))
@@ -1527,8 +1646,8 @@ def spoil_whole(chance, f):
     elif which == 5:
         f["n"] = chance.pick((MOST_COLUMNS + 1, n + 1, 2**64 - 1))
     elif which == 6:
-        f["wvalues"] = f["wvalues"][1:]
-    elif f["wvalues"]:
+        f[values] = f[values][1:]
+    elif f.get("wvalues"):
         # mostly a diagonal: another number, or dropped
         ones = [p for p, x in enumerate(f["wvalues"]) if x == 1]
         at = chance.pick(ones) if ones else 0
@@ -1579,6 +1698,94 @@ def some_wholes(seed=1):
     chance = Chance(int(seed))
     for k in range(WHOLE_CASES):
         yield "wentries-%d" % k, "wentries", some_whole_case(chance)
+
+
+# how many cases the set ldl has
+PIVOT_CASES = 3000
+# values that a sum may take for others, or not expect
+ODD_VALUES = ("0.1", "-0.3", "1e16", "-2^53", "2^-1074", "-1e-300", "1e300", "-1e200")
+
+
+def some_pivot(chance, plain):
+    """A power of 4; where not plain any number above 0, the least and the largest too."""
+    if plain or chance.one_of(2):
+        return value_bits("2^%d" % (2 * (chance.below(9) - 4)))
+    return value_bits(chance.pick(("2.0", "3.0", "0.1", "0.7", "1e-5", "1e10", "2^-1074", "0x7fefffffffffffff", "1e-310")))
+
+
+def some_pivoted_column(chance, c, below, plain):
+    """The stored entries of a column: its diagonal stored, absent, or dropped; now and then another dropped one."""
+    entries = {r: value_bits(chance.pick(("1.0", "-1.0", "2.0", "-0.5", "3.0", "0.25", "7.0"))) for r in below}
+    if below and not plain and chance.one_of(3):
+        entries[chance.pick(below)] = value_bits(chance.pick(ODD_VALUES))
+    if not chance.one_of(3):
+        entries[c] = ONE
+    elif chance.one_of(3):
+        entries[c] = value_bits(chance.pick(("0.0", "-0.0")))
+    if below and chance.one_of(8):
+        entries[chance.pick(below)] = value_bits(chance.pick(("0.0", "-0.0")))
+    if c and chance.one_of(8):
+        entries[chance.below(c)] = value_bits(chance.pick(("1.0", "nan", "inf")))
+    return sorted(entries.items())
+
+
+def spoil_pivoted(chance, f):
+    """One fault, or something that looks like one."""
+    which, pivots = chance.below(12), f["pivots"]
+    at = chance.below(max(len(pivots), 1))
+    if which == 0:
+        f["pivots"] = pivots[:-1] if pivots and chance.one_of(2) else pivots + [ONE]
+    elif which in (1, 2) and pivots:
+        f["pivots"] = [*pivots[:at], value_bits(chance.pick(("nan", "inf", "-inf"))), *pivots[at + 1 :]]
+    elif which in (3, 4) and pivots:
+        f["pivots"] = [*pivots[:at], value_bits(chance.pick(("0.0", "-0.0", "-1.0", "-2^-1074"))), *pivots[at + 1 :]]
+    elif which < 8 and f["values"]:
+        # of a diagonal 1 another
+        ones = [p for p, x in enumerate(f["values"]) if x == ONE]
+        at = chance.pick(ones) if ones and not chance.one_of(4) else chance.below(len(f["values"]))
+        other = value_bits(chance.pick(("-1.0", "2.0", "0x3ff0000000000001", "0.0", "nan", "-inf")))
+        f["values"] = [*f["values"][:at], other, *f["values"][at + 1 :]]
+    else:
+        spoil_whole(chance, f, "values")
+
+
+def some_pivoted_lists(chance, f):
+    """The lists lent, as long as needed, a few places more, or now and then one less."""
+    n, entries = min(f["n"], 64), min(limit_of(f), triangle(min(f["n"], 64)))
+    needs = {"lstarts": n + 1, "lrows": entries, "lvalues": entries, "lscratch": scratch_words(n)}
+    lengths = {x: max(need + (-1 if chance.one_of(16) else chance.pick((0, 0, 1, 3))), 0) for x, need in needs.items()}
+    return {x: [SEVENS if x in VALUES else 7777] * length for x, length in lengths.items()}
+
+
+def some_pivoted_case(chance):
+    """A factor with pivots, requests, a limit, mostly pairs; some faults; some lists lent."""
+    n, plain = chance.pick((0, 1, 2, 3, 3, 4, 4, 5, 6, 8, 12, chance.below(24))), not chance.one_of(3)
+    columns = [some_pivoted_column(chance, c, below, plain) for c, below in enumerate(some_descendants(chance, n))]
+    f = {"n": n, "starts": [0, *itertools.accumulate(map(len, columns))], "rdim": n}
+    f["rows"], f["values"] = ([entry[k] for column in columns for entry in column] for k in (0, 1))
+    f["pivots"] = [some_pivot(chance, plain) for _ in range(n)]
+    count = chance.pick((0, 1, 1, 1, 2, 3, 6)) if n else 0
+    f["rrows"], f["rcols"] = ([chance.below(n) for _ in range(count)] for _ in range(2))
+    if count and chance.one_of(2):
+        f["rrows"], f["rcols"] = [0], [0]
+    for _ in range(chance.pick((0, 0, 0, 0, 0, 1, 1, 2))):
+        spoil_pivoted(chance, f)
+    closed = 3
+    if f["n"] == n and not next(factor_refusals(f), 0) and not next(pair_refusals(f), 0):
+        closed = len(closed_set(f, asked_pairs(f), triangle(n)))
+    f["limit"] = chance.pick(("default", closed, closed, max(closed - 1, 0), closed + 1, triangle(n), 2**64 - 1))
+    if chance.one_of(2):
+        f.update(some_pivoted_lists(chance, f))
+    if chance.one_of(2):
+        looked = chance.pick((1, 3, 6))
+        f["prows"], f["pcols"] = ([chance.below(n + 2) for _ in range(looked)] for _ in range(2))
+    return f
+
+
+def some_pivoted(seed=1):
+    chance = Chance(int(seed))
+    for k in range(PIVOT_CASES):
+        yield "ldl-%d" % k, "ldl", some_pivoted_case(chance)
 
 
 def some_whole_lookup(chance):
@@ -1851,7 +2058,7 @@ def some_lists(chance, f):
 
 def answered(programs, cases):
     """The cases (id, kind, fields) with the Rust's answers; of refused ones it is not asked."""
-    questions = [case for case in cases if not refusal(*case[1:])]
+    questions = [case for case in cases if not refusal(*case[1:]) and is_asked(*case[1:])]
     said = {case[0]: answer for case, answer in zip(questions, answers(programs, questions))}
     return [finished(*case, said.get(case[0])) for case in cases]
 
@@ -1864,6 +2071,8 @@ def generated(programs, name, *seed):
         return answered(programs, [c for c in some_covar(programs, *seed) if fits(*c[1:])])
     if name == "wentries":
         return answered(programs, [c for c in some_wholes(*seed) if fits(*c[1:])])
+    if name == "ldl":
+        return answered(programs, [c for c in some_pivoted(*seed) if fits(*c[1:])])
     if name == "permmarked":
         cases = [c for c in some_marked(programs, *seed) if fits(*c[1:])]
         return [finished(*c, answer) for c, answer in zip(cases, answers(programs, cases))]
@@ -1883,7 +2092,8 @@ def given(programs):
         text = file.read()
     cases, questioned, names = [], [], set()
     for name, kind, lines in blocks(text):
-        f, expect = readable_fields(lines)
+        f, words = readable_fields(lines)
+        expect = expected_words(kind, words)
         assert name not in names and fits(kind, f), name
         names.add(name)
         if kind == "search":
@@ -1894,18 +2104,19 @@ def given(programs):
         elif kind in ("bounds", "track"):
             number = [refusal(kind, f)]
             number += [] if number[0] else variance_bounds(f) if kind == "bounds" else track_variances(f)
-        elif kind == "wentries":
+        elif kind in ("wentries", "ldl"):
             number = [refusal(kind, f)]
             if not number[0]:
-                got = whole_answer(f)
-                number = [0, *map(int, got["wvalues"][1:])] if got["status"] == ["Complete"] else ["past"]
+                got = whole_answer(f) if kind == "wentries" else ldl_answer(f)
+                entries = map(int, got.get("wvalues", [])[1:]) if kind == "wentries" else got.get("values", [])[1:]
+                number = [0, *entries] if got["status"] == ["Complete"] else ["past"]
         else:
             number = [number for number, _ in lookups(f)] if kind in ("get", "wget") else [refusal(kind, f)]
         assert number == expect, "%s: expects %s, document 01 gives %s" % (name, expect, number)
         lent = [x in f for x in LENT[kind]]
         assert all(lent) or not any(lent) or kind == "diag", name
         cases.append((name, kind, f))
-        if kind not in MADE and (kind == "get" or number[0] in (0, 8, "past")):
+        if kind not in MADE and (kind == "get" or number[0] in (0, 8, "past")) and is_asked(kind, f):
             questioned.append((name, kind, f))
     said = {c[0]: answer for c, answer in zip(questioned, answers(programs, questioned))}
     return [finished(*c, said.get(c[0])) for c in cases]

@@ -181,6 +181,52 @@ int main(void)
     printf("written: refusal %u, %zu bytes:\n%.*s",
         (unsigned)written.refusal, written.bytes, (int)written.bytes, (const char *)output);
 
+    /* The matrix (4, 8; 8, 17), whose inverse is (4.25, -2; -2, 1), in both forms: as L times its transpose, of the columns
+     * (2, 4) and (1); and as L times D times the transpose of L, which has 2 below a diagonal of ones and the pivots 4 and 1. The
+     * ones need not be stored. */
+    const double cholesky_values[] = {2.0, 4.0, 1.0};
+    const uint32_t ldl_starts[] = {0, 1, 1};
+    const uint32_t ldl_rows[] = {1};
+    const double ldl_values[] = {2.0};
+    const double pivots[] = {4.0, 1.0};
+    reply = redstartgilt_selected_inverse_entries_with_limit(
+        2, starts, COUNT(starts), rows, COUNT(rows), cholesky_values, COUNT(cholesky_values),
+        2, request_rows, COUNT(request_rows), request_columns, COUNT(request_columns),
+        3,
+        result_starts, COUNT(result_starts), result_rows, COUNT(result_rows), result_values, COUNT(result_values),
+        scratch, COUNT(scratch));
+    printf("L times its transpose: refusal %u, %zu in the factor: %.17g %.17g %.17g\n",
+        (unsigned)reply.refusal, reply.factor_pairs, result_values[0], result_values[1], result_values[2]);
+    reply = redstartgilt_selected_inverse_entries_ldl_with_limit(
+        2, ldl_starts, COUNT(ldl_starts), ldl_rows, COUNT(ldl_rows), ldl_values, COUNT(ldl_values),
+        pivots, COUNT(pivots),
+        2, request_rows, COUNT(request_rows), request_columns, COUNT(request_columns),
+        3,
+        result_starts, COUNT(result_starts), result_rows, COUNT(result_rows), result_values, COUNT(result_values),
+        scratch, COUNT(scratch));
+    printf("with pivots: refusal %u, %zu in the factor: %.17g %.17g %.17g\n",
+        (unsigned)reply.refusal, reply.factor_pairs, result_values[0], result_values[1], result_values[2]);
+
+    /* With the default limit; the ones are stored here. A diagonal of 2 is refused with 23, a pivot of 0 with 6, and one
+     * pivot for two columns with 4. */
+    const double unit_values[] = {1.0, 2.0, 1.0};
+    const double no_pivot[] = {4.0, 0.0};
+    const struct { const char *name; const double *values; const double *pivots; size_t pivots_len; } with_pivots[] = {
+        {"ones stored", unit_values, pivots, 2},
+        {"a diagonal of 2", cholesky_values, pivots, 2},
+        {"a pivot of 0", unit_values, no_pivot, 2},
+        {"one pivot", unit_values, pivots, 1},
+    };
+    for (size_t place = 0; place < COUNT(with_pivots); place++) {
+        reply = redstartgilt_selected_inverse_entries_ldl(
+            2, starts, COUNT(starts), rows, COUNT(rows), with_pivots[place].values, 3,
+            with_pivots[place].pivots, with_pivots[place].pivots_len,
+            2, request_rows, COUNT(request_rows), request_columns, COUNT(request_columns),
+            result_starts, COUNT(result_starts), result_rows, COUNT(result_rows), result_values, COUNT(result_values),
+            scratch, COUNT(scratch));
+        printf("%s: refusal %u, limit %zu\n", with_pivots[place].name, (unsigned)reply.refusal, reply.closure_limit);
+    }
+
     /* In whole numbers, exact: the factor of columns (1, -3) and (1), whose inverse is (10, 3; 3, 1). */
     const int64_t whole_values[] = {1, -3, 1};
     int64_t whole_result[3];

@@ -20,7 +20,8 @@ pub struct SelectedInverseDiagnostics {
     /// Pairs of the closed set: the requests and all that the recurrence needs for them. Where it passes the limit,
     /// limit + 1.
     pub closure_pairs: usize,
-    /// Entries of the factor on or below its diagonal that are not 0.0.
+    /// Entries of the factor on or below its diagonal that are not 0.0; of a factor with pivots, those below its diagonal
+    /// and one for each column.
     pub factor_pairs: usize,
     /// `closure_pairs / max(factor_pairs, 1)`.
     pub closure_over_factor: f64,

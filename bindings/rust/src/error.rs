@@ -28,12 +28,13 @@ pub enum Error {
     BrokenStarts,
     /// 3: a row index of n or more, or not above the one before it in its column.
     BrokenRows,
-    /// 4: requests, a permutation, an operator or a vector of another dimension, or lists of requests or of row pairs
-    /// that are of unequal length.
+    /// 4: requests, a permutation, pivots, an operator or a vector of another dimension, or lists of requests or of row
+    /// pairs that are of unequal length.
     DimensionMismatch,
     /// 5: an index of n or more, of a request or of the pair whose chain is asked for.
     RequestOutOfRange,
-    /// 6: a column without a diagonal entry, or with one at most 0.0; an entry of 0.0 counts as none.
+    /// 6: a column without a diagonal entry, or with one at most 0.0; an entry of 0.0 counts as none. Of a factor with
+    /// pivots, a pivot at most 0.0, and no column without a diagonal entry.
     NonPositiveDefinite,
     /// 7: a list lent for results, requests, a chain, scratch or output that is too short.
     TooShort,
@@ -62,7 +63,7 @@ pub enum Error {
     /// 17: a request file with an index of 0, one above its size, or a row less than its column.
     FileIndexOutside,
     /// 18: an entry of a factor, on or below its diagonal, that is NaN or infinite. It has row and column of the first
-    /// one, by column then row; `None` where the refusal comes from its number alone.
+    /// one, by column then row; `None` where it is a pivot, or where the refusal comes from its number alone.
     ///
     /// ```
     /// use redstartgilt::{CholeskyFactor, Error};
@@ -82,7 +83,7 @@ pub enum Error {
     BadWeights,
     /// 22: a width of 0, above 1,024, or above the length of the track.
     BadWidth,
-    /// 23: a diagonal entry other than 1 in a factor with pivots; an entry of 0.0 counts as none. No call gives it yet.
+    /// 23: a diagonal entry other than 1 in a factor with pivots; an entry of 0.0 counts as none.
     PivotDiagonalNotOne,
     /// 24: requests without a pair, of a dimension above 0, that are to be written as a file, where they would mean all
     /// diagonals.
@@ -166,15 +167,16 @@ impl Error {
             }
             Error::BrokenRows => "broken rows: the row indices of each column must be below n and ascend",
             Error::DimensionMismatch => {
-                "dimensions do not match: requests, permutation, operator or vector are of another dimension than the \
-                 factor, or two lists that go together differ in length"
+                "dimensions do not match: requests, permutation, pivots, operator or vector are of another dimension than \
+                 the factor, or two lists that go together differ in length"
             }
             Error::RequestOutOfRange => {
                 "an index of a request, or of the pair whose chain is asked for, is outside: it must be below the \
                  dimension"
             }
             Error::NonPositiveDefinite => {
-                "not positive definite: a column of the factor has no diagonal entry, or one that is at most 0"
+                "not positive definite: a column of the factor has no diagonal entry, or one that is at most 0, or a pivot \
+                 is at most 0"
             }
             Error::TooShort => "a list lent for results, requests, a chain, scratch or output is too short",
             Error::NotCovered => {
@@ -203,7 +205,7 @@ impl Error {
                 "an index of the request file is outside: indices go from 1 to the size, and a row must be at least its \
                  column"
             }
-            Error::NotFiniteEntry(_) => "an entry of the factor, on or below its diagonal, is not finite",
+            Error::NotFiniteEntry(_) => "an entry of the factor, on or below its diagonal, or a pivot is not finite",
             Error::DiagonalNotOne => "a diagonal entry of a factor of whole numbers is not 1",
             Error::NumberTooLarge => {
                 "a number is too large in size to be exact: beyond 2^53 an entry of a factor of whole numbers, or a product, \

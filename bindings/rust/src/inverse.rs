@@ -5,7 +5,8 @@ use crate::lent::{self, default_limit, EntryLists};
 use crate::marks::covered;
 use crate::{CholeskyFactor, Error, SelectedInverseDiagnostics, SparseSymmetricPattern, Workspace};
 
-/// Entries of the inverse of L·Lᵀ on a closed set of pairs, in the factor's order.
+/// Entries of the inverse of L·Lᵀ, or of L·D·Lᵀ for an [`LdlFactor`](crate::LdlFactor), on a closed set of pairs, in the
+/// factor's order.
 #[derive(Debug, Clone, PartialEq)]
 pub struct SparseSelectedInverse {
     columns: Columns<f64>,
@@ -209,7 +210,11 @@ pub fn selected_inverse_entries_with_limit_in(
     Ok(answer(n, diagnostics, workspace))
 }
 
-fn answer(n: usize, diagnostics: SelectedInverseDiagnostics, workspace: &Workspace) -> SelectedInverseEntries {
+pub(crate) fn answer(
+    n: usize,
+    diagnostics: SelectedInverseDiagnostics,
+    workspace: &Workspace,
+) -> SelectedInverseEntries {
     let inverse = diagnostics.is_complete().then(|| {
         let columns = workspace.filled(n, diagnostics.closure_pairs);
         SparseSelectedInverse { columns }

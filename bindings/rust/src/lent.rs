@@ -59,6 +59,7 @@ mod chains;
 mod factors;
 mod files;
 mod floors;
+mod ldl;
 mod lengths;
 mod lists;
 mod patterns;
@@ -72,6 +73,7 @@ pub use chains::dependency_chain;
 pub use factors::check_factor;
 pub use files::{read_requests, write_requests, FileRequests};
 pub use floors::{count_and_least, stabilize_variances, Floored};
+pub use ldl::{check_ldl_factor, selected_inverse_entries_ldl, selected_inverse_entries_ldl_with_limit};
 pub use lengths::{
     chain_places, chain_words, default_limit, mark_words, pair_total, request_file_bytes, request_places,
     result_places, scratch_words, track_runs,

@@ -25,6 +25,8 @@
 //! # Ok::<(), redstartgilt::Error>(())
 //! ```
 //!
+//! A factor given as L·D·Lᵀ, with ones on the diagonal of L and a list of pivots, is an [`LdlFactor`].
+//!
 //! Three layers, each on the one below:
 //! - the functions and types here, which allocate what they need; those whose name ends in `_in` take a [`Workspace`]
 //!   and use its memory again;
@@ -52,6 +54,7 @@ mod factor;
 mod floor;
 mod index;
 mod inverse;
+mod ldl;
 pub mod lent;
 mod marks;
 mod operator;
@@ -80,6 +83,10 @@ pub use floor::{count_and_least, stabilize_variances, CountAndLeast, StabilizedV
 pub use inverse::{
     selected_inverse_entries, selected_inverse_entries_in, selected_inverse_entries_with_limit,
     selected_inverse_entries_with_limit_in, SelectedInverseEntries, SparseSelectedInverse,
+};
+pub use ldl::{
+    selected_inverse_entries_ldl, selected_inverse_entries_ldl_in, selected_inverse_entries_ldl_with_limit,
+    selected_inverse_entries_ldl_with_limit_in, LdlFactor,
 };
 pub use operator::SparseRowOperator;
 pub use pattern::SparseSymmetricPattern;

@@ -362,7 +362,7 @@ fn tracks(answer: &mut String, case: &Case<'_>) {
     put_wholes(answer, "wout", &output);
 }
 
-/// Entries, the diagonal in original order, operator variances and covariances: all take a factor and fill result lists.
+/// Entries, with pivots or without, the diagonal in original order, operator variances and covariances: all take a factor and fill result lists.
 fn selected(answer: &mut String, case: &Case<'_>) {
     let n = case.number("n");
     let (starts, rows, values) = (case.words("starts"), case.words("rows"), case.values("values"));
@@ -409,6 +409,66 @@ fn selected(answer: &mut String, case: &Case<'_>) {
                         rows.len(),
                         values.as_ptr(),
                         values.len(),
+                        dimension,
+                        request_rows.as_ptr(),
+                        request_rows.len(),
+                        request_columns.as_ptr(),
+                        request_columns.len(),
+                        limit.parse().unwrap(),
+                        result_starts.as_mut_ptr(),
+                        result_starts.len(),
+                        result_rows.as_mut_ptr(),
+                        result_rows.len(),
+                        result_values.as_mut_ptr(),
+                        result_values.len(),
+                        scratch.as_mut_ptr(),
+                        scratch.len(),
+                    )
+                },
+            }
+        }
+        "ldl" => {
+            let pivots = case.values("pivots");
+            let (request_rows, request_columns) = (case.words("rrows"), case.words("rcols"));
+            let dimension = case.number("rdim");
+            match case.word("limit") {
+                "default" => unsafe {
+                    sys::redstartgilt_selected_inverse_entries_ldl(
+                        n,
+                        starts.as_ptr(),
+                        starts.len(),
+                        rows.as_ptr(),
+                        rows.len(),
+                        values.as_ptr(),
+                        values.len(),
+                        pivots.as_ptr(),
+                        pivots.len(),
+                        dimension,
+                        request_rows.as_ptr(),
+                        request_rows.len(),
+                        request_columns.as_ptr(),
+                        request_columns.len(),
+                        result_starts.as_mut_ptr(),
+                        result_starts.len(),
+                        result_rows.as_mut_ptr(),
+                        result_rows.len(),
+                        result_values.as_mut_ptr(),
+                        result_values.len(),
+                        scratch.as_mut_ptr(),
+                        scratch.len(),
+                    )
+                },
+                limit => unsafe {
+                    sys::redstartgilt_selected_inverse_entries_ldl_with_limit(
+                        n,
+                        starts.as_ptr(),
+                        starts.len(),
+                        rows.as_ptr(),
+                        rows.len(),
+                        values.as_ptr(),
+                        values.len(),
+                        pivots.as_ptr(),
+                        pivots.len(),
                         dimension,
                         request_rows.as_ptr(),
                         request_rows.len(),
@@ -536,7 +596,7 @@ fn selected(answer: &mut String, case: &Case<'_>) {
     put_words(answer, "rows", &result_rows);
     put_values(answer, "values", &result_values);
     put_words(answer, "scratch", &scratch);
-    if case.kind != "entries" {
+    if !["entries", "ldl"].contains(&case.kind) {
         put_values(answer, "out", &output);
     } else if (reply.refusal, reply.status) == (0, sys::REDSTARTGILT_COMPLETE) && case.has("prows") {
         put_value_gets(answer, &result_starts[..n + 1], &result_rows, &result_values, case);
@@ -810,7 +870,7 @@ fn least(answer: &mut String, case: &Case<'_>) {
 fn answer(case: &Case<'_>) -> String {
     let mut answer = format!("{}\n", case.head);
     match case.kind {
-        "entries" | "diagorig" | "opvar" | "covar" => selected(&mut answer, case),
+        "entries" | "ldl" | "diagorig" | "opvar" | "covar" => selected(&mut answer, case),
         "get" => {
             answer.push_str("reply ok\n");
             let (starts, rows, values) = (case.words("starts"), case.words("rows"), case.values("values"));
@@ -863,7 +923,7 @@ fn every_answer_is_that_of_the_proved_program() {
     let (stdin, stdout) = (text("stdin"), text("stdout"));
     let (cases, expected) = (cases(&stdin), cases(&stdout));
     assert_eq!(cases.len(), expected.len());
-    assert!(cases.len() >= 3_639);
+    assert!(cases.len() >= 4_033);
     for (lines, expected) in cases.iter().zip(expected) {
         let fields = lines[1..lines.len() - 1].iter().map(|line| {
             let mut words = line.split_whitespace();

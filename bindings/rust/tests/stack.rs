@@ -1,9 +1,10 @@
 //! The stack that calls need in the largest dimension.
 
 use redstartgilt::{
-    dependency_chain, selected_inverse_diag, selected_inverse_entries_whole, selected_inverse_entries_with_limit,
-    selected_inverse_transformed_covariances, selected_inverse_transformed_diag, CholeskyFactor, Permutation,
-    SparseRowOperator, SparseSymmetricPattern, WholeFactor, MAX_DIMENSION, STACK_BYTES,
+    dependency_chain, selected_inverse_diag, selected_inverse_entries_ldl, selected_inverse_entries_ldl_with_limit,
+    selected_inverse_entries_whole, selected_inverse_entries_with_limit, selected_inverse_transformed_covariances,
+    selected_inverse_transformed_diag, CholeskyFactor, LdlFactor, Permutation, SparseRowOperator,
+    SparseSymmetricPattern, WholeFactor, MAX_DIMENSION, STACK_BYTES,
 };
 use std::thread;
 
@@ -31,6 +32,13 @@ fn arrow() -> CholeskyFactor {
     CholeskyFactor::from_triplets(N, &entries).unwrap()
 }
 
+/// Those entries below the diagonal of another factor, with pivots of 4.
+fn with_pivots(factor: &CholeskyFactor) -> LdlFactor {
+    let entries = factor.lower_triplets().into_iter();
+    let below = entries.filter(|(row, column, _)| row > column).collect::<Vec<_>>();
+    LdlFactor::from_triplets(N, &below, vec![4.0; N]).unwrap()
+}
+
 fn one_pair(row: usize, column: usize) -> SparseSymmetricPattern {
     let mut requested = SparseSymmetricPattern::new(N);
     requested.insert(row, column).unwrap();
@@ -47,6 +55,7 @@ fn calls() -> Vec<Box<dyn Fn() + Send>> {
     let row_pairs = (0..N).map(|row| (row, row)).collect::<Vec<_>>();
     let (diagonals, first, last) = (grid(), arrow(), grid());
     let (variances, covariances, chain) = (grid(), grid(), grid());
+    let (pivots, first_pivots) = (with_pivots(&grid()), with_pivots(&arrow()));
     let other_sums = sums.clone();
     vec![
         Box::new(move || assert_eq!(selected_inverse_diag(&diagonals).unwrap().values[0], 0.25)),
@@ -58,6 +67,16 @@ fn calls() -> Vec<Box<dyn Fn() + Send>> {
         Box::new(move || {
             let found = selected_inverse_entries_with_limit(&last, &one_pair(N - 1, 0), usize::MAX).unwrap();
             assert_eq!(found.diagnostics.closure_pairs, N);
+        }),
+        Box::new(move || {
+            let found = selected_inverse_entries_ldl(&pivots, &SparseSymmetricPattern::diagonal(N)).unwrap();
+            assert_eq!(found.diagnostics.closure_pairs, found.diagnostics.factor_pairs);
+            assert_eq!(found.inverse.unwrap().get(N - 1, N - 1), Some(0.25));
+        }),
+        Box::new(move || {
+            let found = selected_inverse_entries_ldl_with_limit(&first_pivots, &one_pair(0, 0), usize::MAX).unwrap();
+            assert_eq!(found.diagnostics.closure_pairs, N * (N + 1) / 2);
+            assert_eq!(found.inverse.unwrap().get(0, 0), Some(N as f64 / 4.0));
         }),
         Box::new(move || {
             let found = selected_inverse_entries_whole(&whole, &SparseSymmetricPattern::diagonal(N)).unwrap();

@@ -12,7 +12,7 @@ pub const REDSTARTGILT_BROKEN_ROWS: u32 = 3;
 pub const REDSTARTGILT_DIMENSION_MISMATCH: u32 = 4;
 /// A request, or a pair whose chain is asked for, with an index of n or more.
 pub const REDSTARTGILT_REQUEST_OUT_OF_RANGE: u32 = 5;
-/// A column without a kept diagonal, or with one at most 0.0.
+/// A column without a kept diagonal, or with one at most 0.0; a pivot at most 0.0.
 pub const REDSTARTGILT_NON_POSITIVE_DEFINITE: u32 = 6;
 /// A list lent for writing that is too short.
 pub const REDSTARTGILT_TOO_SHORT: u32 = 7;
@@ -37,7 +37,7 @@ pub const REDSTARTGILT_OTHER_HEADER: u32 = 15;
 pub const REDSTARTGILT_MALFORMED_FILE: u32 = 16;
 /// A request file with an index outside its size, or above the diagonal.
 pub const REDSTARTGILT_FILE_INDEX_OUTSIDE: u32 = 17;
-/// A kept entry of a factor that is NaN or infinite.
+/// A kept entry of a factor, or a pivot, that is NaN or infinite.
 pub const REDSTARTGILT_NOT_FINITE_ENTRY: u32 = 18;
 /// A kept diagonal other than 1 of a factor of whole numbers.
 pub const REDSTARTGILT_DIAGONAL_NOT_ONE: u32 = 19;
@@ -48,7 +48,7 @@ pub const REDSTARTGILT_NUMBER_TOO_LARGE: u32 = 20;
 pub const REDSTARTGILT_BAD_WEIGHTS: u32 = 21;
 /// A width of 0, above 1,024 or above the track's length.
 pub const REDSTARTGILT_BAD_WIDTH: u32 = 22;
-/// A kept diagonal other than 1 beside pivots; no call gives it yet, nor the one below.
+/// A kept diagonal other than 1 of a factor with pivots.
 pub const REDSTARTGILT_PIVOT_DIAGONAL_NOT_ONE: u32 = 23;
-/// An empty request list of a dimension above 0 that is to be written as a file.
+/// An empty request list of a dimension above 0 that is to be written as a file; no call gives it yet.
 pub const REDSTARTGILT_NO_REQUESTS: u32 = 24;

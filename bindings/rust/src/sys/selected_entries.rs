@@ -19,7 +19,7 @@ pub struct redstartgilt_selected {
     pub requested_pairs: usize,
     /// Pairs of the closed set, or limit + 1 where it passes the limit.
     pub closure_pairs: usize,
-    /// Kept entries of the factor.
+    /// Kept entries of the factor; with pivots each column counts one for its diagonal, stored or not.
     pub factor_pairs: usize,
     /// The limit that was applied.
     pub closure_limit: usize,

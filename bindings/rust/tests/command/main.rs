@@ -6,6 +6,7 @@ mod exact;
 mod factors;
 mod operators;
 mod pictures;
+mod pivots;
 mod ranges;
 mod requests;
 mod tracks;

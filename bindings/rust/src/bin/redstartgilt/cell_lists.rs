@@ -1,4 +1,4 @@
-//! Requests, row pairs, ranges, tracks and permutations from files of whole numbers.
+//! Requests, row pairs, ranges, tracks, permutations and pivots from files with a few numbers a line.
 
 use crate::failure::Failure;
 use crate::lines::Lines;
@@ -187,6 +187,63 @@ pub fn ranges(file: &Path) -> Result<BTreeMap<usize, Vec<Range>>, Failure> {
 pub fn track(file: &Path) -> Result<Vec<(usize, usize)>, Failure> {
     let lines = indices::<1>(file, &text_of(file)?, "one cell")?;
     Ok(lines.into_iter().map(|(line, [cell])| (line, cell)).collect())
+}
+
+/// A pivot, with its line.
+pub struct Pivot {
+    pub line: usize,
+    pub value: f64,
+}
+
+/// The pivots of a file: one a line, or a Matrix Market array of one column.
+pub fn pivots(file: &Path) -> Result<Vec<Pivot>, Failure> {
+    let text = text_of(file)?;
+    if is_matrix_market(&text) {
+        return pivot_array(file, &text);
+    }
+    let lines = words(file, &text, "one pivot")?.into_iter();
+    lines.map(|(line, [word])| pivot(file, line, word)).collect()
+}
+
+fn pivot(file: &Path, line: usize, word: &str) -> Result<Pivot, Failure> {
+    match word.parse() {
+        Ok(value) => Ok(Pivot { line, value }),
+        Err(_) => Err(Failure::at_line(file, line, format!("{word} is not a number"))),
+    }
+}
+
+/// The pivots of a Matrix Market array.
+fn pivot_array(file: &Path, text: &[u8]) -> Result<Vec<Pivot>, Failure> {
+    let mut lines = Lines::new(file, text);
+    let header = lines.next()?.map_or("", |(_, line)| line).to_lowercase();
+    let kinds = header.split_whitespace().skip(1).collect::<Vec<_>>();
+    if !matches!(kinds[..], ["matrix", "array", "real" | "integer", "general"]) {
+        let reason = "pivots are a list, or a file with the header %%MatrixMarket matrix array real general";
+        return Err(Failure::at_line(file, 1, reason));
+    }
+    let Some((line, sizes)) = lines.next_filled(is_comment)? else {
+        return Err(Failure::in_file(file, "the line with rows and columns is missing"));
+    };
+    let sizes = sizes.split_whitespace().map(|word| word.parse().ok());
+    let count = match sizes.collect::<Option<Vec<usize>>>().as_deref() {
+        Some([rows, 1]) => *rows,
+        _ => {
+            return Err(Failure::at_line(
+                file,
+                line,
+                "pivots are an array of so many rows and 1 column",
+            ))
+        }
+    };
+    let mut found = Vec::new();
+    while let Some((line, word)) = lines.next_filled(is_comment)? {
+        found.push(pivot(file, line, word.trim())?);
+    }
+    if found.len() != count {
+        let reason = format!("the file says it has {count} values, but has {}", found.len());
+        return Err(Failure::in_file(file, reason));
+    }
+    Ok(found)
 }
 
 /// The permutation of a file, for a factor of this dimension.

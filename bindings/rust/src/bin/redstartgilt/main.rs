@@ -13,6 +13,7 @@ mod markup;
 mod matrix_market;
 mod operators;
 mod options;
+mod pivots;
 mod ranges;
 mod report;
 mod scale;
@@ -29,7 +30,7 @@ use map::{Cell, Map, Placed};
 use options::{Command, Options};
 use redstartgilt::{
     selected_inverse_diag_with_diagnostics, selected_inverse_entries, selected_inverse_entries_with_limit,
-    CholeskyFactor, Error, Permutation, SelectedInverseDiagnostics, SparseSymmetricPattern,
+    CholeskyFactor, Error, Permutation, SelectedInverseDiagnostics, SelectedInverseEntries, SparseSymmetricPattern,
 };
 use report::Value;
 use std::borrow::Cow;
@@ -86,6 +87,9 @@ fn run_factor(output: &mut impl Write, file: &Path, options: &Options) -> Result
     if options.whole {
         return wholes::run(output, file, options);
     }
+    if let Some(list) = &options.pivots {
+        return pivots::run(output, file, list, options);
+    }
     let factor = matrix_market::factor(file)?;
     let n = factor.dimension();
     check_grid(options, n)?;
@@ -99,12 +103,10 @@ fn run_factor(output: &mut impl Write, file: &Path, options: &Options) -> Result
         return operators::run(output, file, &factor, operator, options);
     }
     let requested = requested(&factor.permutation(), options)?;
-    let cells = (0..n).collect::<Vec<_>>();
     let why = options
         .why
         .map(|pair| Why::find(file.display(), &factor, &requested, pair));
     let why = why.transpose()?;
-    let placed = options.grid.map(|grid| Placed { grid, cells: &cells });
     if let (Some(why), None) = (&why, options.grid) {
         return written(report::why(output, options.csv, why, None));
     }
@@ -113,22 +115,9 @@ fn run_factor(output: &mut impl Write, file: &Path, options: &Options) -> Result
         .exact
         .map(|scale| exact::check(file.display(), &factor, &requested, scale));
     let scale = scale.transpose()?;
-    if let Some(placed) = &placed {
-        let cells = found.variances.iter().map(|variance| cell_of(*variance));
-        let map = Map {
-            title: &match scale {
-                Some(_) => format!("Exact variances of {}", name_of(file)),
-                None => format!("Variances of {}", name_of(file)),
-            },
-            unit: None,
-            cells: &cells.collect::<Vec<_>>(),
-            placed,
-            why: why.as_ref(),
-            track: None,
-            diagnostics: &found.diagnostics,
-        };
-        write_map(options, &map)?;
-    }
+    draw(options, file, &found, why.as_ref())?;
+    let cells = (0..n).collect::<Vec<_>>();
+    let placed = options.grid.map(|grid| Placed { grid, cells: &cells });
     match (&why, scale) {
         (Some(why), _) => written(report::why(output, options.csv, why, placed.as_ref())),
         (None, Some(scale)) => {
@@ -153,6 +142,30 @@ impl Found {
                 .collect(),
         }
     }
+}
+
+/// Writes a map of the variances, where that is asked for.
+fn draw(options: &Options, file: &Path, found: &Found, why: Option<&Why>) -> Result<(), Failure> {
+    let Some(grid) = options.grid else {
+        return Ok(());
+    };
+    let cells = found.variances.iter().map(|variance| cell_of(*variance));
+    let map = Map {
+        title: &match options.exact {
+            Some(_) => format!("Exact variances of {}", name_of(file)),
+            None => format!("Variances of {}", name_of(file)),
+        },
+        unit: None,
+        cells: &cells.collect::<Vec<_>>(),
+        placed: &Placed {
+            grid,
+            cells: &(0..found.variances.len()).collect::<Vec<_>>(),
+        },
+        why,
+        track: None,
+        diagnostics: &found.diagnostics,
+    };
+    write_map(options, &map)
 }
 
 /// A file's name without its folder.
@@ -215,16 +228,26 @@ fn find(
         None => selected_inverse_entries(factor, requested),
     }
     .map_err(refused)?;
+    let reordered = |diagonal: &[Option<f64>]| factor.permute_factor_to_original_marked(diagonal);
+    found(selected, &factor.permutation(), reordered, options, refused)
+}
+
+/// An answer in the order of the cells, in which `reordered` puts a diagonal.
+fn found(
+    selected: SelectedInverseEntries,
+    permutation: &Permutation,
+    reordered: impl Fn(&[Option<f64>]) -> Result<Vec<Option<f64>>, Error>,
+    options: &Options,
+    refused: impl Fn(Error) -> Failure,
+) -> Result<Found, Failure> {
     let Some(inverse) = selected.inverse else {
         return Err(Failure::too_many_pairs(selected.diagnostics.closure_limit));
     };
     Ok(Found {
         diagnostics: selected.diagnostics,
-        variances: factor
-            .permute_factor_to_original_marked(&inverse.diag())
-            .map_err(refused)?,
+        variances: reordered(&inverse.diag()).map_err(refused)?,
         entries: if options.entries {
-            entries_of_cells(inverse.entries(), &factor.permutation())
+            entries_of_cells(inverse.entries(), permutation)
         } else {
             Vec::new()
         },

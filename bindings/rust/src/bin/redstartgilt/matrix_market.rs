@@ -18,15 +18,15 @@ enum Kind {
 
 /// A file's matrix, its entries counted from 0, by column then row, none twice.
 #[derive(Debug, Clone, PartialEq)]
-struct Matrix<V> {
-    rows: usize,
+pub struct Matrix<V> {
+    pub rows: usize,
     columns: usize,
     entries: Vec<Entry<V>>,
 }
 
 impl<V: Copy> Matrix<V> {
     /// The entries (row, column, value).
-    fn triplets(&self) -> Vec<(usize, usize, V)> {
+    pub fn triplets(&self) -> Vec<(usize, usize, V)> {
         let entries = self.entries.iter();
         entries.map(|entry| (entry.row, entry.column, entry.value)).collect()
     }
@@ -47,6 +47,11 @@ pub fn factor(file: &Path) -> Result<CholeskyFactor, Failure> {
     CholeskyFactor::from_triplets(matrix.rows, &matrix.triplets()).map_err(|error| refused_factor(file, &matrix, error))
 }
 
+/// The matrix of a file that has a factor with ones on its diagonal, stored or not.
+pub fn unit_factor(file: &Path) -> Result<Matrix<f64>, Failure> {
+    read(file, Kind::Factor)
+}
+
 /// The factor of whole numbers of a file, and its entries with their lines.
 pub fn whole_factor(file: &Path) -> Result<(WholeFactor, Vec<Entry<i64>>), Failure> {
     let matrix = read(file, Kind::WholeFactor)?;
@@ -55,23 +60,37 @@ pub fn whole_factor(file: &Path) -> Result<(WholeFactor, Vec<Entry<i64>>), Failu
     Ok((factor, matrix.entries))
 }
 
-/// The refusal of a factor; that of an entry which is not finite with its line, and counted from 1.
-fn refused_factor(file: &Path, matrix: &Matrix<f64>, error: Error) -> Failure {
+/// The refusal of a factor; that of an entry which is not finite, or of a diagonal beside pivots, with its line, and counted
+/// from 1.
+pub fn refused_factor(file: &Path, matrix: &Matrix<f64>, error: Error) -> Failure {
+    let mut entries = matrix.entries.iter();
     let at_fault = match error {
-        Error::NotFiniteEntry(place) => {
-            let mut entries = matrix.entries.iter();
-            entries.find(|entry| place == Some((entry.row, entry.column)))
+        Error::NotFiniteEntry(place) => entries.find(|entry| place == Some((entry.row, entry.column))),
+        Error::PivotDiagonalNotOne => {
+            entries.find(|entry| entry.row == entry.column && ![0.0, 1.0].contains(&entry.value))
         }
         _ => None,
     };
-    let Some(Entry { row, column, line, .. }) = at_fault else {
+    let Some(entry) = at_fault else {
         return Failure::refused_at(file.display(), error);
     };
-    Failure::refused_because(
-        format_args!("{}:{line}", file.display()),
-        error,
-        format_args!("entry ({}, {}) of the factor is not finite", row + 1, column + 1),
-    )
+    let place = format!("{}:{}", file.display(), entry.line);
+    let (row, column) = (entry.row + 1, entry.column + 1);
+    match error {
+        Error::PivotDiagonalNotOne => Failure::refused_because(
+            place,
+            error,
+            format_args!(
+                "column {column} of the factor has the diagonal {:?}, and beside pivots it must be 1, or not be stored",
+                entry.value
+            ),
+        ),
+        _ => Failure::refused_because(
+            place,
+            error,
+            format_args!("entry ({row}, {column}) of the factor is not finite"),
+        ),
+    }
 }
 
 /// The operator of a file, for a factor of so many cells: the terms of each row by cell.

@@ -11,6 +11,7 @@ redstartgilt: variances from a sparse Cholesky factor, by a proved selected inve
 
 Usage:
   redstartgilt [OPTIONS] FACTOR
+  redstartgilt --pivots FILE [--requests FILE] [--permutation FILE] [--limit N] [--entries] [--csv] [--grid WxH ..] FACTOR
   redstartgilt --whole [--requests FILE] [--permutation FILE] [--limit N] [--entries] [--csv] [--grid WxH ..] FACTOR
   redstartgilt --whole --ranges FILE [--permutation FILE] [--limit N] [--csv] FACTOR
   redstartgilt --whole --track FILE --width K [--permutation FILE] [--limit N] [--csv] [--grid WxH ..] FACTOR
@@ -37,6 +38,13 @@ Options:
                       then in the order of the cells, not of the factor
   --limit N           give no entries if the requests and what the recurrence needs for them are more than N pairs;
                       without it 10 times the stored entries. N is up to 18446744073709551615, and told as given
+  --pivots FILE       FACTOR is L of L times D times its transpose, with ones on its diagonal, stored or not, and FILE has
+                      the diagonal D: line j has the pivot of column j of the factor, one number a line. Or it is a
+                      Matrix Market file with the header %%MatrixMarket matrix array real general and one column. Without
+                      this option FACTOR is L of L times its transpose, and its diagonal is stored. A list of another
+                      length is refused with 4, a pivot at most 0 with 6, one that is not finite with 18, a diagonal
+                      other than 1 with 23; the message has the line, or both lengths. Diagonals that are not stored do
+                      not count in the limit
   --entries           print row, column and value of every entry that was computed, by column then row, and not the
                       variances
   --whole             compute in whole numbers, exactly: FACTOR is an integer file with 1 on its diagonal. The answer
@@ -115,14 +123,11 @@ Exit status:
   10 + N  the library refuses with number N:
 ";
 
-/// A refusal that the help does not list: no call gives it yet.
-const NOT_GIVEN: redstartgilt::Error = redstartgilt::Error::PivotDiagonalNotOne;
 
 /// The help with the list of refusals.
 pub fn help() -> String {
     let mut text = HELP.to_string();
-    let given = |error: &redstartgilt::Error| *error != NOT_GIVEN;
-    for error in redstartgilt::Error::ALL.into_iter().filter(given) {
+    for error in redstartgilt::Error::ALL {
         let status = u32::from(crate::failure::REFUSED) + error.number();
         text.push_str(&format!("  {status}  {error}\n"));
     }
@@ -136,6 +141,7 @@ pub struct Options {
     pub requests: Option<PathBuf>,
     pub write_requests: Option<PathBuf>,
     pub permutation: Option<PathBuf>,
+    pub pivots: Option<PathBuf>,
     pub operator: Option<PathBuf>,
     pub with: Option<PathBuf>,
     pub pairs: Option<PathBuf>,
@@ -168,6 +174,7 @@ pub fn read(words: impl IntoIterator<Item = OsString>) -> Result<Command, Failur
         requests: None,
         write_requests: None,
         permutation: None,
+        pivots: None,
         operator: None,
         with: None,
         pairs: None,
@@ -204,6 +211,7 @@ pub fn read(words: impl IntoIterator<Item = OsString>) -> Result<Command, Failur
             "--requests"
                 | "--write-requests"
                 | "--permutation"
+                | "--pivots"
                 | "--operator"
                 | "--with"
                 | "--pairs"
@@ -229,6 +237,7 @@ pub fn read(words: impl IntoIterator<Item = OsString>) -> Result<Command, Failur
             "--requests" => options.requests.replace(value.into()).is_some(),
             "--write-requests" => options.write_requests.replace(value.into()).is_some(),
             "--permutation" => options.permutation.replace(value.into()).is_some(),
+            "--pivots" => options.pivots.replace(value.into()).is_some(),
             "--operator" => options.operator.replace(value.into()).is_some(),
             "--with" => options.with.replace(value.into()).is_some(),
             "--pairs" => options.pairs.replace(value.into()).is_some(),
@@ -270,6 +279,7 @@ fn checked(options: Options, demo: bool) -> Result<Command, Failure> {
         let others = [
             ("a factor", options.factor.is_some()),
             ("--permutation", options.permutation.is_some()),
+            ("--pivots", options.pivots.is_some()),
             ("--operator", options.operator.is_some()),
             ("--limit", options.limit.is_some()),
             ("--entries", options.entries),
@@ -295,9 +305,18 @@ fn checked(options: Options, demo: bool) -> Result<Command, Failure> {
         let others = [
             ("--operator", options.operator.is_some()),
             ("--whole", options.whole),
+            ("--pivots", options.pivots.is_some()),
             ("--why", options.why.is_some()),
         ];
         alone("--exact", &others)?;
+    }
+    if options.pivots.is_some() {
+        let others = [
+            ("--whole", options.whole),
+            ("--operator", options.operator.is_some()),
+            ("--why", options.why.is_some()),
+        ];
+        alone("--pivots", &others)?;
     }
     if options.ranges.is_some() {
         let others = [
