@@ -50,5 +50,5 @@ pub const REDSTARTGILT_BAD_WEIGHTS: u32 = 21;
 pub const REDSTARTGILT_BAD_WIDTH: u32 = 22;
 /// A kept diagonal other than 1 of a factor with pivots.
 pub const REDSTARTGILT_PIVOT_DIAGONAL_NOT_ONE: u32 = 23;
-/// An empty request list of a dimension above 0 that is to be written as a file; no call gives it yet.
+/// An empty request list of a dimension above 0 that is to be written as a file.
 pub const REDSTARTGILT_NO_REQUESTS: u32 = 24;

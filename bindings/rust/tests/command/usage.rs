@@ -71,7 +71,10 @@ fn bad_usage() {
             "--exact does not go with --operator",
         ),
         (&["f2.mtx", "--exact=4", "--why=1,2"], "--exact does not go with --why"),
-        (&["f2.mtx", "--exact=4", "--pivots=d.txt"], "--exact does not go with --pivots"),
+        (
+            &["f2.mtx", "--exact=4", "--pivots=d.txt"],
+            "--exact does not go with --pivots",
+        ),
         (&["--demo", "--exact=4"], "--demo does not go with --exact"),
         (&["f2.mtx", "--pivots"], "--pivots needs a value"),
         (

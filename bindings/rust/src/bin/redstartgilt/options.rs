@@ -123,7 +123,6 @@ Exit status:
   10 + N  the library refuses with number N:
 ";
 
-
 /// The help with the list of refusals.
 pub fn help() -> String {
     let mut text = HELP.to_string();
