@@ -2,5 +2,7 @@
 pub mod LdlEntries
 pub mod LdlReply
 pub mod LdlSame
+pub mod DivOne
+pub mod LdlOnes
 pub mod Examples
 pub mod Worked
