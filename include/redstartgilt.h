@@ -493,7 +493,8 @@ redstartgilt_pairs redstartgilt_dependency_chain(
  * entries means every diagonal cell: request k is then (k, k), for each k below the size. With the reply's dimension and
  * its number of requests for both lengths they are a request of selected entries. Both lists need a place for each
  * request: 1,048,576 places are enough for every file, so is the greater of 4,096 and the number of LFs in the text, and
- * the size line has the number itself, its entry count or, where that is 0, its size. Refuses, in this order, each step for the whole file before the next:
+ * the size line has the number itself, its entry count or, where that is 0, its size. Refuses, in this order, each step
+ * for the whole file before the next:
  *   15  another first line, or none
  *   16  a size or entry line that is missing or not of this form, unequal sizes, a size above 4,096, an entry count that
  *       is above 1,048,576 or not the number of entry lines
