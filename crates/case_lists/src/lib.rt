@@ -68,7 +68,7 @@ pub fn wholes_of<'a>(text: &[u8], label: &[u8], list: &'a mut [i64]) -> &'a [i64
     front_wholes(all, count)
 }
 
-// A factor: its dimension and its lists; a result has the same lists. Its values may be whole numbers.
+// A factor: its dimension and its lists; a result has the same lists. Its values may be whole numbers, and it may have pivots.
 pub fn dimension(text: &[u8]) -> usize {
     number_field(text, b"\nn ")
 }
@@ -87,6 +87,10 @@ pub fn values<'a>(text: &[u8], list: &'a mut [f64]) -> &'a [f64] {
 
 pub fn whole_values<'a>(text: &[u8], list: &'a mut [i64]) -> &'a [i64] {
     wholes_of(text, b"\nwvalues ", list)
+}
+
+pub fn pivots<'a>(text: &[u8], list: &'a mut [f64]) -> &'a [f64] {
+    values_of(text, b"\npivots ", list)
 }
 
 // Requests, pairs looked up, or the rows of row pairs.

@@ -1,4 +1,4 @@
-// Cases of selected entries.
+// Cases of selected entries, of a factor with pivots too.
 use answer_text::answers::put_answer;
 use answer_text::answers::put_result;
 use case_lists::ROOM;
@@ -16,6 +16,7 @@ use case_lists::rows_of;
 use case_lists::starts;
 use case_lists::values;
 use case_text::begins;
+use replay_ldl::call_ldl;
 use replay_lookups::pairs::gets;
 use selected::selected_inverse_entries;
 use selected::selected_inverse_entries_with_limit;
@@ -107,14 +108,37 @@ fn found(text: &[u8], n: usize, starts: &[u32], rows: &[u32], values: &[f64]) {
     }
 }
 
+// The call of the case's kind.
+fn call_of(
+    text: &[u8],
+    ldl: bool,
+    result_starts: &mut [u32],
+    result_rows: &mut [u32],
+    result_values: &mut [f64],
+    scratch: &mut [u32],
+) -> bool {
+    if ldl {
+        return call_ldl(text, result_starts, result_rows, result_values, scratch);
+    }
+    call(text, result_starts, result_rows, result_values, scratch)
+}
+
 fn answered(
     text: &[u8],
+    ldl: bool,
     result_starts: &mut [u32],
     result_rows: &mut [u32],
     result_values: &mut [f64],
     scratch: &mut [u32],
 ) {
-    let filled = call(text, result_starts, result_rows, result_values, scratch);
+    let filled = call_of(
+        text,
+        ldl,
+        result_starts,
+        result_rows,
+        result_values,
+        scratch,
+    );
     put_result(result_starts, result_rows, result_values, scratch);
     if filled {
         found(
@@ -127,14 +151,15 @@ fn answered(
     }
 }
 
-// Kind entries; where the case lends no lists, lists of 7777.
-fn entries(text: &[u8]) {
+// Kind entries, or kind ldl; where the case lends no lists, lists of 7777.
+fn entries(text: &[u8], ldl: bool) {
     let mut result_starts = [7777u32; 4608];
     let mut result_rows = [7777u32; 33024];
     let mut result_values = [7777.0; 33024];
     let mut scratch = [7777u32; 67072];
     answered(
         text,
+        ldl,
         lent_starts(text, &mut result_starts),
         lent_rows(text, &mut result_rows),
         lent_result_values(text, &mut result_values),
@@ -145,7 +170,11 @@ fn entries(text: &[u8]) {
 // The case, if the kind that is named at `name` is one of these.
 pub fn of_entries(text: &[u8], name: usize) -> bool {
     if begins(text, name, b"entries\n") {
-        entries(text);
+        entries(text, false);
+        return true;
+    }
+    if begins(text, name, b"ldl\n") {
+        entries(text, true);
         return true;
     }
     false
