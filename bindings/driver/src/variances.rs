@@ -43,6 +43,9 @@ pub struct Choices {
 
 impl Choices {
     pub fn report(&self) {
+        if self.inner + self.operators == 0 {
+            return;
+        }
         println!(
             "\nbounds held against all corners: {} rows; against choices between the ends: {}",
             self.corners, self.inner
