@@ -1,9 +1,7 @@
-//! Document 02's recurrence on a unit lower factor with pivots, in floats; our own family's factor of the same matrix, and
-//! how far apart the entries of the two may be.
+//! Document 02's recurrence on a unit lower factor with pivots, in floats, and how far its entries may be from those of our
+//! own family's factor of the same matrix.
 
 use crate::rules::{place, Factor, Pairs};
-use crate::subjects::FactorLists;
-use crate::whole_factors::lists;
 
 /// The recurrence over a closed set, each pair's value at its place.
 pub fn recurrence(factor: &Factor, pivots: &[f64], set: &Pairs) -> Vec<f64> {
@@ -18,22 +16,6 @@ pub fn recurrence(factor: &Factor, pivots: &[f64], set: &Pairs) -> Vec<f64> {
         }
     }
     z
-}
-
-/// Our own family's factor of the same matrix, L·sqrt(D): each root and each product rounded once. None where a root's
-/// square, its inverse or a product is not a normal float.
-pub fn with_roots(factor: &Factor, pivots: &[f64]) -> Option<FactorLists> {
-    let squares = [2f64.powi(-1000), 2f64.powi(1000)];
-    let mut columns = Vec::new();
-    for (j, below) in factor.below.iter().enumerate() {
-        let root = pivots[j].sqrt();
-        columns.push(vec![(j, root)]);
-        columns[j].extend(below.iter().map(|&(k, l)| (k, l * root)));
-        if pivots[j] < squares[0] || pivots[j] > squares[1] || columns[j].iter().any(|e| !e.1.is_normal()) {
-            return None;
-        }
-    }
-    Some(lists(&columns))
 }
 
 /// The relative error that so many roundings make at most, one after the other: k·u / (1 - k·u), u half the unit in the last
@@ -78,13 +60,4 @@ pub fn most_apart(factor: &Factor, pivots: &[f64], set: &Pairs, z: &[f64], w: &[
         }
     }
     apart.iter().map(|bound| bound * (1.0 + 2f64.powi(-20))).collect()
-}
-
-/// The same factor with its diagonals stored, all 1.
-pub fn with_units(factor: &Factor) -> FactorLists {
-    let columns: Vec<Vec<(usize, f64)>> = (0..)
-        .zip(&factor.below)
-        .map(|(j, below)| std::iter::once((j, 1.0)).chain(below.iter().copied()).collect())
-        .collect();
-    lists(&columns)
 }

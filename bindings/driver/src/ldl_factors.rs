@@ -1,8 +1,9 @@
-//! Unit lower factors with pivots.
+//! Unit lower factors with pivots, and our own family's factors of the same matrices.
 
 use crate::grid::grid;
 use crate::list::List;
 use crate::random::Random;
+use crate::rules::Factor;
 use crate::subjects::FactorLists;
 use crate::whole_factors::lists;
 
@@ -84,4 +85,29 @@ pub fn grid_with_pivots(side: usize, nested: bool, given: Diagonal) -> (FactorLi
     }
     put_diagonals(&mut columns, &mut Random::new(0), |_| given);
     (lists(&columns), List::new(&pivots), grid.orig_to_perm)
+}
+
+/// Our own family's factor of the same matrix, L·sqrt(D): each root and each product rounded once. None where a root's
+/// square, its inverse or a product is not a normal float.
+pub fn with_roots(factor: &Factor, pivots: &[f64]) -> Option<FactorLists> {
+    let squares = [2f64.powi(-1000), 2f64.powi(1000)];
+    let mut columns = Columns::new();
+    for (j, below) in factor.below.iter().enumerate() {
+        let root = pivots[j].sqrt();
+        columns.push(vec![(j, root)]);
+        columns[j].extend(below.iter().map(|&(k, l)| (k, l * root)));
+        if pivots[j] < squares[0] || pivots[j] > squares[1] || columns[j].iter().any(|e| !e.1.is_normal()) {
+            return None;
+        }
+    }
+    Some(lists(&columns))
+}
+
+/// The same factor with its diagonals stored, all 1.
+pub fn with_units(factor: &Factor) -> FactorLists {
+    let columns: Columns = (0..)
+        .zip(&factor.below)
+        .map(|(j, below)| std::iter::once((j, 1.0)).chain(below.iter().copied()).collect())
+        .collect();
+    lists(&columns)
 }
