@@ -152,6 +152,11 @@ impl Tally {
         *entry = (entry.0 + 1, entry.1 + calls);
     }
 
+    /// Counts a case of a dimension in the upper half of those allowed.
+    pub fn wide(&mut self, n: usize) {
+        self.wide += usize::from((MOST_COLUMNS / 2 + 1..=MOST_COLUMNS).contains(&n));
+    }
+
     /// Counts the kinds of numbers that pass 2^53.
     pub fn sizes(&mut self, kinds: &[Kind]) {
         *self.sizes.entry(kinds.to_vec()).or_default() += 1;
@@ -306,7 +311,7 @@ pub fn compare_case(
     if case.kind == "get" {
         return compare_lookups(call, case, answer, seed, tally);
     }
-    tally.wide += usize::from((MOST_COLUMNS / 2 + 1..=MOST_COLUMNS).contains(&call.dimension()));
+    tally.wide(call.dimension());
     lend(&mut call, random, some_more);
     let mut made = call.clone();
     let reply = made.make();

@@ -62,6 +62,7 @@ pub fn compare_ldl_cases(seed: u64, tally: &mut Tally) {
     for ldl in ldl_cases(seed) {
         let function = ldl.call.function;
         let case = Block::new(&ldl.name, function.name());
+        tally.wide(ldl.call.dimension());
         let (reply, calls) = compare_ldl(ldl.call, &case, &mut random, tally);
         replies.insert((function, reply.refusal, reply.status));
         tally.compared("ldl", &case, calls);

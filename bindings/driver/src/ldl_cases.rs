@@ -43,7 +43,7 @@ const SORTS: [Sort; 7] = [
 /// What the names of grids begin with.
 pub const GRID: &str = "ldl:grid-";
 /// The sides of grids.
-const GRIDS: [usize; 6] = [2, 3, 5, 8, 16, 32];
+const GRIDS: [usize; 7] = [2, 3, 5, 8, 16, 32, 64];
 
 /// The cases of a seed, one by one.
 pub fn ldl_cases(seed: u64) -> impl Iterator<Item = LdlCase> {
