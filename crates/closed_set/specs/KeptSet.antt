@@ -1,29 +1,35 @@
 -- The kept entries as a set of pairs: a factor's count is that set's size, so equal kept positions give equal counts and patterns.
 -- Assumes nothing.
-use Prim.Native.Nat.{ℕ, zero, suc, _+_, _-_, _≤_, _<_}
+use Prim.Native.Nat.{ℕ, _+_, _≤_, _<_}
 use native.Mathlib.Omega.{arith}
 use mathlib.Core.Path.{_≡_, refl, sym, ap, _∙_}
-use mathlib.Core.Bool.{Bool}
-use mathlib.Core.List.{List, map}
+use mathlib.Core.Bool.{Bool, true}
+use mathlib.Core.List.{List, [], _∷_, _++_, map}
 use lib.Dec.{leb, eqb}
 use lib.ListN.{length, getD, length-map}
 use borrow.Author.Tests.{leb-true, eqb-true, eq-eqb}
 use Rattle.lists.specs.Test.{anyIn-found, anyIn-hit, and-left, and-right, and-both}
 use Rattle.lists.specs.Sum.{sumTo-eq}
-use Rattle.lists.specs.Select.{select, Picked, select-at, select-holds, getD-mapped, tally-most}
+use Rattle.lists.specs.Select.{select, Picked, select-at, select-holds, select-none, select-yes, select-join, select-cong, getD-mapped}
 use Rattle.lists.specs.Rising.{rising-same}
 use Rattle.lists.specs.Cells.{cellCount}
 use Rattle.pairs.specs.Pair.{pairTotal}
-use Rattle.pairs.specs.ColumnOrder.{colStart, colStart-next, colStart-total, setSize, setSize-most}
+use Rattle.pairs.specs.ColumnOrder.{setSize, setSize-most}
 use Rattle.columns.specs.Columns.{start, row}
 use Rattle.columns.specs.Kept.{kept, keptRow, keptPair, keptCount, factorPairs, pattern}
 use Rattle.columns.specs.Pattern.{pattern-select}
-use Rattle.columns.specs.Form.{patternPairs, patternPairs-none, patternPairs-next}
+use Rattle.columns.specs.Form.{patternPairs, patternPair, patternPair-diagonal, patternPair-below}
 use Rattle.columns.specs.Factor.{Starts, Sorted, starts-end, rows-rise}
 
 -- two factors of n columns keep entries at the same positions
 abbrev pub SameKept : ℕ → List ℕ → List ℕ → (ℕ → Bool) → List ℕ → List ℕ → (ℕ → Bool) → Type 0
 SameKept n starts rows nz starts′ rows′ nz′ = (r c : ℕ) → c < n → keptPair starts rows nz r c ≡ keptPair starts′ rows′ nz′ r c
+
+-- the first number, if it passes
+select-first : (test : ℕ → Bool) (s e : ℕ) → s < e → test s ≡ true → select test s e ≡ s ∷ select test (s + 1) e
+select-first test s e h t =
+    select-join test s (s + 1) e (omega arith) (omega arith)
+    ∙ ap (λ (l : List ℕ). l ++ select test (s + 1) e) (select-yes test s s (omega arith) t ∙ ap (λ (l : List ℕ). l ++ (s ∷ [])) (select-none test s))
 
 module _ {n : ℕ} {starts rows : List ℕ} (nz : ℕ → Bool) (S : Starts n starts rows) (R : Sorted n starts rows) where
   module _ (c : ℕ) (h : c < n) where
@@ -85,21 +91,17 @@ module _ {n : ℕ} {starts rows : List ℕ} (nz : ℕ → Bool) (S : Starts n st
   pub factorPairs-most : factorPairs starts rows nz n ≤ pairTotal n
   factorPairs-most = rw factorPairs-size (setSize-most n (keptPair starts rows nz))
 
-  -- a column and its descendants are pairs of that column
+  -- the rows of a column of the pattern are its own and its descendants'
+  pub patternPair-column : (c : ℕ) → c < n → select (λ r. patternPair starts rows nz r c) c n ≡ c ∷ pattern starts rows nz c
+  patternPair-column c h =
+      select-first (λ r. patternPair starts rows nz r c) c n h (patternPair-diagonal starts rows nz c)
+      ∙ ap (λ (l : List ℕ). c ∷ l)
+      (select-cong _ _ (c + 1) n (λ r lo hi. patternPair-below starts rows nz r c (omega arith)) ∙ sym (pattern-select nz S R c h))
+
+  -- so its pairs are as many as its columns and their descendants
+  pub patternPairs-size : patternPairs n (pattern starts rows nz) ≡ setSize n (patternPair starts rows nz)
+  unfolding patternPairs cellCount
+  patternPairs-size = sumTo-eq _ _ n (λ c h. omega (arith, ap length (patternPair-column c h)))
+
   pub patternPairs-most : patternPairs n (pattern starts rows nz) ≤ pairTotal n
-  patternPairs-most = omega (arith, upto n (omega arith), colStart-total n)
-    where
-      upto : (m : ℕ) → m ≤ n → patternPairs m (pattern starts rows nz) ≤ colStart n m
-      upto zero l = omega (arith, patternPairs-none (pattern starts rows nz))
-      upto (suc m) l =
-          let q : suc m ≡ m + 1 = omega arith in
-          let k : length (pattern starts rows nz m) ≤ n - (m + 1) =
-          rw (pattern-select nz S R m (omega arith)) (tally-most (λ r. keptPair starts rows nz r m) (m + 1) n) in
-          omega (
-            arith,
-            ap (λ (i : ℕ). patternPairs i (pattern starts rows nz)) q,
-            ap (colStart n) q,
-            patternPairs-next (pattern starts rows nz) m,
-            colStart-next n m,
-            upto m (omega arith),
-          )
+  patternPairs-most = rw patternPairs-size (setSize-most n (patternPair starts rows nz))

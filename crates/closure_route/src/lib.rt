@@ -11,16 +11,16 @@ ghost use Prim.Native.Nat.{_+_, _<_};
 ghost use lib.ListN.{length};
 ghost use Rattle.lists.specs.Overwrite.{overwrite};
 ghost use Rattle.pairs.specs.ColumnOrder.{columnMarking};
-ghost use Rattle.columns.specs.Diagonal.{Diagonals};
-ghost use Rattle.entries.specs.Entries.{entryValues, floatTable};
+ghost use Rattle.columns.specs.Form.{formOf, Divisors};
+ghost use Rattle.entries.specs.Entries.{entryValues, formTable};
 ghost use Rattle.closure_route.specs.Route.{routeLists, ClosureRouteInput, ColumnInput, ColumnsSolved};
-use finish::divide_part;
+use finish::finish_part;
 use finish::store_diagonal;
-use kept_entries::diagonal::diagonal;
+use kept_entries::diagonal::column_divisor;
 use stored_sums::store_sums;
 use words::at;
 
-// The entries of column j, once those of the later columns are there: the sums, their division, and last the diagonal's entry. A column without
+// The entries of column j, once those of the later columns are there: the sums, their last step, and last the diagonal's entry. A column without
 // entries is passed over.
 fn takahashi_column(
     n: usize,
@@ -28,15 +28,17 @@ fn takahashi_column(
     starts: &[u32],
     rows: &[u32],
     values: &[f64],
+    with_pivots: bool,
+    pivots: &[f64],
     result_starts: &[u32],
     result_rows: &[u32],
     result_values: &mut [f64],
     scratch: &[u32],
 )
     requires { ⌜ ColumnInput (routeLists n (now starts) (now rows) (now values) (now «result_starts») (now «result_rows») (now scratch)) j
-        (floatTable n (now starts) (now rows) (now values)) (now «result_values») ⌝ }
-    requires { ⌜ Diagonals n (now starts) (now rows) (now values) ⌝ }
-    ensures { λ _. ⌜ ColumnsSolved n (columnMarking n (now (scratch .entry))) (floatTable n (now (starts .entry)) (now (rows .entry)) (now (values .entry))) j
+        (formTable (formOf «with_pivots» (now pivots)) n (now starts) (now rows) (now values)) (now «result_values») ⌝ }
+    requires { ⌜ Divisors n (now starts) (now rows) (now values) (formOf «with_pivots» (now pivots)) ⌝ }
+    ensures { λ _. ⌜ ColumnsSolved n (columnMarking n (now (scratch .entry))) (formTable (formOf «with_pivots» (now (pivots .entry))) n (now (starts .entry)) (now (rows .entry)) (now (values .entry))) j
         (now («result_values» .entry)) (now («result_values» .exit)) ⌝ }
 {
     let first = at(result_starts, j);
@@ -46,7 +48,7 @@ fn takahashi_column(
     }
     let s = at(starts, j);
     let e = at(starts, j + 1);
-    let d = diagonal(n, starts, rows, values, j);
+    let d = column_divisor(n, starts, rows, values, with_pivots, pivots, j);
     store_sums(
         n,
         j,
@@ -60,13 +62,22 @@ fn takahashi_column(
         scratch,
         result_values,
     );
-    divide_part(result_values, result_rows, first, last, j, d);
+    finish_part(
+        result_values,
+        result_rows,
+        first,
+        last,
+        j,
+        with_pivots,
+        d,
+    );
     store_diagonal(
         n,
         j,
         first,
         s,
         e,
+        with_pivots,
         d,
         rows,
         values,
@@ -82,6 +93,8 @@ pub fn takahashi_selected_inverse_on_closure(
     starts: &[u32],
     rows: &[u32],
     values: &[f64],
+    with_pivots: bool,
+    pivots: &[f64],
     result_starts: &[u32],
     result_rows: &[u32],
     result_values: &mut [f64],
@@ -89,9 +102,9 @@ pub fn takahashi_selected_inverse_on_closure(
 )
     requires { ⌜ ClosureRouteInput (routeLists n (now starts) (now rows) (now values) (now «result_starts») (now «result_rows») (now scratch))
         (length (now «result_values»)) ⌝ }
-    requires { ⌜ Diagonals n (now starts) (now rows) (now values) ⌝ }
+    requires { ⌜ Divisors n (now starts) (now rows) (now values) (formOf «with_pivots» (now pivots)) ⌝ }
     ensures { λ _. ⌜ now («result_values» .exit) ≡ overwrite (entryValues n (columnMarking n (now (scratch .entry)))
-        (floatTable n (now (starts .entry)) (now (rows .entry)) (now (values .entry)))) (now («result_values» .entry)) ⌝ }
+        (formTable (formOf «with_pivots» (now (pivots .entry))) n (now (starts .entry)) (now (rows .entry)) (now (values .entry)))) (now («result_values» .entry)) ⌝ }
 {
     let mut j = n;
     while 0 < j {
@@ -102,6 +115,8 @@ pub fn takahashi_selected_inverse_on_closure(
             starts,
             rows,
             values,
+            with_pivots,
+            pivots,
             result_starts,
             result_rows,
             result_values,

@@ -4,7 +4,7 @@ use Prim.Native.Nat.{ℕ}
 use mathlib.Core.Bool.{true, false}
 use mathlib.Core.List.{List, [], _∷_}
 use mathlib.Core.Path.{_≡_, refl}
-use lib.Ieee.{Float, nan, inf, binary64, ofBits, ofInt, ne, le}
+use lib.Ieee.{Float, nan, inf, fin, binary64, ofBits, ofInt, ne, eq, le}
 use lib.IntN.{pos, negsuc}
 use Rattle.lists.specs.Test.{any, anyIn}
 use Rattle.lists.specs.Select.{select, picked}
@@ -14,6 +14,9 @@ use Rattle.columns.specs.Columns.{factorLists, boundSteps, brokenSteps, 
 use Rattle.columns.specs.Kept.{f0, nonzero, diag, desc, pattern, keptPair, factorPairs}
 use Rattle.columns.specs.Stored.{finiteSteps, storedSteps, factorSteps}
 use Rattle.columns.specs.Diagonal.{diagonalSteps}
+use Rattle.columns.specs.Form.{patternPairs, patternPair}
+use Rattle.columns.specs.Pivots.{floatOne, pivotListSteps, pivotSteps}
+use Rattle.columns.specs.UnitDiagonals.{unitSteps}
 use Rattle.columns.specs.Operator.{operatorBoundSteps, operatorSteps}
 
 -- a whole number as a float
@@ -174,6 +177,49 @@ diagonal-absent = refl
 diagonal-nan : Passed (diagonalSteps (factorLists 1 (0 ∷ 1 ∷ []) (0 ∷ []) (nan ∷ [])))
 unfolding first diagonalSteps any anyIn ofInt ofBits ne le
 diagonal-nan = refl
+
+-- ---- pivots: 4, then 18, then 6; 6 of -0.0 too, and not of the least number above 0.0
+pivots-short : verdict (pivotListSteps 2 (nan ∷ [])) ≡ refused 4
+unfolding first pivotListSteps
+pivots-short = refl
+
+pivots-long : verdict (pivotListSteps 0 (whole 1 ∷ [])) ≡ refused 4
+unfolding first pivotListSteps
+pivots-long = refl
+
+pivots-nan : verdict (pivotListSteps 2 (whole 1 ∷ nan ∷ [])) ≡ refused 18
+unfolding first pivotListSteps any ofInt
+pivots-nan = refl
+
+pivots-infinite : verdict (pivotListSteps 1 (inf true ∷ [])) ≡ refused 18
+unfolding first pivotListSteps any
+pivots-infinite = refl
+
+pivot-zero : verdict (pivotSteps 2 (whole 1 ∷ fin true 0 (pos 0) ∷ [])) ≡ refused 6
+unfolding first pivotSteps any ofInt ofBits le
+pivot-zero = refl
+
+pivot-least : Passed (pivotSteps 1 (fin false 1 (negsuc 1073) ∷ []))
+unfolding first pivotSteps any ofBits le
+pivot-least = refl
+
+-- ---- 23: a kept diagonal other than 1; a dropped one and a missing one are none
+pivot-diagonal : verdict (unitSteps 23 2 F2-starts F2-rows (nonzero (whole 1 ∷ whole 2 ∷ whole 3 ∷ [])) (floatOne (whole 1 ∷ whole 2 ∷ whole 3 ∷ []))) ≡ refused 23
+unfolding first unitSteps any anyIn ofInt ofBits ne eq
+pivot-diagonal = refl
+
+pivot-diagonal-dropped : Passed (unitSteps 23 2 F2-starts F2-rows (nonzero (f0 ∷ whole 2 ∷ whole 1 ∷ [])) (floatOne (f0 ∷ whole 2 ∷ whole 1 ∷ [])))
+unfolding first unitSteps any anyIn ofInt ofBits ne eq
+pivot-diagonal-dropped = refl
+
+-- ---- the pattern's pairs: diagonals kept or not, and what is kept below
+pattern-pairs : (patternPair (0 ∷ 1 ∷ 1 ∷ []) (1 ∷ []) (nonzero (whole 2 ∷ [])) 0 0 ≡ true)
+    × (patternPair (0 ∷ 1 ∷ 1 ∷ []) (1 ∷ []) (nonzero (whole 2 ∷ [])) 1 0 ≡ true)
+    × (patternPair (0 ∷ 1 ∷ 1 ∷ []) (1 ∷ []) (nonzero (f0 ∷ [])) 1 0 ≡ false)
+    × (patternPairs 2 (pattern (0 ∷ 1 ∷ 1 ∷ []) (1 ∷ []) (nonzero (whole 2 ∷ []))) ≡ 3)
+    × (patternPairs 2 (pattern (0 ∷ 1 ∷ 1 ∷ []) (1 ∷ []) (nonzero (f0 ∷ []))) ≡ 2)
+unfolding keptPair patternPairs sumTo select picked any anyIn ofInt ofBits ne
+pattern-pairs = (refl, refl, refl, refl, refl)
 
 -- ---- step 9: one row, 1 at 0 and 1 at 1
 operator-passes : Passed (operatorSteps 2 (0 ∷ 2 ∷ []) (0 ∷ 1 ∷ []) 2)

@@ -2,15 +2,18 @@
 -- What a column's entries are finished with, and how many pairs count as kept.
 -- Assumes nothing.
 use Prim.Native.Nat.{ℕ, _+_, _<_}
-use mathlib.Core.Path.{_≡_, refl, ap}
-use mathlib.Core.Bool.{true, false}
+use native.Mathlib.Omega.{arith}
+use mathlib.Core.Path.{_≡_, refl, sym, ap}
+use mathlib.Core.Bool.{Bool, true, false, _||_}
 use mathlib.Core.List.{List}
+use lib.Dec.{eqb}
 use lib.ListN.{length}
 use lib.Ieee.{Float, le}
 use lib.Ieee.Scale.{finite}
+use borrow.Author.Tests.{eq-eqb, ne-eqb}
 use Rattle.lists.specs.Sum.{sumTo, sumTo-none, sumTo-next, sumTo-eq}
 use Rattle.columns.specs.Columns.{value}
-use Rattle.columns.specs.Kept.{f0, nonzero, diag, pattern, factorPairs}
+use Rattle.columns.specs.Kept.{f0, nonzero, diag, pattern, keptPair, factorPairs}
 use Rattle.columns.specs.Diagonal.{Diagonals}
 use Rattle.columns.specs.Pattern.{factorPairs-pattern}
 
@@ -18,6 +21,11 @@ use Rattle.columns.specs.Pattern.{factorPairs-pattern}
 pub data Form : Type 0 where
   cholesky : Form
   pivoted : List Float → Form
+
+-- as a call tells it: whether there are pivots, and the list, which says nothing where there are none
+abbrev pub formOf : Bool → List Float → Form
+formOf true pivots = pivoted pivots
+formOf false pivots = cholesky
 
 -- a finite pivot above 0.0 for each of n columns
 pub record Pivots (n : ℕ) (pivots : List Float) : Type 0 where
@@ -51,7 +59,18 @@ module _ (n : ℕ) (starts rows : List ℕ) (values : List Float) where
   keptPairs-pattern cholesky D = factorPairs-pattern (nonzero values) (D .diagonal)
   keptPairs-pattern (pivoted pivots) D = refl
 
--- its first c columns, and one more
+-- (r, c) is a pair of the pattern: on the diagonal, kept there or not, or kept below it
+abbrev pub patternPair : List ℕ → List ℕ → (ℕ → Bool) → ℕ → ℕ → Bool
+patternPair starts rows nz r c = eqb r c || keptPair starts rows nz r c
+
+module _ (starts rows : List ℕ) (nz : ℕ → Bool) where
+  pub patternPair-diagonal : (c : ℕ) → patternPair starts rows nz c c ≡ true
+  patternPair-diagonal c = ap (λ (b : Bool). b || keptPair starts rows nz c c) (eq-eqb c c refl)
+
+  pub patternPair-below : (r c : ℕ) → c < r → patternPair starts rows nz r c ≡ keptPair starts rows nz r c
+  patternPair-below r c h = ap (λ (b : Bool). b || keptPair starts rows nz r c) (ne-eqb r c (λ e. absurd (omega (arith, e))))
+
+-- the first c columns of a pattern, and one more
 module _ (desc : ℕ → List ℕ) where
   pub patternPairs-none : patternPairs 0 desc ≡ 0
   unfolding patternPairs

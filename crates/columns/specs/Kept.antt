@@ -19,6 +19,10 @@ use Rattle.columns.specs.Columns.{start, row, value}
 abbrev pub f0 : Float
 f0 = ofBits binary64 0
 
+-- 1.0
+abbrev pub f1 : Float
+f1 = ofBits binary64 0x3ff0_0000_0000_0000
+
 -- the value at p is not 0.0 of either sign
 abbrev pub nonzero : List Float → ℕ → Bool
 nonzero values p = ne (value values p) f0

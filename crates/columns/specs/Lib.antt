@@ -6,6 +6,7 @@ pub mod Stored
 pub mod Diagonal
 pub mod Pattern
 pub mod Form
+pub mod Pivots
 pub mod WholeFactor
 pub mod UnitDiagonals
 pub mod Numbers

@@ -4,19 +4,19 @@ use Prim.Native.Nat.{ℕ, suc, _≤_, _<_}
 use native.Mathlib.Omega.{arith}
 use native.Mathlib.Nat.{le-refl}
 use mathlib.Core.Path.{_≡_, refl, sym, _∙_}
-use mathlib.Core.Bool.{Bool}
+use mathlib.Core.Bool.{Bool, true, false}
 use mathlib.Core.List.{List, [], _∷_, map}
 use lib.ListN.{length, getD, length-map}
 use lib.Ieee.{Float}
 use Rattle.columns.specs.Columns.{row, value}
 use Rattle.columns.specs.Kept.{nonzero, entry, descPlaces, desc, diag, pattern}
 use Rattle.columns.specs.Factor.{Factor}
-use Rattle.columns.specs.Form.{Form, cholesky, pivoted, divisor}
+use Rattle.columns.specs.Form.{Form, cholesky, pivoted, formOf, divisor}
 use Rattle.columns.specs.Pattern.{pattern-at, pattern-above, pattern-inside, pattern-rises}
 use Rattle.takahashi.specs.Entries.{Entry, Ascend, ascend-rows}
-use Rattle.takahashi.specs.Recurrence.{Rows, Lower, Solves, table-solves}
+use Rattle.takahashi.specs.Recurrence.{Rows, Lower, Solves, table, table-solves}
 use Rattle.exact.specs.Exact.{floats, float-off, float-on}
-use Rattle.exact.specs.PivotCase.{pivot-off, pivot-on}
+use Rattle.exact.specs.PivotCase.{pivot-off, pivot-on, stepBelow, stepOn}
 use Rattle.entries.specs.Entries.{floatTable, pivotTable, belowStep, diagonalStep, formTable}
 
 -- a list of entries made from places
@@ -77,3 +77,16 @@ pub form-solves : (form : Form) {n : ℕ} {starts rows : List ℕ} (values : Lis
     Solves floats (belowStep form) (diagonalStep form) (divisor n starts rows values form) (desc starts rows values) (Lower n) (formTable form n starts rows values)
 form-solves cholesky values F = float-solves values F
 form-solves (pivoted pivots) values F = pivot-solves values pivots F
+
+-- as a call tells the form
+pub told-solves : (b : Bool) {n : ℕ} {starts rows : List ℕ} (values pivots : List Float) → Factor n starts rows (length values) →
+    Solves floats (stepBelow b) (stepOn b) (divisor n starts rows values (formOf b pivots)) (desc starts rows values) (Lower n)
+    (formTable (formOf b pivots) n starts rows values)
+told-solves true values pivots F = pivot-solves values pivots F
+told-solves false values pivots F = float-solves values F
+
+pub told-table : (b : Bool) (n : ℕ) (starts rows : List ℕ) (values pivots : List Float) → formTable (formOf b pivots) n starts rows values
+    ≡ table floats (stepBelow b) (stepOn b) n (divisor n starts rows values (formOf b pivots)) (desc starts rows values)
+unfolding floatTable pivotTable
+told-table true n starts rows values pivots = refl
+told-table false n starts rows values pivots = refl

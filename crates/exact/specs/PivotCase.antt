@@ -1,6 +1,7 @@
 -- The recurrence of a factor given as L, D, L transposed: L with ones on its diagonal, D a diagonal of pivots. Its last steps in f64, and that where every
 -- pivot is 1 and no exact step passes 2 ^ 53, f64's entries are those of the inverse of L * Lᵀ. Assumes nothing.
 use mathlib.Core.Path.{_≡_, refl, sym, _∙_, ap, subst}
+use mathlib.Core.Bool.{Bool, true, false}
 use mathlib.Core.List.{List}
 use Prim.Native.Nat.{ℕ, suc, _<_}
 use native.Mathlib.Nat.{zero-lt-suc}
@@ -13,7 +14,7 @@ use Rattle.integers.specs.Inverse.{WholeInverse}
 use Rattle.takahashi.specs.Entries.{Entry, Ascend}
 use Rattle.takahashi.specs.Recurrence.{dot, at, RecurrenceClosed, Solves}
 use Rattle.exact.specs.Multiple.{Whole, Small, one-float, multiple-neg, multiple-sub, multiple-div}
-use Rattle.exact.specs.Exact.{integers, floats, Alike, Recurs, Bounded, bounded-sums, Represents, last-steps-exact}
+use Rattle.exact.specs.Exact.{integers, floats, float-off, float-on, Alike, Recurs, Bounded, bounded-sums, Represents, last-steps-exact}
 use Rattle.exact.specs.Factor.{factor}
 use Rattle.exact.specs.ExactCase.{ones, unit-table, WithinBound, unit-recurs, unit-bounded, unit-inverse}
 
@@ -24,6 +25,15 @@ pivot-off d S = neg S
 -- f64's last step on the diagonal: 1 / d - S, with d the pivot
 abbrev pub pivot-on : Float → Float → Float
 pivot-on d S = sub binary64 (div binary64 one-float d) S
+
+-- f64's last steps with pivots, and without them
+abbrev pub stepBelow : Bool → Float → Float → Float
+stepBelow true = pivot-off
+stepBelow false = float-off
+
+abbrev pub stepOn : Bool → Float → Float → Float
+stepOn true = pivot-on
+stepOn false = float-on
 
 -- ---- the last steps where the pivot is 1
 off-one : (d S : Float) (p z : ℤ) → Represents 0 (lit≤ tt) S p → z *ℤ pos 1 ≡ negℤ p → Whole (pivot-off d S) z

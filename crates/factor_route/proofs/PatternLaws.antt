@@ -1,4 +1,4 @@
--- The kept entries of a factor as the pattern of the factor-pattern route, and the lists of a result over them as its layout.
+-- The diagonals and kept entries of a factor as the pattern of the factor-pattern route, and the lists of a result over them as its layout.
 -- Assumes nothing.
 use Prim.Native.Nat.{ℕ, zero, suc, _+_, _-_, _≤_, _<_}
 use native.Mathlib.Omega.{arith}
@@ -17,12 +17,12 @@ use Rattle.lists.specs.Select.{one, picked, select, tally, getD-mapped}
 use Rattle.lists.specs.Tabulate.{tabulate-at}
 use Rattle.lists.specs.Cells.{cells, cellCount, cellCount-next, cellCount-mono, cells-length}
 use Rattle.pairs.specs.ColumnOrder.{byColumn, columnFirst, columnEnd, setSize}
-use Rattle.columns.specs.Kept.{nonzero, keptPair, desc, pattern}
+use Rattle.columns.specs.Kept.{nonzero, desc, pattern}
 use Rattle.columns.specs.Factor.{Factor}
-use Rattle.columns.specs.Diagonal.{Diagonals}
-use Rattle.columns.specs.Pattern.{desc-pattern, pattern-above, pattern-inside, pattern-rises, pattern-select, keptPair-pattern, keptPair-below}
-use Rattle.columns.specs.Pattern.{keptPair-diagonal}
+use Rattle.columns.specs.Form.{patternPair, patternPair-below}
+use Rattle.columns.specs.Pattern.{desc-pattern, pattern-above, pattern-inside, pattern-rises, keptPair-pattern, keptPair-below}
 use Rattle.closed_set.specs.ClosedSet.{Closed, descends-at}
+use Rattle.closed_set.specs.KeptSet.{patternPair-column}
 use Rattle.entries.specs.Entries.{columnCount, entryStarts, entryRows, entryValues, entryStarts-length, entryRows-length}
 use Rattle.takahashi.specs.Recurrence.{Entry}
 use Rattle.scatter.specs.Scatter.{blank, rowAt, ClosedPattern, Laid, columnValues, columnsValues}
@@ -53,35 +53,17 @@ module _ (S : ℕ → ℕ → Bool) (lo hi : ℕ → ℕ) {A : Type 0} (f : ℕ 
           ∙ getD-append-add (cells S lo hi f m) (map (f m) (select (S m) (lo m) (hi m))) x d
           ∙ getD-mapped (f m) (select (S m) (lo m) (hi m)) x 0 d k
 
--- ---- the first number, if it passes
-module _ (test : ℕ → Bool) where
-  first : (s k : ℕ) → picked test s (suc k) ≡ one (test s) s ++ picked test (suc s) k
-  unfolding picked
-  first s zero = ap (λ (i : ℕ). one (test i) i) (add-zero s) ∙ sym (append-nil (one (test s) s))
-  first s (suc k) =
-      let q : s + suc k ≡ suc s + k = omega arith in
-      ap₂ (λ (l : List ℕ) (i : ℕ). l ++ one (test i) i) (first s k) q ∙ append-assoc (one (test s) s) (picked test (suc s) k) _
-
-  pub select-first : (s e : ℕ) → s < e → test s ≡ true → select test s e ≡ s ∷ select test (s + 1) e
-  unfolding select
-  select-first s e h t =
-      let q : e - s ≡ suc (e - suc s) = omega arith in
-      ap (picked test s) q ∙ first s (e - suc s) ∙ ap (λ (b : Bool). one b s ++ picked test (suc s) (e - suc s)) t
-      ∙ ap (λ (i : ℕ). s ∷ picked test i (e - i)) (sym (add-one s))
-
 -- ---- a factor
-module _ (n : ℕ) (starts rows : List ℕ) (values : List Float) (F : Factor n starts rows (length values)) (D : Diagonals n starts rows values) where
+module _ (n : ℕ) (starts rows : List ℕ) (values : List Float) (F : Factor n starts rows (length values)) where
   abbrev K : ℕ → ℕ → Bool
-  K = keptPair starts rows (nonzero values)
+  K = patternPair starts rows (nonzero values)
 
   abbrev rowsOf : ℕ → List ℕ
   rowsOf = pattern starts rows (nonzero values)
 
-  -- the kept rows of a column are its own and its descendants'
+  -- the rows of a column are its own and its descendants'
   column-kept : (c : ℕ) → c < n → select (byColumn K c) c n ≡ c ∷ rowsOf c
-  column-kept c h =
-      select-first (byColumn K c) c n h (keptPair-diagonal (nonzero values) (D .diagonal c h))
-      ∙ ap (λ (l : List ℕ). c ∷ l) (sym (pattern-select (nonzero values) (F .starts-rise) (F .rows-ascend) c h))
+  column-kept = patternPair-column (nonzero values) (F .starts-rise) (F .rows-ascend)
 
   desc-length : (c : ℕ) → length (desc starts rows values c) ≡ length (rowsOf c)
   desc-length c = sym (length-map (desc starts rows values c) (λ (e : Entry Float). e .row)) ∙ ap length (desc-pattern starts rows values c)
@@ -105,9 +87,11 @@ module _ (n : ℕ) (starts rows : List ℕ) (values : List Float) (F : Factor n 
       let below : k < i = pattern-rises nz (F .starts-rise) (F .rows-ascend) j jn p u l h in
       let inside : i < n = pattern-inside nz (F .starts-rise) (F .rows-ascend) j jn u h in
       let above : j < i = pattern-above nz (F .starts-rise) j jn u h in
-      let t = C i j k (le-of-lt above) inside (descends-at rowsOf j p (lt-trans l h)) (keptPair-pattern nz (F .starts-rise) j jn u h) in
+      let t = C i j k (le-of-lt above) inside (descends-at rowsOf j p (lt-trans l h))
+      (patternPair-below starts rows nz i j above ∙ keptPair-pattern nz (F .starts-rise) j jn u h) in
       keptPair-below nz (F .starts-rise) k (lt-trans below inside) i below
-      (subst₂ (λ (a b : ℕ). K a b ≡ true) (max-eq-left (le-of-lt below)) (min-eq-right (le-of-lt below)) t)
+      (sym (patternPair-below starts rows nz i k below)
+      ∙ subst₂ (λ (a b : ℕ). K a b ≡ true) (max-eq-left (le-of-lt below)) (min-eq-right (le-of-lt below)) t)
 
   pub kept-pattern : n ≤ maxDimension → Closed n rowsOf K → ClosedPattern nan n (desc starts rows values)
   kept-pattern small C = record {
@@ -137,7 +121,7 @@ module _ (n : ℕ) (starts rows : List ℕ) (values : List Float) (F : Factor n 
   column-size : (c : ℕ) → c < n → tally (byColumn K c) c n ≡ suc (length (desc starts rows values c))
   column-size c h = ap length (column-kept c h) ∙ ap suc (sym (desc-length c))
 
-  -- the values of a table at the kept pairs are its columns read at the pattern
+  -- the values of a table at the pattern's pairs are its columns read at the pattern
   pub kept-values : (Z : ℕ → ℕ → Float) → columnsValues Z (desc starts rows values) n ≡ entryValues n K Z
   unfolding columnsValues cells
   kept-values Z = go n (le-refl n)

@@ -10,14 +10,15 @@ use lib.Seq.{length-take-le}
 use lib.Ieee.{Float, nan}
 use Rattle.refusal.specs.Bounds.{maxDimension}
 use Rattle.lists.specs.Overwrite.{overwrite, splice}
-use Rattle.takahashi.specs.Recurrence.{Entry}
+use Rattle.takahashi.specs.Recurrence.{Entry, table}
 use Rattle.columns.specs.Columns.{start}
-use Rattle.columns.specs.Kept.{nonzero, keptPair, diag, desc}
+use Rattle.columns.specs.Kept.{nonzero, desc}
+use Rattle.columns.specs.Form.{Form, divisor, patternPair}
 use Rattle.columns.specs.Factor.{factor-column, starts-end}
-use Rattle.entries.specs.Entries.{entryValues, floatTable}
-use Rattle.exact.specs.Exact.{floats, float-off, float-on}
+use Rattle.entries.specs.Entries.{entryValues, formTable}
+use Rattle.exact.specs.Exact.{floats}
 use Rattle.exact.specs.Multiple.{zero-float}
-use Rattle.scatter.specs.Scatter.{weigh, clear, unmarks, Between, stepped, ClosedPattern, Laid, Known, Filled}
+use Rattle.scatter.specs.Scatter.{weigh, clear, unmarks, Between, stepped, ClosedPattern, Laid, Known, Filled, columnValues}
 use Rattle.scatter.specs.Marks.{weigh-long, marks-marked, unmarks-empties}
 use Rattle.scatter.specs.ClosedPattern.{degree, degree-small, width, next-le}
 use Rattle.scatter.specs.Column.{sums-cleared, column-right}
@@ -29,20 +30,28 @@ use Rattle.factor_route.proofs.LaidLaws.{laid-walk, laid-ends, laid-mar
 use Rattle.factor_route.specs.Route.{RouteInput, WorkRows, ColumnWritten}
 
 -- the columns from j on are the recurrence's, and what stands past the result is as before
-abbrev pub Done : ℕ → List ℕ → List ℕ → List Float → List ℕ → List ℕ → List Float → ℕ → List Float → Type 0
-Done n starts rows values es er old j v = Filled nan n (desc starts rows values) es er (floatTable n starts rows values) old j v
+abbrev pub Done : Form → ℕ → List ℕ → List ℕ → List Float → List ℕ → List ℕ → List Float → ℕ → List Float → Type 0
+Done form n starts rows values es er old j v = Filled nan n (desc starts rows values) es er (formTable form n starts rows values) old j v
 
 -- ---- one column
-module _ {n : ℕ} {starts rows : List ℕ} {values : List Float} {es er : List ℕ} {total : ℕ} (R : RouteInput n starts rows values es er total) where
+module _ {form : Form} {n : ℕ} {starts rows : List ℕ} {values : List Float} {es er : List ℕ} {total : ℕ}
+    (R : RouteInput form n starts rows values es er total) where
+  abbrev Z : ℕ → ℕ → Float
+  Z = formTable form n starts rows values
+
+  -- what the entries of a column are finished with
+  abbrev divides : ℕ → Float
+  divides = divisor n starts rows values form
+
   P : ClosedPattern nan n (desc starts rows values)
-  P = kept-pattern n starts rows values (R .factor) (R .diagonals) (R .small) (R .closed)
+  P = kept-pattern n starts rows values (R .factor) (R .small) (R .closed)
 
   L : Laid nan n (desc starts rows values) es er
-  L = kept-laid n starts rows values (R .factor) (R .diagonals) es er (R .laid-starts) (R .laid-rows)
+  L = kept-laid n starts rows values (R .factor) es er (R .laid-starts) (R .laid-rows)
 
   filled-room : getD es n 0 ≤ total
   filled-room =
-      omega (arith, kept-size n starts rows values (R .factor) (R .diagonals) es er (R .laid-starts) (R .laid-rows), R .room)
+      omega (arith, kept-size n starts rows values (R .factor) es er (R .laid-starts) (R .laid-rows), R .room)
 
   module _ (j : ℕ) (jn : j < n) where
     next : getD es (j + 1) 0 ≡ getD es j 0 + suc (length (desc starts rows values j))
@@ -102,19 +111,19 @@ module _ {n : ℕ} {starts rows : List ℕ} {values : List Float} {es er : List 
           let d = degree-small nan n (desc starts rows values) P j jn in
           omega (arith, counted s t m es′ et em, next, ends, filled-room)
 
-      -- what the calls of the column leave
-      pub route-column : (e : ℕ) (d : Float) (v v′ : List Float) (marker : List ℕ) (weights sums : List Float) (marker₁ : List ℕ)
+      -- what the calls of the column leave, with the last steps of the form
+      pub route-column : (off on : Float → Float → Float) → formTable form n starts rows values ≡ table floats off on n divides (desc starts rows values)
+          → (e : ℕ) (d : Float) (v v′ : List Float) (marker : List ℕ) (weights sums : List Float) (marker₁ : List ℕ)
           (weights₁ sums₁ sums₂ : List Float)
           (marker₂ : List ℕ) → e ≡ getD es (j + 1) 0 → WorkRows marker weights sums → length v ≡ total
-          → Known nan n (desc starts rows values) es er (floatTable n starts rows values) (j + 1) v
+          → Known nan n (desc starts rows values) es er Z (j + 1) v
           → ColumnMarked (descBetween rows values j s t) m marker weights sums marker₁ weights₁ sums₁
           → Scattered (ColumnsAre es er v (a + 1) m) er (a + 1) m weights₁ 0 m sums₁ sums₂
-          → d ≡ diag starts rows values j
-          → v′ ≡ splice a (stepped floats float-off float-on nan d weights₁ sums₂ (take (e - a) (drop a v)) m) v
+          → d ≡ divides j
+          → v′ ≡ splice a (stepped floats off on nan d weights₁ sums₂ (take (e - a) (drop a v)) m) v
           → marker₂ ≡ unmarks er (a + 1) marker₁ m
-          → ColumnWritten n starts rows values es j v v′ marker₂ weights₁ sums₂
-      unfolding floatTable
-      route-column e d v v′ marker weights sums marker₁ weights₁ sums₁ sums₂ marker₂ ee W lv Kn M S ed ev eu = record {
+          → ColumnWritten form n starts rows values es j v v′ marker₂ weights₁ sums₂
+      route-column off on told e d v v′ marker weights sums marker₁ weights₁ sums₁ sums₂ marker₂ ee W lv Kn M S ed ev eu = record {
         rest = record {
           marker-is =
               rw (eu, ea, M .marker-is, W .marker-is, dsM, mM)
@@ -127,9 +136,10 @@ module _ {n : ℕ} {starts rows : List ℕ} {values : List Float} {es er : List 
         values-are =
             rw (ev, ed, ew, mM, ea, ee)
             (ap (λ (l : List Float). splice (getD es j 0) l v)
-            (column-right floats float-off float-on nan n (desc starts rows values) P es er L (diag starts rows values) j jn weights (W .weights-long)
+            (column-right floats off on nan n (desc starts rows values) P es er L divides j jn weights (W .weights-long)
             sums₂ whole
-            (take (getD es (j + 1) 0 - getD es j 0) (drop (getD es j 0) v)) long));
+            (take (getD es (j + 1) 0 - getD es j 0) (drop (getD es j 0) v)) long
+            ∙ ap (λ (Y : ℕ → ℕ → Float). columnValues Y (desc starts rows values) j) (sym told)));
       }
         where
           dsM : descBetween rows values j s t ≡ desc starts rows values j
@@ -141,30 +151,36 @@ module _ {n : ℕ} {starts rows : List ℕ} {values : List Float} {es er : List 
           ew : weights₁ ≡ weigh nan (desc starts rows values j) weights (length (desc starts rows values j))
           ew = M .weights-is ∙ ap₂ (λ (x : List (Entry Float)) (k : ℕ). weigh nan x weights k) dsM mM
 
+          T : ℕ → ℕ → Float
+          T = table floats off on n divides (desc starts rows values)
+
+          after-told : Known nan n (desc starts rows values) es er T (j + 1) v
+          after-told = subst (λ (Y : ℕ → ℕ → Float). Known nan n (desc starts rows values) es er Y (j + 1) v) told Kn
+
           -- the columns after j are the table's
-          known : ColumnsAre es er v (getD es j 0 + 1) (length (desc starts rows values j)) (floatTable n starts rows values)
+          known : ColumnsAre es er v (getD es j 0 + 1) (length (desc starts rows values j)) T
           known = record {
             column = λ p h.
                 let k : ℕ = getD er (getD es j 0 + 1 + p) 0 in
                 let w = laid-after nan n (desc starts rows values) P es er L j jn p h in record {
                   value = λ x lo hi.
                       let q : getD es k 0 + (x - getD es k 0) ≡ x = omega arith in
-                      subst (λ (i : ℕ). getD v i nan ≡ floatTable n starts rows values (getD er i 0) k) q
-                      (Kn .value k (x - getD es k 0) (omega (arith, w .0)) (w .1) (omega (arith, L .next k (w .1))));
+                      subst (λ (i : ℕ). getD v i nan ≡ T (getD er i 0) k) q
+                      (after-told .value k (x - getD es k 0) (omega (arith, w .0)) (w .1) (omega (arith, L .next k (w .1))));
                 };
           }
 
           whole :
-              Between floats nan (floatTable n starts rows values) er (getD es j 0 + 1) (length (desc starts rows values j))
+              Between floats nan T er (getD es j 0 + 1) (length (desc starts rows values j))
               (weigh nan (desc starts rows values j) weights (length (desc starts rows values j)))
               (length (desc starts rows values j))
               sums₂
           whole =
-              rw (ea, mM, ew) at (S) .sums-are (floatTable n starts rows values) known
-              (subst (λ (l : List Float). Between floats nan (floatTable n starts rows values) er (getD es j 0 + 1) (length (desc starts rows values j))
+              rw (ea, mM, ew) at (S) .sums-are T known
+              (subst (λ (l : List Float). Between floats nan T er (getD es j 0 + 1) (length (desc starts rows values j))
               (weigh nan (desc starts rows values j) weights (length (desc starts rows values j))) 0 l)
               (sym (M .sums-is ∙ ap (clear zero-float sums) mM))
-              (sums-cleared floats float-off float-on nan n (desc starts rows values) P es er L (diag starts rows values) j jn weights (W .weights-long) sums
+              (sums-cleared floats off on nan n (desc starts rows values) P es er L divides j jn weights (W .weights-long) sums
               (W .sums-long)))
 
           long : length (take (getD es (j + 1) 0 - getD es j 0) (drop (getD es j 0) v)) ≡ suc (length (desc starts rows values j))
@@ -178,28 +194,28 @@ module _ {n : ℕ} {starts rows : List ℕ} {values : List Float} {es er : List 
     room-old : getD es n 0 ≤ length old
     room-old = omega (arith, filled-room)
 
-    pub route-none : Done n starts rows values es er old n old
-    route-none = columns-none nan n (desc starts rows values) es er L (floatTable n starts rows values) old room-old
+    pub route-none : Done form n starts rows values es er old n old
+    route-none = columns-none nan n (desc starts rows values) es er L Z old room-old
 
     -- where the loop turns
-    pub route-turn : (j : ℕ) (v : List Float) → 0 < j → Done n starts rows values es er old j v → Done n starts rows values es er old (j - 1 + 1) v
+    pub route-turn : (j : ℕ) (v : List Float) → 0 < j → Done form n starts rows values es er old j v → Done form n starts rows values es er old (j - 1 + 1) v
     route-turn j v h F =
         let q : j ≡ j - 1 + 1 = omega arith in
-        subst (λ (k : ℕ). Done n starts rows values es er old k v) q F
+        subst (λ (k : ℕ). Done form n starts rows values es er old k v) q F
 
-    pub route-next : (j : ℕ) (v v′ : List Float) (marker : List ℕ) (weights sums : List Float) → j < n → Done n starts rows values es er old (j + 1) v
-        → ColumnWritten n starts rows values es j v v′ marker weights sums → Done n starts rows values es er old j v′
+    pub route-next : (j : ℕ) (v v′ : List Float) (marker : List ℕ) (weights sums : List Float) → j < n → Done form n starts rows values es er old (j + 1) v
+        → ColumnWritten form n starts rows values es j v v′ marker weights sums → Done form n starts rows values es er old j v′
     route-next j v v′ marker weights sums jn F D =
-        subst (λ (l : List Float). Done n starts rows values es er old j l) (sym (D .values-are))
-        (columns-next nan n (desc starts rows values) es er L (floatTable n starts rows values) old room-old j v jn F)
+        subst (λ (l : List Float). Done form n starts rows values es er old j l) (sym (D .values-are))
+        (columns-next nan n (desc starts rows values) es er L Z old room-old j v jn F)
 
-    pub route-end : (j : ℕ) (v : List Float) → j ≡ 0 → Done n starts rows values es er old j v
-        → v ≡ overwrite (entryValues n (keptPair starts rows (nonzero values)) (floatTable n starts rows values)) old
+    pub route-end : (j : ℕ) (v : List Float) → j ≡ 0 → Done form n starts rows values es er old j v
+        → v ≡ overwrite (entryValues n (patternPair starts rows (nonzero values)) Z) old
     route-end j v e F =
-        filled-end nan n (desc starts rows values) es er L (floatTable n starts rows values) old room-old v
-        (subst (λ (k : ℕ). Done n starts rows values es er old k v) e F)
-        ∙ ap (λ (l : List Float). overwrite l old) (kept-values n starts rows values (R .factor) (R .diagonals) (floatTable n starts rows values))
+        filled-end nan n (desc starts rows values) es er L Z old room-old v
+        (subst (λ (k : ℕ). Done form n starts rows values es er old k v) e F)
+        ∙ ap (λ (l : List Float). overwrite l old) (kept-values n starts rows values (R .factor) Z)
 
   -- the input of a call within, whose value list is as long
-  pub route-input : (m : ℕ) → m ≡ total → RouteInput n starts rows values es er m
-  route-input m e = subst (λ (k : ℕ). RouteInput n starts rows values es er k) (sym e) R
+  pub route-input : (m : ℕ) → m ≡ total → RouteInput form n starts rows values es er m
+  route-input m e = subst (λ (k : ℕ). RouteInput form n starts rows values es er k) (sym e) R

@@ -1,4 +1,5 @@
-// The factor-pattern route of the selected inverse, taken where the closed set is the factor's kept pattern, after
+// The factor-pattern route of the selected inverse, taken where the closed set is the factor's pattern, its diagonals
+// and its kept entries, after
 // `takahashi_selected_inverse_on_factor_pattern` of uncertainty.rs.
 pub mod column_marks;
 pub mod column_scatter;
@@ -9,14 +10,15 @@ ghost use Prim.Native.Nat.{_+_, _<_};
 ghost use lib.ListN.{length};
 ghost use lib.Ieee.{nan};
 ghost use Rattle.lists.specs.Overwrite.{overwrite};
-ghost use Rattle.columns.specs.Kept.{nonzero, keptPair, desc};
-ghost use Rattle.entries.specs.Entries.{entryValues, floatTable};
+ghost use Rattle.columns.specs.Kept.{nonzero, desc};
+ghost use Rattle.columns.specs.Form.{formOf, patternPair};
+ghost use Rattle.entries.specs.Entries.{entryValues, formTable};
 ghost use Rattle.scatter.specs.Scatter.{Known};
 ghost use Rattle.factor_route.specs.Route.{RouteInput, WorkRows, ColumnWritten};
 use column_marks::mark_column;
 use column_marks::unmark_column;
 use column_scatter::scatter_columns;
-use kept_entries::diagonal::diagonal;
+use kept_entries::diagonal::column_divisor;
 use refusal::MAX_DIMENSION;
 use step::write_column;
 use words::at;
@@ -27,6 +29,8 @@ fn pattern_column(
     starts: &[u32],
     rows: &[u32],
     values: &[f64],
+    with_pivots: bool,
+    pivots: &[f64],
     result_starts: &[u32],
     result_rows: &[u32],
     result_values: &mut [f64],
@@ -35,11 +39,11 @@ fn pattern_column(
     weights: &mut [f64; MAX_DIMENSION],
     sums: &mut [f64; MAX_DIMENSION],
 )
-    requires { ⌜ RouteInput n (now starts) (now rows) (now values) (now «result_starts») (now «result_rows») (length (now «result_values»)) × (j < n) ⌝ }
+    requires { ⌜ RouteInput (formOf «with_pivots» (now pivots)) n (now starts) (now rows) (now values) (now «result_starts») (now «result_rows») (length (now «result_values»)) × (j < n) ⌝ }
     requires { ⌜ WorkRows (now marker) (now weights) (now sums) ⌝ }
     requires { ⌜ Known nan n (desc (now starts) (now rows) (now values)) (now «result_starts») (now «result_rows»)
-        (floatTable n (now starts) (now rows) (now values)) (j + 1) (now «result_values») ⌝ }
-    ensures { λ _. ⌜ ColumnWritten n (now (starts .entry)) (now (rows .entry)) (now (values .entry)) (now («result_starts» .entry)) j
+        (formTable (formOf «with_pivots» (now pivots)) n (now starts) (now rows) (now values)) (j + 1) (now «result_values») ⌝ }
+    ensures { λ _. ⌜ ColumnWritten (formOf «with_pivots» (now (pivots .entry))) n (now (starts .entry)) (now (rows .entry)) (now (values .entry)) (now («result_starts» .entry)) j
         (now («result_values» .entry)) (now («result_values» .exit)) (now (marker .exit)) (now (weights .exit)) (now (sums .exit)) ⌝ }
 {
     let a = at(result_starts, j);
@@ -58,25 +62,27 @@ fn pattern_column(
         weights,
         sums,
     );
-    let d = diagonal(n, starts, rows, values, j);
-    write_column(result_values, a, e, weights, sums, d, m);
+    let d = column_divisor(n, starts, rows, values, with_pivots, pivots, j);
+    write_column(result_values, a, e, weights, sums, with_pivots, d, m);
     unmark_column(result_rows, b, m, marker);
 }
 
-// The values of the selected inverse over the factor's kept pattern, columns from the last to the first.
+// The values of the selected inverse over the factor's pattern, columns from the last to the first.
 pub fn takahashi_selected_inverse_on_factor_pattern(
     n: usize,
     starts: &[u32],
     rows: &[u32],
     values: &[f64],
+    with_pivots: bool,
+    pivots: &[f64],
     result_starts: &[u32],
     result_rows: &[u32],
     result_values: &mut [f64],
 )
-    requires { ⌜ RouteInput n (now starts) (now rows) (now values) (now «result_starts») (now «result_rows») (length (now «result_values»)) ⌝ }
+    requires { ⌜ RouteInput (formOf «with_pivots» (now pivots)) n (now starts) (now rows) (now values) (now «result_starts») (now «result_rows») (length (now «result_values»)) ⌝ }
     ensures { λ _. ⌜ now («result_values» .exit) ≡ overwrite
-        (entryValues n (keptPair (now (starts .entry)) (now (rows .entry)) (nonzero (now (values .entry))))
-        (floatTable n (now (starts .entry)) (now (rows .entry)) (now (values .entry))))
+        (entryValues n (patternPair (now (starts .entry)) (now (rows .entry)) (nonzero (now (values .entry))))
+        (formTable (formOf «with_pivots» (now (pivots .entry))) n (now (starts .entry)) (now (rows .entry)) (now (values .entry))))
         (now («result_values» .entry)) ⌝ }
 {
     let mut marker = [MAX_DIMENSION; MAX_DIMENSION];
@@ -90,6 +96,8 @@ pub fn takahashi_selected_inverse_on_factor_pattern(
             starts,
             rows,
             values,
+            with_pivots,
+            pivots,
             result_starts,
             result_rows,
             result_values,

@@ -33,7 +33,7 @@ use Rattle.closure_route.specs.Members.{marked-size, marked-closed}
 use Rattle.fill.specs.Routes.{RoutesInput}
 use Rattle.diagnostics.specs.Diagnosis.{maxCount}
 use Rattle.selection.specs.Diagnosis.{diagnosisOf}
-use Rattle.selection.specs.Selection.{Selection, selecting, choleskyOf, Lent, roomOf, Accepted, scratchWords, selectedSet, selectedSize, selectedComplete, selectedAnswer, selectedTable, lists, fillingOf, selectedPattern}
+use Rattle.selection.specs.Selection.{Selection, selecting, Lent, roomOf, Accepted, scratchWords, selectedSet, selectedSize, selectedComplete, selectedAnswer, selectedTable, lists, fillingOf, selectedPattern}
 use Rattle.selection.specs.Selection.{ResultLists, lists-passed, cleared-same, nothing-refused}
 use Rattle.selection.specs.Status.{status-tells, factor-pairs-are, closure-pairs-are}
 
@@ -146,19 +146,20 @@ module _ (x : Selection) (lent : Lent) (A : Accepted x (roomOf lent)) where
           (sym (ap (λ (b : Bool). cond b (overwrite (entryValues (x .factor .n) (selectedSet x) (selectedTable x)) (lent .resultValues)) (lent .resultValues)) large))
           (cleared-same (queueStart (x .factor .n) + pairTotal (x .factor .n)) (scratchWords (x .factor .n)) s₁ (lent .scratch) (scratchWords-queue (x .factor .n)) (K .later))
 
--- ---- what the choice between the routes asks, of L with L * Lᵀ
-module _ (y : Selection) (lent : Lent) (A : Accepted (choleskyOf y) (roomOf lent)) {stops s₁ : List ℕ}
-    (K : Closing (y .factor .n) (pat y) (y .requests) (y .limit) (lent .scratch) stops s₁) {d : SelectedInverseDiagnostics} (D : d ≡ selectedAnswer (choleskyOf y))
+-- ---- what the choice between the routes asks
+module _ (x : Selection) (lent : Lent) (A : Accepted x (roomOf lent)) {stops s₁ : List ℕ}
+    (K : Closing (x .factor .n) (pat x) (x .requests) (x .limit) (lent .scratch) stops s₁) {d : SelectedInverseDiagnostics} (D : d ≡ selectedAnswer x)
     (told : d .status ≡ Complete) {rs rr s₂ : List ℕ} {count : ℕ}
-    (L : LaidOut (y .factor .n) (lent .resultStarts) (lent .resultRows) s₁ rs rr s₂ count) where
-  pub fill-route : RoutesInput (y .factor .n) (y .factor .starts) (y .factor .rows) (y .factor .values) (d .«factor_pairs») (d .«closure_pairs») rs rr s₂ (length (lent .resultValues))
+    (L : LaidOut (x .factor .n) (lent .resultStarts) (lent .resultRows) s₁ rs rr s₂ count) where
+  pub fill-route : RoutesInput (x .form) (x .factor .n) (x .factor .starts) (x .factor .rows) (x .factor .values) (d .«factor_pairs») (d .«closure_pairs») rs rr s₂
+      (length (lent .resultValues))
   fill-route = record {
-    route = fill-closure (choleskyOf y) lent A K D told L;
-    diagonals = A .diagonals;
-    kept-is = ap (λ (y : SelectedInverseDiagnostics). y .«factor_pairs») D ∙ factor-pairs-are (choleskyOf y);
-    closed-is = fill-closed (choleskyOf y) lent A K D told L;
-    starts-laid = fill-starts (choleskyOf y) lent A K D told L;
-    rows-laid = fill-rows (choleskyOf y) lent A K D told L;
+    route = fill-closure x lent A K D told L;
+    divisors = A .diagonals;
+    kept-is = ap (λ (y : SelectedInverseDiagnostics). y .«factor_pairs») D ∙ factor-pairs-are x;
+    closed-is = fill-closed x lent A K D told L;
+    starts-laid = fill-starts x lent A K D told L;
+    rows-laid = fill-rows x lent A K D told L;
   }
 
 -- ---- the count of kept pairs, in either form

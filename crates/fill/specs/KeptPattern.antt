@@ -1,17 +1,19 @@
--- Whether every kept entry of a factor is marked, and that this with equal counts makes the marked set the kept pattern.
+-- Whether every diagonal and kept entry of a factor is marked: what the choice between the routes asks.
 -- Assumes nothing.
 use Prim.Native.Nat.{ℕ, _≤_, _<_}
 use mathlib.Core.Path.{_≡_}
-use mathlib.Core.Bool.{Bool, not, _&&_}
+use mathlib.Core.Bool.{Bool, not, _&&_, _||_}
 use mathlib.Core.List.{List}
 use lib.Dec.{leb}
 use lib.ListN.{length}
 use lib.Ieee.{Float, ne}
+use Rattle.lists.specs.Test.{anyIn}
 use Rattle.refusal.specs.Bounds.{maxDimension}
 use Rattle.pairs.specs.Scratch.{queueStart}
 use Rattle.pairs.specs.ColumnOrder.{columnMarking, setSize}
 use Rattle.columns.specs.Columns.{row, value}
-use Rattle.columns.specs.Kept.{f0, nonzero, kept, factorPairs}
+use Rattle.columns.specs.Kept.{f0, nonzero, pattern}
+use Rattle.columns.specs.Form.{patternPairs}
 use Rattle.columns.specs.Factor.{Factor}
 
 -- an accepted factor with its count, and a marked set with its size
@@ -19,7 +21,7 @@ pub record ChoiceInput (n : ℕ) (starts rows : List ℕ) (values : List Float) 
   pub small : n ≤ maxDimension
   pub factor : Factor n starts rows (length values)
   pub room : queueStart n ≤ length scratch
-  pub kept-is : kept ≡ factorPairs starts rows (nonzero values) n
+  pub kept-is : kept ≡ patternPairs n (pattern starts rows (nonzero values))
   pub closed-is : closed ≡ setSize n (columnMarking n scratch)
 
 -- an entry of column c with row r and value l is kept and its pair is not marked
@@ -29,6 +31,10 @@ unmarkedEntry n scratch c r l = (leb c r && ne l f0) && not (columnMarking n scr
 -- the stored entry at p
 abbrev pub unmarkedAt : ℕ → List ℕ → List ℕ → List Float → ℕ → ℕ → Bool
 unmarkedAt n scratch rows values c p = unmarkedEntry n scratch c (row rows p) (value values p)
+
+-- the diagonal of column c, or an entry of it from s to below e
+abbrev pub unmarkedBetween : ℕ → List ℕ → List ℕ → List Float → ℕ → ℕ → ℕ → Bool
+unmarkedBetween n scratch rows values c s e = not (columnMarking n scratch c c) || anyIn (unmarkedAt n scratch rows values c) s e
 
 -- a stored column, from s to below e, whose pairs have marks among `words`
 pub record ChoiceColumnInput (n : ℕ) (rows : List ℕ) (values s e words : ℕ) : Type 0 where

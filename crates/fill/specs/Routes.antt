@@ -6,16 +6,15 @@ use mathlib.Core.List.{List}
 use lib.ListN.{take}
 use lib.Ieee.{Float}
 use Rattle.pairs.specs.ColumnOrder.{columnMarking, setSize}
-use Rattle.columns.specs.Kept.{nonzero, factorPairs}
-use Rattle.columns.specs.Diagonal.{Diagonals}
+use Rattle.columns.specs.Form.{Form, keptPairs, Divisors}
 use Rattle.entries.specs.Entries.{entryStarts, entryRows}
 use Rattle.closure_route.specs.Route.{routeLists, ClosureRouteInput}
 
 -- the closure route's input with the counts of kept and of marked pairs, and the result laid out over the marked set
-pub record RoutesInput (n : ℕ) (starts rows : List ℕ) (values : List Float) (kept closed : ℕ) (firsts listed scratch : List ℕ) (size : ℕ) : Type 0 where
+pub record RoutesInput (form : Form) (n : ℕ) (starts rows : List ℕ) (values : List Float) (kept closed : ℕ) (firsts listed scratch : List ℕ) (size : ℕ) : Type 0 where
   pub route : ClosureRouteInput (routeLists n starts rows values firsts listed scratch) size
-  pub diagonals : Diagonals n starts rows values
-  pub kept-is : kept ≡ factorPairs starts rows (nonzero values) n
+  pub divisors : Divisors n starts rows values form
+  pub kept-is : kept ≡ keptPairs n starts rows values form
   pub closed-is : closed ≡ setSize n (columnMarking n scratch)
   pub starts-laid : take (n + 1) firsts ≡ entryStarts n (columnMarking n scratch)
   pub rows-laid : take (setSize n (columnMarking n scratch)) listed ≡ entryRows n (columnMarking n scratch)

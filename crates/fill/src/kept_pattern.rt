@@ -1,4 +1,4 @@
-// Whether a marked set of pairs is the factor's kept pattern, after `closure_is_cholesky_factor_pattern` of uncertainty.rs.
+// Whether a marked set of pairs is the factor's pattern, its diagonals and its kept entries, after `closure_is_cholesky_factor_pattern` of uncertainty.rs.
 ghost use mathlib.Core.Path.{_≡_};
 ghost use Prim.Native.Nat.{_≤_, _<_};
 ghost use lib.ListN.{length};
@@ -6,9 +6,10 @@ ghost use Rattle.refusal.specs.Bounds.{maxDimension};
 ghost use Rattle.lists.specs.Test.{anyIn};
 ghost use Rattle.pairs.specs.Scratch.{queueStart};
 ghost use Rattle.pairs.specs.ColumnOrder.{columnMarking};
-ghost use Rattle.columns.specs.Kept.{nonzero, keptPair};
+ghost use Rattle.columns.specs.Kept.{nonzero};
+ghost use Rattle.columns.specs.Form.{patternPair};
 ghost use Rattle.fill.specs.Agree.{samePairs};
-ghost use Rattle.fill.specs.KeptPattern.{ChoiceInput, ChoiceColumnInput, unmarkedEntry, unmarkedAt};
+ghost use Rattle.fill.specs.KeptPattern.{ChoiceInput, ChoiceColumnInput, unmarkedEntry, unmarkedAt, unmarkedBetween};
 use pair_places::column_place;
 use words::at;
 use words::bit_words::bit;
@@ -50,7 +51,26 @@ fn unmarked_column(
     false
 }
 
-// Whether the marked set is the kept pattern: as many pairs, and every kept entry marked.
+// Whether the diagonal of column c, or some entry of it that is stored from s to e and kept, is not marked.
+fn unmarked_pattern(
+    n: usize,
+    c: usize,
+    rows: &[u32],
+    values: &[f64],
+    s: usize,
+    e: usize,
+    scratch: &[u32],
+) -> bool
+    requires { ⌜ ChoiceColumnInput n (now rows) (length (now values)) s e (length (now scratch)) × (c < n) ⌝ }
+    ensures { λ b. ⌜ b ≡ unmarkedBetween n (now (scratch .entry)) (now (rows .entry)) (now (values .entry)) c s e ⌝ }
+{
+    if !bit(scratch, column_place(n, c, c)) {
+        return true;
+    }
+    unmarked_column(n, c, rows, values, s, e, scratch)
+}
+
+// Whether the marked set is the pattern: as many pairs, and every diagonal and every kept entry marked.
 pub fn closure_is_cholesky_factor_pattern(
     n: usize,
     starts: &[u32],
@@ -62,14 +82,14 @@ pub fn closure_is_cholesky_factor_pattern(
 ) -> bool
     requires { ⌜ ChoiceInput n (now starts) (now rows) (now values) «factor_pairs» «closure_pairs» (now scratch) ⌝ }
     ensures { λ b. ⌜ b ≡ samePairs n (columnMarking n (now (scratch .entry)))
-        (keptPair (now (starts .entry)) (now (rows .entry)) (nonzero (now (values .entry)))) ⌝ }
+        (patternPair (now (starts .entry)) (now (rows .entry)) (nonzero (now (values .entry)))) ⌝ }
 {
     if closure_pairs != factor_pairs {
         return false;
     }
     let mut c = 0;
     while c < n {
-        if unmarked_column(
+        if unmarked_pattern(
             n,
             c,
             rows,

@@ -1,4 +1,5 @@
 // Filling result lists: what every call does past its checks, once the requested pairs are marked.
+pub mod forms;
 pub mod kept_pattern;
 pub mod routes;
 
@@ -6,17 +7,12 @@ ghost use Rattle.columns.specs.Columns.{factorLists};
 ghost use Rattle.columns.specs.Form.{cholesky};
 ghost use Rattle.selection.specs.Selection.{lists};
 ghost use Rattle.fill.specs.Fill.{FillInput, Fills, FillsLists};
-use closure::diagnose;
 use diagnostics::SelectedInverseDiagnostics;
-use diagnostics::SelectedInverseStatus;
-use kept_entries::factor_pairs;
-use layout::lay_out;
-use pair_places::scratch::clear_scratch;
-use refusal::MAX_DIMENSION;
-use routes::takahashi_selected_inverse;
+use forms::fill_form_entries;
+use forms::fill_form_lists;
 
-// The diagnosis; where the closed set of the marked pairs is within the limit the result lists are filled, and the scratch ends with the
-// positions of its members.
+// The diagnosis; where the closed set of the marked pairs is within the limit the result lists are filled from L with L·Lᵀ, and the scratch ends
+// with the positions of its members.
 pub fn fill_lists(
     n: usize,
     starts: &[u32],
@@ -35,44 +31,24 @@ pub fn fill_lists(
         (lists (now («result_starts» .entry)) (now («result_rows» .entry)) (now («result_values» .entry)) (now (scratch .entry))) d
         (lists (now («result_starts» .exit)) (now («result_rows» .exit)) (now («result_values» .exit)) (now (scratch .exit))) ⌝ }
 {
-    let kept_pairs = factor_pairs(n, starts, rows, values);
-    let wholes: [i64; 1] = [0; 1];
-    let mut stops = [0; MAX_DIMENSION];
-    let diagnosis = diagnose(
+    let none: [f64; 1] = [0.0; 1];
+    fill_form_lists(
         n,
         starts,
         rows,
         values,
-        &wholes[0..0],
-        kept_pairs,
+        false,
+        &none[0..0],
         requested_pairs,
         limit,
-        &mut stops,
+        result_starts,
+        result_rows,
+        result_values,
         scratch,
-    );
-    let status = diagnosis.status;
-    match status {
-        SelectedInverseStatus::Complete => {
-            lay_out(n, &stops, result_starts, result_rows, scratch);
-            takahashi_selected_inverse(
-                n,
-                starts,
-                rows,
-                values,
-                diagnosis.factor_pairs,
-                diagnosis.closure_pairs,
-                result_starts,
-                result_rows,
-                result_values,
-                scratch,
-            );
-            diagnosis
-        }
-        SelectedInverseStatus::ClosureTooLarge => diagnosis,
-    }
+    )
 }
 
-// The diagnosis; where the closed set of the marked pairs is within the limit the result lists are filled. The scratch ends cleared.
+// The same, and the scratch ends cleared.
 pub fn fill_entries(
     n: usize,
     starts: &[u32],
@@ -91,18 +67,19 @@ pub fn fill_entries(
         (lists (now («result_starts» .entry)) (now («result_rows» .entry)) (now («result_values» .entry)) (now (scratch .entry))) d
         (lists (now («result_starts» .exit)) (now («result_rows» .exit)) (now («result_values» .exit)) (now (scratch .exit))) ⌝ }
 {
-    let diagnosis = fill_lists(
+    let none: [f64; 1] = [0.0; 1];
+    fill_form_entries(
         n,
         starts,
         rows,
         values,
+        false,
+        &none[0..0],
         requested_pairs,
         limit,
         result_starts,
         result_rows,
         result_values,
         scratch,
-    );
-    clear_scratch(n, scratch);
-    diagnosis
+    )
 }

@@ -1,9 +1,10 @@
-// Takahashi's recurrence over a closed set: by the factor-pattern route where the set is the kept pattern, else by the closure route.
+// Takahashi's recurrence over a closed set: by the factor-pattern route where the set is the factor's pattern, else by the closure route.
 ghost use mathlib.Core.Path.{_≡_};
 ghost use lib.ListN.{length};
 ghost use Rattle.lists.specs.Overwrite.{overwrite};
 ghost use Rattle.pairs.specs.ColumnOrder.{columnMarking};
-ghost use Rattle.entries.specs.Entries.{entryValues, floatTable};
+ghost use Rattle.columns.specs.Form.{formOf};
+ghost use Rattle.entries.specs.Entries.{entryValues, formTable};
 ghost use Rattle.fill.specs.Routes.{RoutesInput};
 use super::kept_pattern::closure_is_cholesky_factor_pattern;
 use closure_route::takahashi_selected_inverse_on_closure;
@@ -15,6 +16,8 @@ pub fn takahashi_selected_inverse(
     starts: &[u32],
     rows: &[u32],
     values: &[f64],
+    with_pivots: bool,
+    pivots: &[f64],
     factor_pairs: usize,
     closure_pairs: usize,
     result_starts: &[u32],
@@ -22,10 +25,10 @@ pub fn takahashi_selected_inverse(
     result_values: &mut [f64],
     scratch: &[u32],
 )
-    requires { ⌜ RoutesInput n (now starts) (now rows) (now values) «factor_pairs» «closure_pairs» (now «result_starts») (now «result_rows») (now scratch)
+    requires { ⌜ RoutesInput (formOf «with_pivots» (now pivots)) n (now starts) (now rows) (now values) «factor_pairs» «closure_pairs» (now «result_starts») (now «result_rows») (now scratch)
         (length (now «result_values»)) ⌝ }
     ensures { λ _. ⌜ now («result_values» .exit) ≡ overwrite (entryValues n (columnMarking n (now (scratch .entry)))
-        (floatTable n (now (starts .entry)) (now (rows .entry)) (now (values .entry)))) (now («result_values» .entry)) ⌝ }
+        (formTable (formOf «with_pivots» (now (pivots .entry))) n (now (starts .entry)) (now (rows .entry)) (now (values .entry)))) (now («result_values» .entry)) ⌝ }
 {
     if closure_is_cholesky_factor_pattern(
         n,
@@ -41,6 +44,8 @@ pub fn takahashi_selected_inverse(
             starts,
             rows,
             values,
+            with_pivots,
+            pivots,
             result_starts,
             result_rows,
             result_values,
@@ -52,6 +57,8 @@ pub fn takahashi_selected_inverse(
         starts,
         rows,
         values,
+        with_pivots,
+        pivots,
         result_starts,
         result_rows,
         result_values,

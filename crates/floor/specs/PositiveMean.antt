@@ -10,15 +10,11 @@ use borrow.Author.Tests.{eq-eqb, ne-eqb}
 use lib.Dec.{eqb}
 use lib.IntN.{pos}
 use lib.ListN.{length}
-use lib.Ieee.{Float, nan, inf, fin, binary64, add, div, lt, ofInt, ofBits}
+use lib.Ieee.{Float, nan, inf, fin, binary64, add, div, lt, ofInt}
 use Rattle.lists.specs.Sum.{bit}
 use Rattle.lists.specs.Select.{tally, tally-next}
 use Rattle.columns.specs.Columns.{value}
-use Rattle.columns.specs.Kept.{f0}
-
--- 1.0
-abbrev pub f1 : Float
-f1 = ofBits binary64 0x3ff0_0000_0000_0000
+use Rattle.columns.specs.Kept.{f0, f1}
 
 -- the value at i is above 0.0
 abbrev pub positive : List Float → ℕ → Bool

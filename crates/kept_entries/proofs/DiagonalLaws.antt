@@ -18,7 +18,8 @@ use Rattle.kept_entries.specs.DiagonalIs.{DiagonalIs}
 
 module _ {c : ℕ} {rows : List ℕ} {count s e p : ℕ} (C : Column rows count s e) (F : FirstFrom c rows s e p) (test : ℕ → Bool)
     (off : (q : ℕ) → (row rows q ≡ c → ⊥) → test q ≡ false) where
-  place-none : (p < e → row rows p ≡ c → ⊥) → anyIn test s e ≡ false
+  -- without that row at the first place no place passes
+  pub place-none : (p < e → row rows p ≡ c → ⊥) → anyIn test s e ≡ false
   place-none none = anyIn-all test s e (λ q lo hi. elim (ℕ-discrete (row rows q) c) [
     | yes r ↦
         let m = firstFrom-only C F q lo hi r in
@@ -26,7 +27,8 @@ module _ {c : ℕ} {rows : List ℕ} {count s e p : ℕ} (C : Column rows count 
     | no d ↦ off q d
   ])
 
-  place-one : p < e → anyIn test s e ≡ test p
+  -- and else that place decides
+  pub place-one : p < e → anyIn test s e ≡ test p
   place-one l = go (test p) refl
     where
       go : (b : Bool) → test p ≡ b → anyIn test s e ≡ b
@@ -36,6 +38,14 @@ module _ {c : ℕ} {rows : List ℕ} {count s e p : ℕ} (C : Column rows count 
         | no d ↦ off q (λ r. d (firstFrom-only C F q lo hi r))
       ])
 
+-- the tests of a diagonal fail at other rows
+module _ (c : ℕ) (rows : List ℕ) (nz one : ℕ → Bool) where
+  pub kept-off : (q : ℕ) → (row rows q ≡ c → ⊥) → keptDiagonal rows nz c q ≡ false
+  kept-off q d = ap (λ (b : Bool). b && nz q) (ne-eqb (row rows q) c d)
+
+  pub other-off : (q : ℕ) → (row rows q ≡ c → ⊥) → otherThanOne rows nz one c q ≡ false
+  other-off q d = ap (λ (b : Bool). b && not (one q)) (kept-off q d)
+
 module _ {c : ℕ} {rows : List ℕ} {count s e p : ℕ} (C : Column rows count s e) (F : FirstFrom c rows s e p) (values : List ℤ) where
   abbrev nz : ℕ → Bool
   nz = wholeNonzero values
@@ -43,17 +53,11 @@ module _ {c : ℕ} {rows : List ℕ} {count s e p : ℕ} (C : Column rows count 
   abbrev one : ℕ → Bool
   one = wholeOne values
 
-  kept-off : (q : ℕ) → (row rows q ≡ c → ⊥) → keptDiagonal rows nz c q ≡ false
-  kept-off q d = ap (λ (b : Bool). b && nz q) (ne-eqb (row rows q) c d)
-
-  other-off : (q : ℕ) → (row rows q ≡ c → ⊥) → otherThanOne rows nz one c q ≡ false
-  other-off q d = ap (λ (b : Bool). b && not (one q)) (kept-off q d)
-
   -- without a diagonal at the first place there is none
   pub diagonal-absent : (p < e → row rows p ≡ c → ⊥) → DiagonalIs rows values c s e (pos 0)
   diagonal-absent none = record {
-    kept = place-none C F (keptDiagonal rows nz c) kept-off none;
-    other = place-none C F (otherThanOne rows nz one c) other-off none;
+    kept = place-none C F (keptDiagonal rows nz c) (kept-off c rows nz one) none;
+    other = place-none C F (otherThanOne rows nz one c) (other-off c rows nz one) none;
   }
 
   -- the entry there is it, or dropped
@@ -61,6 +65,6 @@ module _ {c : ℕ} {rows : List ℕ} {count s e p : ℕ} (C : Column rows count 
   diagonal-here l r =
       let k : keptDiagonal rows nz c p ≡ nz p = ap (λ (b : Bool). b && nz p) (eq-eqb (row rows p) c r) in
       record {
-        kept = place-one C F (keptDiagonal rows nz c) kept-off l ∙ k;
-        other = place-one C F (otherThanOne rows nz one c) other-off l ∙ ap (λ (b : Bool). b && not (one p)) k;
+        kept = place-one C F (keptDiagonal rows nz c) (kept-off c rows nz one) l ∙ k;
+        other = place-one C F (otherThanOne rows nz one c) (other-off c rows nz one) l ∙ ap (λ (b : Bool). b && not (one p)) k;
       }

@@ -10,7 +10,8 @@ ghost use lib.ListN.{length};
 ghost use Rattle.lists.specs.Test.{any, anyIn};
 ghost use Rattle.lists.specs.Select.{tally};
 ghost use Rattle.columns.specs.Factor.{Factor, Column};
-ghost use Rattle.columns.specs.Kept.{nonzero, kept, keptBelow, factorPairs};
+ghost use Rattle.columns.specs.Kept.{nonzero, kept, keptBelow, factorPairs, pattern};
+ghost use Rattle.columns.specs.Form.{formOf, patternPairs, keptPairs};
 ghost use Rattle.kept_entries.specs.Above.{aboveDiagonal, hasAbove};
 ghost use Rattle.columns.specs.WholeFactor.{wholeNonzero};
 ghost use Rattle.kept_entries.specs.KeptBy.{ValuesLent, keptAt};
@@ -122,4 +123,45 @@ pub fn whole_factor_pairs(n: usize, starts: &[u32], rows: &[u32], values: &[i64]
 {
     let floats: [f64; 1] = [0.0; 1];
     factor_pairs_by(n, starts, rows, &floats[0..0], values)
+}
+
+// How many pairs the pattern has: in each column its diagonal, kept or not, and the entries kept below it.
+fn pattern_pairs(n: usize, starts: &[u32], rows: &[u32], values: &[f64]) -> usize
+    requires { ⌜ Factor n (now starts) (now rows) (length (now values)) ⌝ }
+    ensures { λ r. ⌜ r ≡ patternPairs n (pattern (now (starts .entry)) (now (rows .entry)) (nonzero (now (values .entry)))) ⌝ }
+{
+    let wholes: [i64; 1] = [0; 1];
+    let mut count = 0;
+    let mut c = 0;
+    while c < n {
+        let below = kept_between(
+            c + 1,
+            rows,
+            values,
+            &wholes[0..0],
+            at(starts, c),
+            at(starts, c + 1),
+        );
+        count += 1 + below;
+        c += 1;
+    }
+    count
+}
+
+// How many pairs of a factor of floats count as kept: its kept entries, or with pivots the pattern's pairs.
+pub fn kept_pairs(
+    n: usize,
+    starts: &[u32],
+    rows: &[u32],
+    values: &[f64],
+    with_pivots: bool,
+    pivots: &[f64],
+) -> usize
+    requires { ⌜ Factor n (now starts) (now rows) (length (now values)) ⌝ }
+    ensures { λ r. ⌜ r ≡ keptPairs n (now (starts .entry)) (now (rows .entry)) (now (values .entry)) (formOf «with_pivots» (now (pivots .entry))) ⌝ }
+{
+    if with_pivots {
+        return pattern_pairs(n, starts, rows, values);
+    }
+    factor_pairs(n, starts, rows, values)
 }

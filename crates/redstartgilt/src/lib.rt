@@ -4,6 +4,7 @@ pub mod chains;
 pub mod factors;
 pub mod files;
 pub mod floors;
+pub mod ldl;
 pub mod patterns;
 pub mod permutations;
 pub mod results;

@@ -4,4 +4,5 @@ pub mod Diagnosis
 pub mod Selection
 pub mod Status
 pub mod Call
+pub mod LdlCall
 pub mod SamePositions

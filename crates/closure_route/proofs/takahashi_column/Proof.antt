@@ -1,21 +1,21 @@
 use mathlib.Core.Path.{_≡_, refl, _∙_}
 use denote.Ref.{now}
 use borrow.Author.Needs.{needs}
-use Rattle.columns.specs.Kept.{diag}
-use Rattle.exact.specs.Exact.{float-off, float-on}
-use Rattle.entries.specs.Descendants.{float-solves}
+use Rattle.columns.specs.Form.{formOf, divisor}
+use Rattle.exact.specs.PivotCase.{stepBelow, stepOn}
+use Rattle.entries.specs.Descendants.{told-solves}
 use Rattle.closure_route.specs.Route.{RouteLists, routeLists}
 use Rattle.closure_route.proofs.LastStepLaws.{Ends, ends-read, sums-at, part-at, diagonal-at, solved-empty, solved-at}
 use Rattle.closure_route.proofs.takahashi_column.Statement.{statement}
 use Rattle.closure_route.proofs.takahashi_column.Tie as tie
 
 abbrev begin : tie.After-at2 → tie.Start
-begin f = f .before .before .before .before .before .before .before .before .before
+begin f = f .before .before .before .before .before .before .before .before .before .before
 
-abbrev bounds : tie.After-diagonal → tie.After-at2
+abbrev bounds : tie.After-column-divisor → tie.After-at2
 bounds d = d .before .before .before .before
 
-abbrev start : tie.After-diagonal → tie.Start
+abbrev start : tie.After-column-divisor → tie.Start
 start d = begin (bounds d)
 
 -- the lists
@@ -25,7 +25,7 @@ lists s =
     routeLists (a .n) (now (a .starts)) (now (a .rows)) (now (a .values)) (now (a .result-starts)) (now (a .result-rows)) (now (a .scratch))
 
 -- where the column starts and ends
-ends : (d : tie.After-diagonal) →
+ends : (d : tie.After-column-divisor) →
     let s = start d in
     Ends (lists s) (s .args .j) (bounds d .before .at .result) (bounds d .at2 .result) (d .before .before .at3 .result) (d .before .at4 .result)
 ends d =
@@ -34,7 +34,7 @@ ends d =
     ends-read (p .route) (p .inside) (f .before .at .ensures) (f .at2 .ensures) (d .before .before .at3 .ensures) (d .before .at4 .ensures)
 
 -- the column has entries
-some : (d : tie.After-diagonal) → bounds d .before .at .result ≡ bounds d .at2 .result → ⊥
+some : (d : tie.After-column-divisor) → bounds d .before .at .result ≡ bounds d .at2 .result → ⊥
 some d = d .before .before .before .if1 .left
 
 at-requires : tie.Need-at-requires
@@ -63,14 +63,14 @@ add-at-2 c = search needs
 at-requires-4 : tie.Need-at-requires-4
 at-requires-4 c κs = search needs
 
-diagonal-requires : tie.Need-diagonal-requires
-diagonal-requires c κs = search needs
+column-divisor-requires : tie.Need-column-divisor-requires
+column-divisor-requires c κs = search needs
 
 store-sums-requires : tie.Need-store-sums-requires
 store-sums-requires c κs = let d = c .before in let p = start d .pre .0 in sums-at (p .route) (p .inside) (ends d)
 
-divide-part-requires : tie.Need-divide-part-requires
-divide-part-requires c κs =
+finish-part-requires : tie.Need-finish-part-requires
+finish-part-requires c κs =
     let v = c .before .before .before in
     let d = v .before .before in
     let p = start d .pre .0 in
@@ -82,7 +82,7 @@ store-diagonal-requires c κs =
     let v = w .before .before .before .before in
     let d = v .before .before in
     let p = start d .pre .0 in
-    diagonal-at (p .route) (p .inside) (ends d) (some d) _ (w .divide-part .ensures .long ∙ v .store-sums .ensures .long)
+    diagonal-at (p .route) (p .inside) (ends d) (some d) _ (w .finish-part .ensures .long ∙ v .store-sums .ensures .long)
 
 same-length : tie.Need-same-length
 same-length c = search needs
@@ -95,9 +95,10 @@ returns-2 c =
     let d = v .before .before in
     let p = start d .pre .0 in
     let a = start d .args in
-    solved-at (p .route) (p .inside) (ends d) float-off float-on (diag (now (a .starts)) (now (a .rows)) (now (a .values)))
-    (float-solves (now (a .values)) (p .route .factor)) (some d) (d .diagonal .ensures) refl (p .later)
-    (v .store-sums .ensures) (w .divide-part .ensures) (x .store-diagonal .ensures)
+    solved-at (p .route) (p .inside) (ends d) (stepBelow (a .with-pivots)) (stepOn (a .with-pivots))
+    (divisor (a .n) (now (a .starts)) (now (a .rows)) (now (a .values)) (formOf (a .with-pivots) (now (a .pivots))))
+    (told-solves (a .with-pivots) (now (a .values)) (now (a .pivots)) (p .route .factor)) (some d) (d .column-divisor .ensures) refl (p .later)
+    (v .store-sums .ensures) (w .finish-part .ensures) (x .store-diagonal .ensures)
 
 pub takahashi-column-spec : {M : Type 1} → statement M
 takahashi-column-spec =
@@ -110,9 +111,9 @@ takahashi-column-spec =
     at-requires-3
     add-at-2
     at-requires-4
-    diagonal-requires
+    column-divisor-requires
     store-sums-requires
-    divide-part-requires
+    finish-part-requires
     store-diagonal-requires
     same-length
     returns-2)

@@ -7,30 +7,31 @@ use lib.ListN.{length}
 use denote.Ref.{now}
 use borrow.Author.Needs.{needs}
 use Rattle.pairs.specs.ColumnOrder.{columnMarking}
-use Rattle.entries.specs.Entries.{floatTable}
+use Rattle.columns.specs.Form.{formOf}
+use Rattle.entries.specs.Entries.{formTable}
 use Rattle.closure_route.specs.Route.{ColumnsSolved}
 use Rattle.closure_route.proofs.RouteLaws.{solved-none, solved-next, solved-all, column-next}
 use Rattle.closure_route.proofs.takahashi_selected_inverse_on_closure.Statement.{statement}
 use Rattle.closure_route.proofs.takahashi_selected_inverse_on_closure.Tie as tie
 
 abbrev Inv-loop : tie.InvT-loop
-Inv-loop n starts rows values result-starts result-rows entry-values₀ scratch j₀ result-values j =
+Inv-loop n starts rows values with-pivots pivots result-starts result-rows entry-values₀ scratch j₀ result-values j =
     (length result-values ≡ length entry-values₀)
     × (j ≤ n)
-    × ColumnsSolved n (columnMarking n scratch) (floatTable n starts rows values) j entry-values₀ result-values
+    × ColumnsSolved n (columnMarking n scratch) (formTable (formOf with-pivots pivots) n starts rows values) j entry-values₀ result-values
 
 abbrev μ-loop : tie.MeasureT-loop
-μ-loop n starts rows values result-starts result-rows entry-values₀ scratch j₀ result-values j = j
+μ-loop n starts rows values with-pivots pivots result-starts result-rows entry-values₀ scratch j₀ result-values j = j
 
 abbrev start : tie.At-loop Inv-loop μ-loop → tie.Start Inv-loop μ-loop
-start q = q .before .before .before .before .before .before .before .before
+start q = q .before .before .before .before .before .before .before .before .before
 
 -- the set, and the table
 abbrev set-of : tie.Start Inv-loop μ-loop → ℕ → ℕ → Bool
 set-of s = columnMarking (s .args .n) (now (s .args .scratch))
 
 abbrev table-of : tie.Start Inv-loop μ-loop → ℕ → ℕ → Float
-table-of s = floatTable (s .args .n) (now (s .args .starts)) (now (s .args .rows)) (now (s .args .values))
+table-of s = formTable (formOf (s .args .with-pivots) (now (s .args .pivots))) (s .args .n) (now (s .args .starts)) (now (s .args .rows)) (now (s .args .values))
 
 loop-holds : tie.Need-loop-holds Inv-loop μ-loop
 loop-holds c = (refl, omega arith, solved-none _)

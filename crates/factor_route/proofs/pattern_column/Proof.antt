@@ -1,5 +1,7 @@
 use Rattle.factor_route.proofs.RouteLaws.{route-starts, route-stored, route-first, route-walk, route-marked, route-step, route-unmark, route-column}
 use borrow.Author.Needs.{needs}
+use Rattle.exact.specs.PivotCase.{stepBelow, stepOn}
+use Rattle.entries.specs.Descendants.{told-table}
 use native.Mathlib.Omega.{arith}
 use Prim.Native.Nat.{_≤_, _-_, _+_}
 use mathlib.Core.Path.{refl}
@@ -9,44 +11,44 @@ use Rattle.factor_route.proofs.pattern_column.Tie as tie
 
 at-requires : tie.Need-at-requires
 at-requires c κs =
-    let z = c .before .before .before .before .before .before in
+    let z = c .before .before .before .before .before .before .before in
     let h = route-starts (z .pre .0 .0) (z .args .j) (z .pre .0 .1) .1 in omega arith
 
 add-at : tie.Need-add-at
 add-at c =
-    let z = c .before .before .before .before .before .before .before in
+    let z = c .before .before .before .before .before .before .before .before in
     let h = route-starts (z .pre .0 .0) (z .args .j) (z .pre .0 .1) .1 in omega arith
 
 at-requires-2 : tie.Need-at-requires-2
 at-requires-2 c κs =
-    let z = c .before .before .before .before .before .before .before in
+    let z = c .before .before .before .before .before .before .before .before in
     route-starts (z .pre .0 .0) (z .args .j) (z .pre .0 .1) .1
 
 at-requires-3 : tie.Need-at-requires-3
 at-requires-3 c κs =
-    let z = c .before .before .before .before .before .before .before .before in
+    let z = c .before .before .before .before .before .before .before .before .before in
     let h = route-starts (z .pre .0 .0) (z .args .j) (z .pre .0 .1) .0 in omega arith
 
 add-at-2 : tie.Need-add-at-2
 add-at-2 c =
-    let z = c .before .before .before .before .before .before .before .before .before in
+    let z = c .before .before .before .before .before .before .before .before .before .before in
     let h = route-starts (z .pre .0 .0) (z .args .j) (z .pre .0 .1) .0 in omega arith
 
 at-requires-4 : tie.Need-at-requires-4
 at-requires-4 c κs =
-    let z = c .before .before .before .before .before .before .before .before .before in
+    let z = c .before .before .before .before .before .before .before .before .before .before in
     route-starts (z .pre .0 .0) (z .args .j) (z .pre .0 .1) .0
 
 mark-column-requires : tie.Need-mark-column-requires
 mark-column-requires c κs =
-    let z = c .before .before .before .before .before .before .before .before .before .before .before .before .before in
+    let z = c .before .before .before .before .before .before .before .before .before .before .before .before .before .before in
     let s = c .before .before .before .before .at3 in
     let t = c .before .before .before .at4 in
     route-stored (z .pre .0 .0) (z .args .j) (z .pre .0 .1) (s .result) (t .result) (s .ensures) (t .ensures)
 
 add-b : tie.Need-add-b
 add-b c =
-    let z = c .before .before .before .before .before .before .before .before .before .before .before .before .before .before in
+    let z = c .before .before .before .before .before .before .before .before .before .before .before .before .before .before .before in
     let a = c .before .before .before .before .before .before .before .at in
     let s = c .before .before .before .before .before .at3 in
     let t = c .before .before .before .before .at4 in
@@ -58,7 +60,7 @@ add-b c =
 
 scatter-columns-requires : tie.Need-scatter-columns-requires
 scatter-columns-requires c κs =
-    let z = c .before .before .before .before .before .before .before .before .before .before .before .before .before .before .before .before .before .before in
+    let z = c .before .before .before .before .before .before .before .before .before .before .before .before .before .before .before .before .before .before .before in
     let a = c .before .before .before .before .before .before .before .before .before .before .before .at in
     let s = c .before .before .before .before .before .before .before .before .before .at3 in
     let t = c .before .before .before .before .before .before .before .before .at4 in
@@ -72,14 +74,14 @@ scatter-columns-requires c κs =
           (m .ensures .count) (z .args .marker .now) (z .args .weights .now) (z .args .sums .now) _ _ _ (z .pre .1 .0) (m .ensures),
     )
 
-diagonal-requires : tie.Need-diagonal-requires
-diagonal-requires c κs =
-    let z = c .before .before .before .before .before .before .before .before .before .before .before .before .before .before .before .before .before .before .before in
-    (z .pre .0 .0 .factor, z .pre .0 .0 .diagonals, z .pre .0 .1)
+column-divisor-requires : tie.Need-column-divisor-requires
+column-divisor-requires c κs =
+    let z = c .before .before .before .before .before .before .before .before .before .before .before .before .before .before .before .before .before .before .before .before in
+    (z .pre .0 .0 .factor, z .pre .0 .0 .divisors, z .pre .0 .1)
 
 write-column-requires : tie.Need-write-column-requires
 write-column-requires c κs =
-    let z = c .before .before .before .before .before .before .before .before .before .before .before .before .before .before .before .before .before .before .before .before .before .before .before in
+    let z = c .before .before .before .before .before .before .before .before .before .before .before .before .before .before .before .before .before .before .before .before .before .before .before .before in
     let a = c .before .before .before .before .before .before .before .before .before .before .before .before .before .before .before .before .at in
     let e = c .before .before .before .before .before .before .before .before .before .before .before .before .before .before .before .at2 in
     let s = c .before .before .before .before .before .before .before .before .before .before .before .before .before .before .at3 in
@@ -91,7 +93,7 @@ write-column-requires c κs =
 
 unmark-column-requires : tie.Need-unmark-column-requires
 unmark-column-requires c κs =
-    let z = c .before .before .before .before .before .before .before .before .before .before .before .before .before .before .before .before .before .before .before .before .before .before .before .before .before .before .before in
+    let z = c .before .before .before .before .before .before .before .before .before .before .before .before .before .before .before .before .before .before .before .before .before .before .before .before .before .before .before .before in
     let a = c .before .before .before .before .before .before .before .before .before .before .before .before .before .before .before .before .before .before .before .before .at in
     let s = c .before .before .before .before .before .before .before .before .before .before .before .before .before .before .before .before .before .before .at3 in
     let t = c .before .before .before .before .before .before .before .before .before .before .before .before .before .before .before .before .before .at4 in
@@ -104,17 +106,18 @@ same-length c = search needs
 
 returns : tie.Need-returns
 returns c =
-    let z = c .before .before .before .before .before .before .before .before .before .before .before .before .before .before .before .before .before .before .before .before .before .before .before .before .before .before .before .before in
+    let z = c .before .before .before .before .before .before .before .before .before .before .before .before .before .before .before .before .before .before .before .before .before .before .before .before .before .before .before .before .before in
     let a = c .before .before .before .before .before .before .before .before .before .before .before .before .before .before .before .before .before .before .before .before .before .at in
     let e = c .before .before .before .before .before .before .before .before .before .before .before .before .before .before .before .before .before .before .before .before .at2 in
     let s = c .before .before .before .before .before .before .before .before .before .before .before .before .before .before .before .before .before .before .before .at3 in
     let t = c .before .before .before .before .before .before .before .before .before .before .before .before .before .before .before .before .before .before .at4 in
     let m = c .before .before .before .before .before .before .before .before .before .before .before .before .before .before .mark-column in
     let x = c .before .before .before .before .before .before .before .before .before .scatter-columns in
-    let d = c .before .before .before .before .before .before .before .before .diagonal in
+    let d = c .before .before .before .before .before .before .before .before .column-divisor in
     let w = c .before .before .before .before .write-column in
     route-column (z .pre .0 .0) (z .args .j) (z .pre .0 .1) (a .result) (s .result) (t .result) (m .result) (a .ensures) (s .ensures) (t .ensures)
-    (m .ensures .count)
+    (m .ensures .count) (stepBelow (z .args .with-pivots)) (stepOn (z .args .with-pivots))
+    (told-table (z .args .with-pivots) (z .args .n) (z .args .starts .now) (z .args .rows .now) (z .args .values .now) (z .args .pivots .now))
     (e .result) (d .result) (z .args .result-values .now) _ (z .args .marker .now) (z .args .weights .now) (z .args .sums .now) _ _ _ _ _
     (e .ensures) (z .pre .1 .0) refl (z .pre .1 .1) (m .ensures) (x .ensures) (d .ensures) (w .ensures) (c .unmark-column .ensures)
 
@@ -131,7 +134,7 @@ pattern-column-spec =
     mark-column-requires
     add-b
     scatter-columns-requires
-    diagonal-requires
+    column-divisor-requires
     write-column-requires
     unmark-column-requires
     same-length

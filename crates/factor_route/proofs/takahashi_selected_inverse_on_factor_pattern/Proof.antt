@@ -1,3 +1,4 @@
+use Rattle.columns.specs.Form.{formOf}
 use Rattle.factor_route.specs.Route.{WorkRows}
 use Rattle.factor_route.proofs.RouteLaws.{Done, route-none, route-turn, route-next, route-end, route-input}
 use Rattle.scatter.specs.Marks.{empties-is}
@@ -11,15 +12,15 @@ use Rattle.factor_route.proofs.takahashi_selected_inverse_on_factor_pat
 use Rattle.factor_route.proofs.takahashi_selected_inverse_on_factor_pattern.Tie as tie
 
 abbrev Inv-loop : tie.InvT-loop
-Inv-loop n starts rows values result-starts result-rows entry-values₀ marker₀ weights₀ sums₀ j₀ result-values marker weights sums j =
-    (j ≤ n) × WorkRows marker weights sums × Done n starts rows values result-starts result-rows entry-values₀ j result-values
+Inv-loop n starts rows values with-pivots pivots result-starts result-rows entry-values₀ marker₀ weights₀ sums₀ j₀ result-values marker weights sums j =
+    (j ≤ n) × WorkRows marker weights sums × Done (formOf with-pivots pivots) n starts rows values result-starts result-rows entry-values₀ j result-values
 
 abbrev μ-loop : tie.MeasureT-loop
-μ-loop n starts rows values result-starts result-rows entry-values₀ marker₀ weights₀ sums₀ j₀ result-values marker weights sums j = j
+μ-loop n starts rows values with-pivots pivots result-starts result-rows entry-values₀ marker₀ weights₀ sums₀ j₀ result-values marker weights sums j = j
 
 loop-holds : tie.Need-loop-holds Inv-loop μ-loop
 loop-holds c =
-    let z = c .before .before .before .before .before .before in
+    let z = c .before .before .before .before .before .before .before in
     (search needs, record { marker-is = empties-is; weights-long = refl; sums-long = refl }, route-none (z .pre) (z .args .result-values .now) refl)
 
 sub-j : tie.Need-sub-j Inv-loop μ-loop
@@ -27,7 +28,7 @@ sub-j c = search needs
 
 pattern-column-requires : tie.Need-pattern-column-requires Inv-loop μ-loop
 pattern-column-requires c κs =
-    let z = c .before .before .before .before .before .before .before .before .before .before .before .before in
+    let z = c .before .before .before .before .before .before .before .before .before .before .before .before .before in
     let i = c .before .before .before .before .before .loop in
     let F = route-turn (z .pre) (z .args .result-values .now) refl (i .j) (i .result-values) (omega arith) (i .inv .2) in
     ((route-input (z .pre) _ (F .long), omega arith), (i .inv .1, F .known))
@@ -37,7 +38,7 @@ loop-less c = search needs
 
 loop-again : tie.Need-loop-again Inv-loop μ-loop
 loop-again c =
-    let z = c .before .before .before .before .before .before .before .before .before .before .before .before .before .before .before in
+    let z = c .before .before .before .before .before .before .before .before .before .before .before .before .before .before .before .before in
     let i = c .before .before .before .before .before .before .before .before .loop in
     let d = c .before .before .pattern-column .ensures in
     let F = route-turn (z .pre) (z .args .result-values .now) refl (i .j) (i .result-values) (omega arith) (i .inv .2) in
@@ -48,7 +49,7 @@ same-length c = c .before .loop .inv .2 .long
 
 returns : tie.Need-returns Inv-loop μ-loop
 returns c =
-    let z = c .before .before .before .before .before .before .before .before in
+    let z = c .before .before .before .before .before .before .before .before .before in
     let i = c .before .loop in
     route-end (z .pre) (z .args .result-values .now) refl (i .j) (i .result-values) (omega arith) (i .inv .2)
 

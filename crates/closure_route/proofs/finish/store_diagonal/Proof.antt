@@ -7,7 +7,7 @@ use denote.Ref.{now}
 use borrow.Author.Needs.{needs}
 use borrow.Author.Tests.{eq-eqb, ne-eqb}
 use Rattle.columns.specs.Columns.{row}
-use Rattle.exact.specs.Exact.{float-on}
+use Rattle.exact.specs.PivotCase.{stepOn}
 use Rattle.closure_route.specs.Column.{sumTerms}
 use Rattle.closure_route.specs.Sums.{entrySum}
 use Rattle.closure_route.specs.Finish.{putIf}
@@ -25,7 +25,7 @@ own c = omega (arith, c .before .at .ensures, c .if1 .left)
 abbrev entry-of : tie.Start → Float
 entry-of s =
     let a = s .args in
-    float-on (a .d) (entrySum (sumTerms (a .n) (a .j) (a .s) (a .e) (now (a .rows)) (now (a .values)) (now (a .scratch))) (now (a .result-values)) (a .j))
+    stepOn (a .with-pivots) (a .d) (entrySum (sumTerms (a .n) (a .j) (a .s) (a .e) (now (a .rows)) (now (a .values)) (now (a .scratch))) (now (a .result-values)) (a .j))
 
 at-requires : tie.Need-at-requires
 at-requires c κs = search needs
@@ -58,7 +58,7 @@ returns-2 c =
     let t = f .before .before in
     let s = start (t .before) in
     let a = s .args in
-    ap (set (now (a .result-values)) (a .q)) (c .entry-on-diagonal .ensures ∙ ap (float-on (a .d)) (f .entry-sum .ensures))
+    ap (set (now (a .result-values)) (a .q)) (c .entry-on-diagonal .ensures ∙ ap (stepOn (a .with-pivots) (a .d)) (f .entry-sum .ensures))
     ∙ ap (λ (b : Bool). putIf b (now (a .result-values)) (a .q) (entry-of s)) (sym (eq-eqb (row (now (a .result-rows)) (a .q)) (a .j) (own t)))
 
 pub store-diagonal-spec : {M : Type 1} → statement M

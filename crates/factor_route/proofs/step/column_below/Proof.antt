@@ -1,7 +1,8 @@
 use lib.Ieee.{binary64, ofBits, nan}
 use Rattle.scatter.specs.Scatter.{steps, steps-none, steps-next, stepSum, stepSum-none, stepSum-next}
 use Rattle.exact.specs.Multiple.{zero-float}
-use Rattle.exact.specs.Exact.{floats, float-off, float-on}
+use Rattle.exact.specs.Exact.{floats}
+use Rattle.exact.specs.PivotCase.{stepBelow, stepOn}
 use lib.ListN.{length-set, length}
 use borrow.Author.Needs.{needs}
 use native.Mathlib.Omega.{arith}
@@ -16,15 +17,15 @@ unfolding ofBits
 zero-bits = refl
 
 abbrev Inv-loop : tie.InvT-loop
-Inv-loop part₀ weights sums d m sum₀ p₀ part sum p =
-    (p ≤ m) × (length part ≡ length part₀) × (sum ≡ stepSum floats float-off float-on nan d weights sums p)
-    × (part ≡ steps floats float-off float-on nan d sums part₀ p)
+Inv-loop part₀ weights sums with-pivots d m sum₀ p₀ part sum p =
+    (p ≤ m) × (length part ≡ length part₀) × (sum ≡ stepSum floats (stepBelow with-pivots) (stepOn with-pivots) nan d weights sums p)
+    × (part ≡ steps floats (stepBelow with-pivots) (stepOn with-pivots) nan d sums part₀ p)
 
 abbrev μ-loop : tie.MeasureT-loop
-μ-loop part₀ weights sums d m sum₀ p₀ part sum p = m - p
+μ-loop part₀ weights sums with-pivots d m sum₀ p₀ part sum p = m - p
 
 loop-holds : tie.Need-loop-holds Inv-loop μ-loop
-loop-holds c = (search needs, refl, zero-bits ∙ stepSum-none floats float-off float-on nan _ _ _, steps-none floats float-off float-on nan _ _ _)
+loop-holds c = (search needs, refl, zero-bits ∙ stepSum-none floats _ _ nan _ _ _, steps-none floats _ _ nan _ _ _)
 
 mul-entry-below : tie.Need-mul-entry-below Inv-loop μ-loop
 mul-entry-below c = search needs
@@ -61,8 +62,8 @@ loop-again c =
     let i = c .before .before .before .before .loop in (
       omega arith,
       simp length-set (i .inv .1),
-      rw (stepSum-next floats float-off float-on nan, ← i .inv .2, c .before .entry-below .ensures),
-      rw (steps-next floats float-off float-on nan, ← i .inv .3, c .before .entry-below .ensures),
+      rw (stepSum-next floats _ _ nan, ← i .inv .2, c .before .entry-below .ensures),
+      rw (steps-next floats _ _ nan, ← i .inv .3, c .before .entry-below .ensures),
     )
 
 same-length : tie.Need-same-length Inv-loop μ-loop
@@ -71,8 +72,8 @@ same-length c = search needs
 returns : tie.Need-returns Inv-loop μ-loop
 returns c =
     let e : c .before .loop .p ≡ c .before .before .before .args .m = omega arith in (
-      c .before .loop .inv .2 ∙ ap (stepSum floats float-off float-on nan _ _ _) e,
-      c .before .loop .inv .3 ∙ ap (steps floats float-off float-on nan _ _ _) e,
+      c .before .loop .inv .2 ∙ ap (stepSum floats _ _ nan _ _ _) e,
+      c .before .loop .inv .3 ∙ ap (steps floats _ _ nan _ _ _) e,
     )
 
 pub column-below-spec : {M : Type 1} → statement M

@@ -1,6 +1,7 @@
 use Rattle.scatter.specs.Values.{splice-lent}
 use Rattle.scatter.specs.Column.{stepped-length}
-use Rattle.exact.specs.Exact.{floats, float-off, float-on}
+use Rattle.exact.specs.Exact.{floats}
+use Rattle.exact.specs.PivotCase.{stepBelow, stepOn}
 use lib.Ieee.{nan}
 use lib.Seq.{length-take-le}
 use lib.ListN.{take, drop, length-drop, length}
@@ -37,7 +38,7 @@ returns c =
     let v = z .args .values .now in
     let wide : length (take k (drop a v)) ≡ k = length-take-le k (drop a v) (omega (arith, length-drop a v)) in
     rw (c .before .before .column-step .ensures)
-    (splice-lent a k _ v (stepped-length floats float-off float-on nan _ _ _ (take k (drop a v)) _ ∙ wide))
+    (splice-lent a k _ v (stepped-length floats (stepBelow (z .args .with-pivots)) (stepOn (z .args .with-pivots)) nan _ _ _ (take k (drop a v)) _ ∙ wide))
 
 pub write-column-spec : {M : Type 1} → statement M
 write-column-spec =

@@ -39,18 +39,17 @@ at-requires-2 c κs =
     let z = c .before .before .before .before .before .before .before .before in
     choice-starts (z .pre) (c .before .before .loop .c) (omega arith)
 
-unmarked-column-requires : tie.Need-unmarked-column-requires Inv-loop μ-loop
-unmarked-column-requires c κs =
+unmarked-pattern-requires : tie.Need-unmarked-pattern-requires Inv-loop μ-loop
+unmarked-pattern-requires c κs =
     let z = c .before .before .before .before .before .before .before .before .before in
-    choice-column (z .pre) (c .before .before .before .loop .c) (c .before .at .result) (c .at2 .result) (omega arith) (c .before .at .ensures)
-    (c .at2 .ensures)
+    (choice-column (z .pre) (c .before .before .before .loop .c) (c .before .at .result) (c .at2 .result) (omega arith) (c .before .at .ensures) (c .at2 .ensures), omega arith)
 
 -- what the call says of the column
-column : (c : tie.After-unmarked-column Inv-loop μ-loop) →
+column : (c : tie.After-unmarked-pattern Inv-loop μ-loop) →
     let z = c .before .before .before .before .before .before .before .before .before .before .args in
-    c .unmarked-column .result ≡ unmarkedColumn (z .n) (z .scratch .now) (z .starts .now) (z .rows .now) (z .values .now)
+    c .unmarked-pattern .result ≡ unmarkedColumn (z .n) (z .scratch .now) (z .starts .now) (z .rows .now) (z .values .now)
     (c .before .before .before .before .loop .c)
-column c = rw (← c .before .before .at .ensures, ← c .before .at2 .ensures) (c .unmarked-column .ensures)
+column c = rw (← c .before .before .at .ensures, ← c .before .at2 .ensures) (c .unmarked-pattern .ensures)
 
 returns-2 : tie.Need-returns-2 Inv-loop μ-loop
 returns-2 c =
@@ -93,7 +92,7 @@ closure-is-cholesky-factor-pattern-spec =
     at-requires
     add-at
     at-requires-2
-    unmarked-column-requires
+    unmarked-pattern-requires
     returns-2
     add-c
     loop-less

@@ -3,23 +3,24 @@ use mathlib.Core.Bool.{true}
 use denote.Ref.{now}
 use borrow.Author.Needs.{needs}
 use Rattle.pairs.specs.ColumnOrder.{columnMarking}
-use Rattle.columns.specs.Kept.{nonzero, keptPair}
+use Rattle.columns.specs.Kept.{nonzero}
+use Rattle.columns.specs.Form.{patternPair}
 use Rattle.fill.specs.Agree.{samePairs}
 use Rattle.fill.proofs.ChoiceLaws.{choice-input, pattern-input, pattern-values}
 use Rattle.fill.proofs.routes.takahashi_selected_inverse.Statement.{statement}
 use Rattle.fill.proofs.routes.takahashi_selected_inverse.Tie as tie
 
 abbrev begin : tie.After-closure-is-cholesky-factor-pattern → tie.Start
-begin d = d .before .before .before .before .before .before .before .before
+begin d = d .before .before .before .before .before .before .before .before .before
 
--- the test says that the marked set is the kept pattern
+-- the test says that the marked set is the pattern
 agrees : (t : tie.Then1) → let a = begin (t .before) .args in
-    samePairs (a .n) (columnMarking (a .n) (now (a .scratch))) (keptPair (now (a .starts)) (now (a .rows)) (nonzero (now (a .values)))) ≡ true
+    samePairs (a .n) (columnMarking (a .n) (now (a .scratch))) (patternPair (now (a .starts)) (now (a .rows)) (nonzero (now (a .values)))) ≡ true
 agrees t = sym (t .before .closure-is-cholesky-factor-pattern .ensures) ∙ t .if1 .taken
 
 -- src/lib.rt:30:8
 closure-is-cholesky-factor-pattern-requires : tie.Need-closure-is-cholesky-factor-pattern-requires
-closure-is-cholesky-factor-pattern-requires c κs = choice-input (c .before .before .before .before .before .before .before .pre)
+closure-is-cholesky-factor-pattern-requires c κs = choice-input (c .before .before .before .before .before .before .before .before .pre)
 
 -- src/lib.rt:39:9
 takahashi-selected-inverse-on-factor-pattern-requires :
@@ -42,7 +43,7 @@ returns c =
 -- src/lib.rt:50:5
 takahashi-selected-inverse-on-closure-requires :
     tie.Need-takahashi-selected-inverse-on-closure-requires
-takahashi-selected-inverse-on-closure-requires c κs = let p = begin (c .before .before) .pre in (p .route, p .diagonals)
+takahashi-selected-inverse-on-closure-requires c κs = let p = begin (c .before .before) .pre in (p .route, p .divisors)
 
 -- src/lib.rt:13:1
 same-length-2 : tie.Need-same-length-2

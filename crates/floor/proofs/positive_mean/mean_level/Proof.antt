@@ -1,4 +1,5 @@
-use Rattle.floor.specs.PositiveMean.{f1, magnitude, larger}
+use Rattle.columns.specs.Kept.{f1}
+use Rattle.floor.specs.PositiveMean.{magnitude, larger}
 use lib.Ieee.{Float}
 use borrow.Author.Needs.{needs}
 use Prim.Native.Nat.{_-_}

@@ -8,29 +8,33 @@ use mathlib.Core.Path.{_≡_, refl}
 use denote.Ref.{now}
 use mathlib.Core.Bool.{Bool}
 use mathlib.Core.List.{[]}
-use Rattle.columns.specs.Form.{cholesky}
-use Rattle.selection.specs.Selection.{Selection, selection, Lent, lists, roomOf, Accepted, selectedAnswer}
+use Rattle.columns.specs.Form.{Form, formOf}
+use Rattle.selection.specs.Selection.{Selection, selecting, Lent, lists, roomOf, Accepted, selectedAnswer}
 use Rattle.closure.specs.Closure.{Requested, markedSet, marked-requested, closure-rows, diagnoses-floats}
 use Rattle.closure.specs.Covered.{unlisted}
 use Rattle.fill.proofs.Fill.{fill-layout, fill-listed, fill-route, fill-long, fill-positions, fill-done, large-positions, large-done, kept-small, kept-answer}
-use Rattle.fill.proofs.fill_lists.Statement.{statement}
-use Rattle.fill.proofs.fill_lists.Tie as tie
+use Rattle.fill.proofs.forms.fill_form_lists.Statement.{statement}
+use Rattle.fill.proofs.forms.fill_form_lists.Tie as tie
+
+-- how the factor is given
+abbrev form : tie.Start → Form
+form s = formOf (s .args .with-pivots) (now (s .args .pivots))
 
 -- the selection of the marked pairs, or of another set that they are, and the lists lent
 abbrev handed : tie.Start → Selection
 handed s =
     let a = s .args in
-    selection (factorLists (a .n) (now (a .starts)) (now (a .rows)) (now (a .values))) (markedSet (a .n) (now (a .scratch))) (a .limit)
+    selecting (form s) (factorLists (a .n) (now (a .starts)) (now (a .rows)) (now (a .values))) (markedSet (a .n) (now (a .scratch))) (a .limit)
 
 abbrev asked : tie.Start → (ℕ → ℕ → Bool) → Selection
-asked s req = let a = s .args in selection (factorLists (a .n) (now (a .starts)) (now (a .rows)) (now (a .values))) req (a .limit)
+asked s req = let a = s .args in selecting (form s) (factorLists (a .n) (now (a .starts)) (now (a .rows)) (now (a .values))) req (a .limit)
 
 abbrev lent : tie.Start → Lent
 lent s = let a = s .args in lists (now (a .result-starts)) (now (a .result-rows)) (now (a .result-values)) (now (a .scratch))
 
 -- where the call starts
 abbrev begin : tie.After-diagnose → tie.Start
-begin d = d .before .before .before .before .before .before .before .before .before .before .before .before .before
+begin d = d .before .before .before .before .before .before .before .before .before .before .before .before .before .before
 
 -- the marked pairs are a set
 set : (d : tie.After-diagnose) → let a = begin d .args in Requested (a .n) (markedSet (a .n) (now (a .scratch))) (now (a .scratch))
@@ -58,11 +62,11 @@ told-answer : (d : tie.After-diagnose) (req : ℕ → ℕ → Bool) → Requeste
     → d .diagnose .result ≡ selectedAnswer (asked (begin d) req)
 told-answer d req R =
     let a = begin d .args in
-    kept-answer cholesky (a .n) (now (a .starts)) (now (a .rows)) (now (a .values)) (begin d .pre .accepted .factor) req (a .limit) (d .before .before .before .before .before .factor-pairs .ensures)
+    kept-answer (form (begin d)) (a .n) (now (a .starts)) (now (a .rows)) (now (a .values)) (begin d .pre .accepted .factor) req (a .limit) (d .before .before .before .before .before .kept-pairs .ensures)
     (diagnoses-floats (now (a .values)) [] (begin d .pre .accepted .factor) refl (d .diagnose .ensures) .answers req R)
 
-factor-pairs-requires : tie.Need-factor-pairs-requires
-factor-pairs-requires c κs = c .before .before .before .before .before .before .before .pre .accepted .factor
+kept-pairs-requires : tie.Need-kept-pairs-requires
+kept-pairs-requires c κs = c .before .before .before .before .before .before .before .before .pre .accepted .factor
 
 sub-diagnose : tie.Need-sub-diagnose
 sub-diagnose c = search needs
@@ -78,10 +82,10 @@ slice-aggregate-diagnose c = search needs
 
 diagnose-requires : tie.Need-diagnose-requires
 diagnose-requires c κs =
-    let s = c .before .before .before .before .before .before .before .before .before .before .before .before in
+    let s = c .before .before .before .before .before .before .before .before .before .before .before .before .before in
     let A = s .pre .accepted in
-    let k = c .before .before .before .before .factor-pairs .ensures in (
-      kept-small cholesky (s .args .n) (now (s .args .starts)) (now (s .args .rows)) (now (s .args .values)) (A .factor) (A .small) k,
+    let k = c .before .before .before .before .kept-pairs .ensures in (
+      kept-small (form s) (s .args .n) (now (s .args .starts)) (now (s .args .rows)) (now (s .args .values)) (A .factor) (A .small) k,
       (
         closure-rows (record { small = A .small; factor = A .factor; unlisted = unlisted (A .small); marked = s .pre .marked }),
         record { by-floats = λ e. omega (arith, A .factor .valued); by-wholes = λ h. absurd (omega arith) },
@@ -172,11 +176,11 @@ returns-2 c =
       positions = λ req R complete. large-positions (asked s req) (lent s) (other s req R) (E .leaves req R) (told-answer d req R) within complete;
     }
 
-pub fill-lists-spec : {M : Type 1} → statement M
-fill-lists-spec =
+pub fill-form-lists-spec : {M : Type 1} → statement M
+fill-form-lists-spec =
     tie.close
     (tie.spec
-    factor-pairs-requires
+    kept-pairs-requires
     sub-diagnose
     part-diagnose-start
     part-diagnose-end

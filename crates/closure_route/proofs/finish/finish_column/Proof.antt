@@ -5,19 +5,19 @@ use lib.ListN.{length, getD, length-set}
 use lib.Ieee.{nan}
 use denote.Ref.{now}
 use borrow.Author.Needs.{needs}
-use Rattle.exact.specs.Exact.{float-off}
+use Rattle.exact.specs.PivotCase.{stepBelow}
 use Rattle.closure_route.specs.Part.{PartSet}
 use Rattle.closure_route.proofs.PartLaws.{part-none, part-more}
 use Rattle.closure_route.proofs.FinishLaws.{sums-finished}
-use Rattle.closure_route.proofs.finish.divide_column.Statement.{statement}
-use Rattle.closure_route.proofs.finish.divide_column.Tie as tie
+use Rattle.closure_route.proofs.finish.finish_column.Statement.{statement}
+use Rattle.closure_route.proofs.finish.finish_column.Tie as tie
 
 abbrev Inv-loop : tie.InvT-loop
-Inv-loop part₀ rows j d from part q =
-    (length part ≡ length part₀) × (from ≤ q) × (q ≤ length part₀) × PartSet from q (λ p. float-off d (getD part₀ p nan)) part₀ part
+Inv-loop part₀ rows j with-pivots d from part q =
+    (length part ≡ length part₀) × (from ≤ q) × (q ≤ length part₀) × PartSet from q (λ p. stepBelow with-pivots d (getD part₀ p nan)) part₀ part
 
 abbrev μ-loop : tie.MeasureT-loop
-μ-loop part₀ rows j d from part q = length part₀ - q
+μ-loop part₀ rows j with-pivots d from part q = length part₀ - q
 
 abbrev begin : tie.At-loop Inv-loop μ-loop → tie.Start Inv-loop μ-loop
 begin q = q .before .before .before .before
@@ -56,12 +56,12 @@ loop-again : tie.Need-loop-again Inv-loop μ-loop
 loop-again c =
     let t = c .before .before in
     let l = t .before .loop in
-    let d = begin (t .before) .args .d in
+    let a = begin (t .before) .args in
     let h = t .loop-test .taken in (
       length-set (l .part) (l .q) _ ∙ l .inv .0,
       omega (arith, l .inv .1),
       omega (arith, l .inv .0),
-      part-more (l .inv .3) (l .inv .1) (omega (arith, l .inv .0)) (c .entry-below .ensures ∙ ap (float-off d) (l .inv .3 .after (l .q) (omega arith))),
+      part-more (l .inv .3) (l .inv .1) (omega (arith, l .inv .0)) (c .entry-below .ensures ∙ ap (stepBelow (a .with-pivots) (a .d)) (l .inv .3 .after (l .q) (omega arith))),
     )
 
 same-length : tie.Need-same-length Inv-loop μ-loop
@@ -74,10 +74,10 @@ returns c =
     let a = begin q .args in
     let e : l .q ≡ length (now (a .part)) = omega (arith, l .inv .0, l .inv .2, c .loop-test .left) in
     sums-finished (q .before .first-from .ensures)
-    (subst (λ (k : ℕ). PartSet (q .before .first-from .result) k (λ p. float-off (a .d) (getD (now (a .part)) p nan)) (now (a .part)) (l .part)) e (l .inv .3))
+    (subst (λ (k : ℕ). PartSet (q .before .first-from .result) k (λ p. stepBelow (a .with-pivots) (a .d) (getD (now (a .part)) p nan)) (now (a .part)) (l .part)) e (l .inv .3))
 
-pub divide-column-spec : {M : Type 1} → statement M
-divide-column-spec =
+pub finish-column-spec : {M : Type 1} → statement M
+finish-column-spec =
     tie.close
     (tie.spec
     Inv-loop

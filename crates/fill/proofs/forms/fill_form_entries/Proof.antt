@@ -1,9 +1,9 @@
 use borrow.Author.Needs.{needs}
-use Rattle.fill.proofs.fill_entries.Statement.{statement}
-use Rattle.fill.proofs.fill_entries.Tie as tie
+use Rattle.fill.proofs.forms.fill_form_entries.Statement.{statement}
+use Rattle.fill.proofs.forms.fill_form_entries.Tie as tie
 
-fill-lists-requires : tie.Need-fill-lists-requires
-fill-lists-requires c κs = search needs
+fill-form-lists-requires : tie.Need-fill-form-lists-requires
+fill-form-lists-requires c κs = search needs
 
 clear-scratch-requires : tie.Need-clear-scratch-requires
 clear-scratch-requires c κs = search needs
@@ -23,13 +23,13 @@ same-length-4 c = search needs
 returns : tie.Need-returns
 returns c =
     let m = c .before .before in
-    rw (m .clear-scratch .ensures) (m .before .before .before .before .before .before .before .before .before .before .fill-lists .ensures .fills)
+    rw (m .clear-scratch .ensures) (m .before .before .before .before .before .before .before .before .before .before .fill-form-lists .ensures .fills)
 
-pub fill-entries-spec : {M : Type 1} → statement M
-fill-entries-spec =
+pub fill-form-entries-spec : {M : Type 1} → statement M
+fill-form-entries-spec =
     tie.close
     (tie.spec
-    fill-lists-requires
+    fill-form-lists-requires
     clear-scratch-requires
     same-length
     same-length-2

@@ -1,0 +1,4 @@
+-- Selected entries of a factor with pivots.
+pub mod LdlEntries
+pub mod LdlReply
+pub mod LdlSame
