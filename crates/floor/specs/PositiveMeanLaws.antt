@@ -9,9 +9,9 @@ use mathlib.Core.List.{List, [], _∷_, _++_, map}
 use lib.Ieee.{Float, binary64, add, lt}
 use Rattle.lists.specs.Select.{select, select-none, select-yes, select-no, map-snoc}
 use Rattle.columns.specs.Columns.{value}
-use Rattle.columns.specs.Kept.{f0}
+use Rattle.columns.specs.Kept.{f0, f1}
 use Rattle.float_order.specs.Order.{lt-irreflexive, lt-asymmetric}
-use Rattle.floor.specs.PositiveMean.{f1, positive, positiveSum, positiveSum-none, positiveSum-yes, positiveSum-no, magnitude, positiveMean, larger, meanLevel}
+use Rattle.floor.specs.PositiveMean.{positive, positiveSum, positiveSum-none, positiveSum-yes, positiveSum-no, magnitude, positiveMean, larger, meanLevel}
 
 -- s with the values of a list added, from its first on
 abbrev pub addedTo : Float → List Float → Float

@@ -2,3 +2,5 @@
 pub mod LdlEntries
 pub mod LdlReply
 pub mod LdlSame
+pub mod Examples
+pub mod Worked
