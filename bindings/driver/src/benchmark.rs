@@ -11,6 +11,7 @@ use crate::chains::Chains;
 use crate::compare::{call_of, differences};
 use crate::function::Function;
 use crate::grid::grid;
+use crate::ldl_rows;
 use crate::lend::lend;
 use crate::list::List;
 use crate::lookups;
@@ -153,6 +154,7 @@ pub fn benchmark(folder: &Path, runs: usize) -> io::Result<()> {
     rows_of_chains(folder, runs)?;
     rows_of_patterns(folder, runs)?;
     whole_rows::rows_of_wholes(folder, runs)?;
+    ldl_rows::rows_of_ldl(runs)?;
     variance_rows::rows_of_variances(runs)?;
     growth(folder, runs)?;
     split(runs);
@@ -160,9 +162,9 @@ pub fn benchmark(folder: &Path, runs: usize) -> io::Result<()> {
     reading::rows_of_files(runs)
 }
 
-/// Makes the call of one case of the timing set alone, or of a row of the whole-number engine, for a profiler.
+/// Makes the call of one case of the timing set alone, or of a row of the whole-number engine or with pivots, for a profiler.
 pub fn profile(folder: &Path, name: &str, runs: usize) -> io::Result<()> {
-    let call = match whole_rows::profiled(name) {
+    let call = match whole_rows::profiled(name).or_else(|| ldl_rows::profiled(name)) {
         Some(call) => call,
         None => call_of(&timing_case(folder, name)?),
     };

@@ -12,6 +12,7 @@ use crate::sound::sound;
 use crate::subjects::{FactorLists, OperatorLists, Pair, PairLists, RequestLists, RowPairLists};
 use crate::variance_cases::calls_at_the_bounds;
 use crate::whole_cases::calls_at_the_greatest;
+use crate::whole_factors::as_floats;
 
 /// Calls on both sides of each bound of document 01's step 1, of those of files, of the greatest whole number, and of those of
 /// rows and tracks over results; those within it are accepted, or refused by a later step.
@@ -61,12 +62,20 @@ pub fn bounds() -> Vec<Call> {
         let mut call = sound(Function::OriginalDiag, 3, &mut random);
         call.permutation.orig_to_perm = long(n);
         calls.push(call);
+        // pivots past the bound of a small factor
+        for function in [Function::LdlEntriesWithLimit, Function::LdlEntries] {
+            let mut call = sound(function, 3, &mut random);
+            call.pivots = List::made(n, |_| 1.0);
+            calls.push(call);
+        }
     }
     for count in [MOST_ENTRIES, MOST_ENTRIES + 1] {
         // stored entries: the starts are those of another factor
         for function in [
             Function::EntriesWithLimit,
             Function::Entries,
+            Function::LdlEntriesWithLimit,
+            Function::LdlEntries,
             Function::OriginalDiag,
             Function::OperatorVariances,
             Function::Covariances,
@@ -87,6 +96,8 @@ pub fn bounds() -> Vec<Call> {
         for function in [
             Function::EntriesWithLimit,
             Function::Entries,
+            Function::LdlEntriesWithLimit,
+            Function::LdlEntries,
             Function::WholeEntriesWithLimit,
             Function::WholeEntries,
             Function::DependencyChain,
@@ -150,6 +161,12 @@ pub fn bounds() -> Vec<Call> {
             ..sound(function, 0, &mut random)
         });
     }
+    calls.push(Call {
+        factor: as_floats(&whole_factor),
+        pivots: List::made(n, |_| 1.0),
+        requests: RequestLists { dimension: n, rows: request.clone(), columns: request.clone() },
+        ..sound(Function::LdlEntries, 0, &mut random)
+    });
     calls.extend(pairs());
     calls.extend(calls_at_the_greatest(30));
     let file = |text: &Vec<u8>| Call { function: Function::ReadRequests, text: List::new(text), ..Call::default() };

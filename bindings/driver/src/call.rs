@@ -15,6 +15,8 @@ pub struct Call {
     pub function: Function,
     pub factor: FactorLists,
     pub whole_factor: FactorLists<i64>,
+    /// Those of a unit lower factor.
+    pub pivots: List<f64>,
     pub requests: RequestLists,
     pub limit: usize,
     pub pair: Pair,
@@ -102,7 +104,7 @@ impl Call {
     #[rustfmt::skip]
     pub fn make(&mut self) -> Reply {
         let Call {
-            function, factor, whole_factor, requests, limit, pair, operator, other, row_pairs, entries, whole_entries,
+            function, factor, whole_factor, pivots, requests, limit, pair, operator, other, row_pairs, entries, whole_entries,
             ranges, track, permutation, values, text, result, whole_result, scratch, work, pairs, output,
         } = self;
         match function {
@@ -110,6 +112,10 @@ impl Call {
                 factor(factor) requests(requests) (*limit) result(result) {scratch}),
             Function::Entries => c_call!(redstartgilt_selected_inverse_entries:
                 factor(factor) requests(requests) result(result) {scratch}),
+            Function::LdlEntriesWithLimit => c_call!(redstartgilt_selected_inverse_entries_ldl_with_limit:
+                factor(factor) [pivots] requests(requests) (*limit) result(result) {scratch}),
+            Function::LdlEntries => c_call!(redstartgilt_selected_inverse_entries_ldl:
+                factor(factor) [pivots] requests(requests) result(result) {scratch}),
             Function::CheckFactor => c_call!(redstartgilt_check_factor: factor(factor)),
             Function::WholeEntriesWithLimit => c_call!(redstartgilt_selected_inverse_entries_whole_with_limit:
                 factor(whole_factor) requests(requests) (*limit) result(whole_result) {scratch} {work}),
@@ -159,6 +165,7 @@ impl Call {
             function: _,
             factor,
             whole_factor,
+            pivots,
             requests,
             limit,
             pair,
@@ -182,6 +189,7 @@ impl Call {
         let subjects = [
             ("factor", factor.parts()),
             ("whole_factor", whole_factor.parts()),
+            ("pivots", vec![("", Part::from(pivots))]),
             ("requests", requests.parts()),
             ("limit", vec![("", Part::from(limit))]),
             ("pair", pair.parts()),

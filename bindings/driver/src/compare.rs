@@ -4,14 +4,16 @@
 //! nothing is held but one case and its answer. What the library must reply and leave is the Rust's answer; where
 //! document 01 refuses, or document 02 a factor that is not finite, it is that refusal, and how the Rust differs is
 //! counted. The set `whole` is the driver's own: calls of the whole-number engine, which the Rust answers as floats. So is
-//! the set `variances`: rows whose weights are known within ranges, and tracks, which the Rust has not; and the set
-//! `multiples`: selected entries in the exact case beyond unit diagonals.
+//! the set `variances`: rows whose weights are known within ranges, and tracks, which the Rust has not; the set
+//! `multiples`: selected entries in the exact case beyond unit diagonals; and the set `ldl`: unit lower factors with
+//! pivots, which it has not either.
 
 use crate::call::Call;
 use crate::chains::{chosen, Chains};
 use crate::engines::{compare_engines, compare_whole_cases, whole_call, Made};
 use crate::exactness::{compare_multiple_cases, Exactness};
 use crate::expected::Expected;
+use crate::families::{compare_ldl_cases, compare_with_ones, Families};
 use crate::function::{Function, LOOKUPS};
 use crate::lend::lend;
 use crate::list::List;
@@ -69,6 +71,7 @@ pub fn compare(folder: &Path, seeds: &[u64], huge: bool) -> io::Result<usize> {
             compare_whole_cases(folder, seed, &mut tally)?;
             compare_variance_cases(seed, &mut tally);
             compare_multiple_cases(seed, &mut tally);
+            compare_ldl_cases(seed, &mut tally);
         }
     }
     tally.report();
@@ -87,6 +90,14 @@ pub fn compare_variances(seeds: &[u64]) -> usize {
 pub fn compare_multiples(seeds: &[u64]) -> usize {
     let mut tally = Tally::default();
     seeds_of(seeds).iter().for_each(|&seed| compare_multiple_cases(seed, &mut tally));
+    tally.report();
+    tally.unexpected
+}
+
+/// The same of the set `ldl` alone.
+pub fn compare_ldl(seeds: &[u64]) -> usize {
+    let mut tally = Tally::default();
+    seeds_of(seeds).iter().for_each(|&seed| compare_ldl_cases(seed, &mut tally));
     tally.report();
     tally.unexpected
 }
@@ -115,6 +126,7 @@ pub struct Tally {
     sizes: BTreeMap<Vec<Kind>, usize>,
     pub choices: Choices,
     pub exactness: Exactness,
+    pub families: Families,
     /// how the Rust differs where a document says otherwise: how often, and a case
     intended: BTreeMap<String, (usize, String)>,
     pub unexpected: usize,
@@ -152,6 +164,11 @@ impl Tally {
         *entry = (entry.0 + 1, entry.1 + calls);
     }
 
+    /// Counts a case of a dimension in the upper half of those allowed.
+    pub fn wide(&mut self, n: usize) {
+        self.wide += usize::from((MOST_COLUMNS / 2 + 1..=MOST_COLUMNS).contains(&n));
+    }
+
     /// Counts the kinds of numbers that pass 2^53.
     pub fn sizes(&mut self, kinds: &[Kind]) {
         *self.sizes.entry(kinds.to_vec()).or_default() += 1;
@@ -179,6 +196,7 @@ impl Tally {
         }
         self.choices.report();
         self.exactness.report();
+        self.families.report();
         if !self.intended.is_empty() {
             println!("\nwhere a document says otherwise than the Rust");
         }
@@ -306,7 +324,7 @@ pub fn compare_case(
     if case.kind == "get" {
         return compare_lookups(call, case, answer, seed, tally);
     }
-    tally.wide += usize::from((MOST_COLUMNS / 2 + 1..=MOST_COLUMNS).contains(&call.dimension()));
+    tally.wide(call.dimension());
     lend(&mut call, random, some_more);
     let mut made = call.clone();
     let reply = made.make();
@@ -356,6 +374,7 @@ pub fn compare_case(
     }
     let asked = matches!(call.function, Function::EntriesWithLimit | Function::Entries) && case.kind == "entries";
     let chains = if asked { compare_chains(&call, answer, case, random, tally) } else { 0 };
+    let units = if asked { compare_with_ones(&call, &expected, case, tally) } else { 0 };
     let whole = if asked { whole.cloned().or_else(|| whole_call(&call)) } else { None };
     let floats = Made { reply: &reply, call: &made };
     let wholes = whole.map_or(0, |whole| compare_engines(&whole, &floats, case, answer, random, tally));
@@ -371,7 +390,7 @@ pub fn compare_case(
         }
         _ => 0,
     };
-    1 + checks + chains + wholes + more
+    1 + checks + chains + units + wholes + more
 }
 
 /// The refusal that the Rust's answer stands for, 0 where it accepts.

@@ -4,6 +4,8 @@
 pub enum Function {
     EntriesWithLimit,
     Entries,
+    LdlEntriesWithLimit,
+    LdlEntries,
     CheckFactor,
     WholeEntriesWithLimit,
     WholeEntries,
@@ -33,9 +35,11 @@ pub enum Function {
     ReadRequests,
 }
 
-pub const FUNCTIONS: [Function; 28] = [
+pub const FUNCTIONS: [Function; 30] = [
     Function::EntriesWithLimit,
     Function::Entries,
+    Function::LdlEntriesWithLimit,
+    Function::LdlEntries,
     Function::CheckFactor,
     Function::WholeEntriesWithLimit,
     Function::WholeEntries,
@@ -73,6 +77,8 @@ impl Function {
         match self {
             Function::EntriesWithLimit => "selected_inverse_entries_with_limit",
             Function::Entries => "selected_inverse_entries",
+            Function::LdlEntriesWithLimit => "selected_inverse_entries_ldl_with_limit",
+            Function::LdlEntries => "selected_inverse_entries_ldl",
             Function::CheckFactor => "check_factor",
             Function::WholeEntriesWithLimit => "selected_inverse_entries_whole_with_limit",
             Function::WholeEntries => "selected_inverse_entries_whole",
@@ -107,16 +113,22 @@ impl Function {
         matches!(self, Function::WholeEntriesWithLimit | Function::WholeEntries)
     }
 
-    /// Whether it selects entries of a factor of floats: it is lent result lists of these.
+    /// Whether it selects entries of a unit lower factor with pivots.
+    pub fn selects_ldl(self) -> bool {
+        matches!(self, Function::LdlEntriesWithLimit | Function::LdlEntries)
+    }
+
+    /// Whether it selects entries of a factor of floats, of either family: it is lent result lists of these.
     pub fn selects_floats(self) -> bool {
-        matches!(
+        let ours = matches!(
             self,
             Function::EntriesWithLimit
                 | Function::Entries
                 | Function::OriginalDiag
                 | Function::OperatorVariances
                 | Function::Covariances
-        )
+        );
+        ours || self.selects_ldl()
     }
 
     /// Whether it selects entries: its reply has a status, and it is lent result lists and scratch.

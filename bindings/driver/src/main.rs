@@ -9,10 +9,16 @@ mod compare;
 mod engines;
 mod exactness;
 mod expected;
+mod families;
 mod faults;
 mod files;
 mod function;
 mod grid;
+mod ldl;
+mod ldl_cases;
+mod ldl_factors;
+mod ldl_faults;
+mod ldl_rows;
 mod lend;
 mod list;
 mod lookups;
@@ -20,6 +26,7 @@ mod malformed;
 mod matrix_market;
 mod multiple_cases;
 mod multiples;
+mod partner;
 mod random;
 mod ranges;
 mod reading;
@@ -49,6 +56,9 @@ const USAGE: &str = "usage:
   driver compare ORACLE_FOLDER --huge              the set huge
   driver compare-variances [SEED..]                the set of rows and tracks over results alone, which needs no oracle
   driver compare-multiples [SEED..]                the set of the exact case beyond unit diagonals alone, which needs none
+  driver compare-ldl [SEED..]                      the set of unit lower factors with pivots alone, which needs no oracle
+  driver compare-export FOLDER [CSV]               a factor with pivots made by bindings/partner, beside a dense inverse;
+                                                   CSV has the variances that the command printed of it
   driver malformed [COUNT [SEED [FIRST]]] [--only FUNCTION] [--bare]
                                                    random calls, 1,000,000 where no number is given, from call FIRST on;
                                                    with --only of one function, named as in the header without
@@ -59,11 +69,13 @@ const USAGE: &str = "usage:
   driver benchmark-chains ORACLE_FOLDER [RUNS]     the part of it that has chains
   driver benchmark-patterns ORACLE_FOLDER [RUNS]   the part of it that has pattern lists
   driver benchmark-wholes ORACLE_FOLDER [RUNS]     the part of it that has the whole-number engine
+  driver benchmark-ldl [RUNS]                      the part of it that has factors with pivots, which needs no oracle
   driver benchmark-variances [RUNS]                the part of it that has bounds and tracks, which needs no oracle
   driver benchmark-lookups [RUNS]                  the part of it that looks up entries, which needs no oracle
   driver benchmark-files [RUNS]                    the part of it that reads files, which needs no oracle
   driver profile ORACLE_FOLDER CASE RUNS           one case of the benchmark alone, for a profiler; of the whole-number
-                                                   engine's rows whole:ROW, and float:ROW for the same in floats
+                                                   engine's rows whole:ROW, and float:ROW for the same in floats;
+                                                   of those with pivots ldl:ROW, and own:ROW for our own family
 ORACLE_FOLDER has the programs `generate` and `oracle` of bindings/oracle.";
 
 fn main() -> ExitCode {
@@ -111,6 +123,13 @@ fn run(words: &[&str]) -> Option<std::io::Result<usize>> {
             let seeds: Vec<u64> = seeds.iter().map(|s| s.parse().ok()).collect::<Option<_>>()?;
             Some(Ok(compare::compare_multiples(&seeds)))
         }
+        ["compare-ldl", seeds @ ..] => {
+            let seeds: Vec<u64> = seeds.iter().map(|s| s.parse().ok()).collect::<Option<_>>()?;
+            Some(Ok(compare::compare_ldl(&seeds)))
+        }
+        ["compare-export", folder, csv @ ..] if csv.len() < 2 => {
+            Some(partner::compare_export(Path::new(folder), csv.first().map(Path::new)))
+        }
         ["malformed", rest @ .., "--bare"] => {
             list::leave_out_guards();
             malformed(rest)
@@ -131,6 +150,7 @@ fn run(words: &[&str]) -> Option<std::io::Result<usize>> {
         ["benchmark-wholes", folder, runs @ ..] if runs.len() < 2 => {
             Some(whole_rows::rows_of_wholes(Path::new(folder), runs_of(runs)?).map(|()| 0))
         }
+        ["benchmark-ldl", runs @ ..] if runs.len() < 2 => Some(ldl_rows::benchmark_ldl(runs_of(runs)?).map(|()| 0)),
         ["benchmark-variances", runs @ ..] if runs.len() < 2 => {
             Some(variance_rows::benchmark_variances(runs_of(runs)?).map(|()| 0))
         }

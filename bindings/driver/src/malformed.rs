@@ -2,8 +2,8 @@
 //!
 //! A call is made from its seed and number alone: sound lists first, then some of them are spoilt, then lists of any
 //! length and contents are lent. Reply, every list and every guard word afterwards must be what document 01, or of files,
-//! covariances, chains, counted lookups, whole numbers, ranges, tracks and factors that are not finite document 02, gives; of
-//! lookups in well-formed results, what the header says.
+//! covariances, chains, counted lookups, whole numbers, ranges, tracks, pivots and factors that are not finite document 02,
+//! gives; of lookups in well-formed results, what the header says.
 
 use crate::bounds::bounds;
 use crate::call::Call;

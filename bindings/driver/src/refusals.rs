@@ -30,6 +30,7 @@ pub type Steps = Result<(), u32>;
 pub fn refusal(call: &Call) -> u32 {
     let steps = match call.function {
         Function::EntriesWithLimit | Function::Entries => entries(call),
+        Function::LdlEntriesWithLimit | Function::LdlEntries => ldl_entries(call),
         Function::CheckFactor => factor_bounds(&call.factor).and_then(|()| factor(&call.factor)),
         Function::WholeEntriesWithLimit | Function::WholeEntries => whole_entries(call),
         Function::CheckWholeFactor => factor_bounds(&call.whole_factor).and_then(|()| columns(&call.whole_factor)),
@@ -81,6 +82,19 @@ fn factor_and_requests(call: &Call) -> Steps {
 
 fn entries(call: &Call) -> Steps {
     factor_and_requests(call)?;
+    room(call, &call.result)
+}
+
+fn ldl_entries(call: &Call) -> Steps {
+    let (n, pivots) = (call.factor.n, &call.pivots);
+    factor_bounds(&call.factor)?;
+    request_bound(&call.requests)?;
+    factor(&call.factor)?;
+    refuse(4, pivots.len() != n)?;
+    refuse(18, pivots.iter().any(|pivot| !pivot.is_finite()))?;
+    requests(&call.requests, n)?;
+    refuse(23, Factor::kept(&call.factor).diagonals.iter().flatten().any(|&d| d != 1.0))?;
+    refuse(6, pivots.iter().any(|&pivot| pivot <= 0.0))?;
     room(call, &call.result)
 }
 

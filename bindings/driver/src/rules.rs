@@ -5,6 +5,7 @@ use crate::call::Call;
 use crate::chains::Chains;
 use crate::expected::Expected;
 use crate::function::Function;
+use crate::ldl;
 use crate::list::Item;
 use crate::matrix_market;
 use crate::ranges;
@@ -55,10 +56,9 @@ fn clear(call: &mut Call) {
 
 /// The limit that applies: 10 times the stored entries where none is given.
 pub fn limit(call: &Call) -> usize {
-    if matches!(call.function, Function::EntriesWithLimit | Function::WholeEntriesWithLimit) {
-        call.limit
-    } else {
-        10 * call.stored()
+    match call.function {
+        Function::EntriesWithLimit | Function::LdlEntriesWithLimit | Function::WholeEntriesWithLimit => call.limit,
+        _ => 10 * call.stored(),
     }
 }
 
@@ -87,6 +87,11 @@ impl<V: Item> Factor<V> {
             below.push(rest);
         }
         Factor { diagonals, below }
+    }
+
+    /// The same factor with these diagonals, kept or not.
+    pub fn with_diagonals(self, diagonal: V) -> Self {
+        Factor { diagonals: vec![Some(diagonal); self.diagonals.len()], ..self }
     }
 
     pub fn values(&self) -> impl Iterator<Item = V> + '_ {
@@ -435,13 +440,15 @@ fn fill<V: Item>(result: &mut ResultLists<V>, set: &Pairs, value: impl Fn(usize)
 }
 
 fn selected(mut call: Call) -> Expected {
-    let factor = Factor::kept(&call.factor);
+    let ldl = call.function.selects_ldl();
+    let kept = Factor::kept(&call.factor);
+    let factor = if ldl { kept.with_diagonals(1.0) } else { kept };
     let (set, reply) = diagnosed(&call, &factor);
     clear(&mut call);
     if !reply.complete() {
         return Expected::untouched(reply, call);
     }
-    let z = recurrence(&factor, &set);
+    let z = if ldl { ldl::recurrence(&factor, &call.pivots, &set) } else { recurrence(&factor, &set) };
     fill(&mut call.result, &set, |place| z[place]);
     let output_filled = outputs(&mut call, &z);
     Expected { reply, after: call, values_filled: reply.closure, output_filled }

@@ -3,6 +3,7 @@
 use crate::call::Call;
 use crate::files::sound_file;
 use crate::function::Function;
+use crate::ldl_factors::{any_pivot, columns_of, moderate_pivot, put_some_diagonals};
 use crate::list::{Item, List};
 use crate::random::Random;
 use crate::refusals::MOST_TERMS;
@@ -11,6 +12,7 @@ use crate::subjects::{
     EntryLists, FactorLists, OperatorLists, Pair, PermutationLists, RequestLists, RowPairLists, ValueLists,
 };
 use crate::whole::GREATEST;
+use crate::whole_factors::lists;
 use crate::whole_results::{any_row, any_track};
 use std::cmp::Ordering::{self, Equal, Greater, Less};
 
@@ -111,6 +113,15 @@ fn factor_lists<V: Item>(random: &mut Random, n: usize, drawn: Drawn<V>) -> Fact
 
 fn float_factor(random: &mut Random, n: usize) -> FactorLists {
     factor_lists(random, n, &drawn_float(n))
+}
+
+/// A unit lower factor, its diagonals stored, left out or dropped, and its pivots.
+fn unit_factor(random: &mut Random, n: usize) -> (FactorLists, List<f64>) {
+    let mut columns = columns_of(&float_factor(random, n));
+    put_some_diagonals(&mut columns, random);
+    let any = random.chance(50);
+    let pivots = List::made(n, |_| if any { any_pivot(random) } else { moderate_pivot(random, 3) });
+    (lists(&columns), pivots)
 }
 
 fn whole_factor(random: &mut Random, n: usize) -> FactorLists<i64> {
@@ -234,6 +245,11 @@ pub fn sound(function: Function, n: usize, random: &mut Random) -> Call {
     match function {
         Function::EntriesWithLimit | Function::Entries => {
             call.factor = float_factor(random, n);
+            call.requests = request_lists(random, n);
+            call.limit = some_limit(random, n);
+        }
+        Function::LdlEntriesWithLimit | Function::LdlEntries => {
+            (call.factor, call.pivots) = unit_factor(random, n);
             call.requests = request_lists(random, n);
             call.limit = some_limit(random, n);
         }

@@ -4,6 +4,7 @@ use crate::call::Call;
 use crate::faults::{ROW_FAULTS, TRACK_FAULTS};
 use crate::files::damage;
 use crate::function::Function;
+use crate::ldl_faults::LDL_FAULTS;
 use crate::lend::lend;
 use crate::list::{Item, List};
 use crate::random::Random;
@@ -219,6 +220,13 @@ fn spoil(call: &mut Call, n: usize, random: &mut Random) {
             way if way < FACTOR => spoil_factor(&mut call.factor, way, n, random),
             way => spoil_requests(&mut call.requests, way - FACTOR, n, random),
         },
+        Function::LdlEntriesWithLimit | Function::LdlEntries => {
+            match random.below(FACTOR + REQUESTS + LDL_FAULTS.len()) {
+                way if way < FACTOR => spoil_factor(&mut call.factor, way, n, random),
+                way if way < FACTOR + REQUESTS => spoil_requests(&mut call.requests, way - FACTOR, n, random),
+                way => LDL_FAULTS[way - FACTOR - REQUESTS](call, random),
+            }
+        }
         Function::WholeEntriesWithLimit | Function::WholeEntries => match random.below(FACTOR + REQUESTS) {
             way if way < FACTOR => spoil_whole_factor(&mut call.whole_factor, way, n, random),
             way => spoil_requests(&mut call.requests, way - FACTOR, n, random),

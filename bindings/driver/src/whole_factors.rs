@@ -1,7 +1,7 @@
 //! Factors of whole numbers with diagonals of 1.
 
 use crate::grid::grid;
-use crate::list::List;
+use crate::list::{Item, List};
 use crate::random::Random;
 use crate::subjects::FactorLists;
 
@@ -13,8 +13,8 @@ pub fn unit(n: usize) -> Columns {
     (0..n).map(|c| vec![(c, 1)]).collect()
 }
 
-pub fn lists(columns: &Columns) -> FactorLists<i64> {
-    let entries: Vec<(usize, i64)> = columns.iter().flatten().copied().collect();
+pub fn lists<V: Item>(columns: &[Vec<(usize, V)>]) -> FactorLists<V> {
+    let entries: Vec<(usize, V)> = columns.iter().flatten().copied().collect();
     let mut starts = vec![0];
     for column in columns {
         starts.push(starts[starts.len() - 1] + column.len() as u32);

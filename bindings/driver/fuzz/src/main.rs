@@ -13,6 +13,8 @@ mod chains;
 mod expected;
 #[path = "../../src/function.rs"]
 mod function;
+#[path = "../../src/ldl.rs"]
+mod ldl;
 #[path = "../../src/list.rs"]
 mod list;
 #[path = "../../src/matrix_market.rs"]
