@@ -43,7 +43,7 @@ import collections, itertools, math, os, random, re, struct, subprocess, sys
 
 # set: how many cases, the largest case in bytes, and the least number of a group
 SETS = {
-    "worked": (100, 60000, 12),
+    "worked": (100, 120000, 12),
     "tiny": (120, 2000, 12),
     "random": (70, 7000, 12),
     "special": (90, 2000, 12),
@@ -308,7 +308,7 @@ def readable_fields(lines):
 
 # ---- document 01, with document 02's 18: what each call refuses, in its order; the first number decides
 
-MOST_COLUMNS, MOST_ENTRIES = 2048, 1048576
+MOST_COLUMNS, MOST_ENTRIES = 4096, 1048576
 
 
 def at_most_zero(bits):
@@ -1309,8 +1309,8 @@ class Chance:
 
 def some_file(chance):
     """A file with no fault, one or several."""
-    n, count = chance.pick((0, 1, 2, 3, 3, 5, 9, 2048)), chance.pick((0, 1, 2, 2, 3, 4))
-    size = chance.pick((2049, 2**32 + n, 2**64 + n)) if chance.one_of(20) else n
+    n, count = chance.pick((0, 1, 2, 3, 3, 5, 9, 2049, MOST_COLUMNS)), chance.pick((0, 1, 2, 2, 3, 4))
+    size = chance.pick((MOST_COLUMNS + 1, 2**32 + n, 2**64 + n)) if chance.one_of(20) else n
     other = size + 1 if chance.one_of(30) else size
     told = chance.pick((max(count - 1, 0), count + 1, count + 2**32, count + 2**64)) if chance.one_of(20) else count
     lines = [chance.pick((b"%", b"%c", b"% 1 1", b"%%\xff\r")) for _ in range(chance.pick((0, 0, 0, 1, 2)))]
@@ -1432,7 +1432,7 @@ def spoil_chain(chance, f):
     elif which == 6:
         f["rows"] = f["rows"][::-1]
     elif which == 7:
-        f["n"] = chance.pick((2049, n + 1, 2**64 - 1))
+        f["n"] = chance.pick((MOST_COLUMNS + 1, n + 1, 2**64 - 1))
     else:
         f["values"] = f["values"][1:]
 
@@ -1525,7 +1525,7 @@ def spoil_whole(chance, f):
     elif which == 4:
         f["rows"] = f["rows"][::-1]
     elif which == 5:
-        f["n"] = chance.pick((2049, n + 1, 2**64 - 1))
+        f["n"] = chance.pick((MOST_COLUMNS + 1, n + 1, 2**64 - 1))
     elif which == 6:
         f["wvalues"] = f["wvalues"][1:]
     elif f["wvalues"]:

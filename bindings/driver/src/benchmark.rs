@@ -391,7 +391,7 @@ fn growth(folder: &Path, runs: usize) -> io::Result<()> {
     println!("|---|---|---|---|---|---|---|---|---|");
     for nested in [false, true] {
         for first in [false, true] {
-            for side in [16, 23, 32, 45] {
+            for side in [16, 23, 32, 45, 64] {
                 let call = diagonal_of(side, nested);
                 let mut case = Block::new(&format!("{side}"), if first { "entries" } else { "diagorig" });
                 case.put_factor(&call.factor);
@@ -429,7 +429,7 @@ fn split(runs: usize) {
     println!("\n| grid | pairs | checks, clearing, marking | closing | layout, route | whole |");
     println!("|---|---|---|---|---|---|");
     for nested in [false, true] {
-        for side in [16, 23, 32, 45] {
+        for side in [16, 23, 32, 45, 64] {
             let call = Call {
                 function: Function::EntriesWithLimit,
                 requests: RequestLists { dimension: side * side, rows: List::new(&[0]), columns: List::new(&[0]) },

@@ -115,8 +115,8 @@ pub fn bounds() -> Vec<Call> {
         }
     }
     // as many stored entries as are allowed: every row of the last columns
-    let n = MOST_COLUMNS;
-    let counts = |c: usize| if c < n / 2 { 1 } else { n - c };
+    let (n, full) = (MOST_COLUMNS, 1_024);
+    let counts = |c: usize| if c < n - full { 1 } else { n - c };
     let total: usize = (0..n).map(counts).sum();
     let mut rest = MOST_ENTRIES - total;
     let (mut starts, mut rows) = (vec![0], Vec::new());
@@ -133,7 +133,7 @@ pub fn bounds() -> Vec<Call> {
     // the same in ones, whose inverse has the entries 0, 1, -1 and 2 alone
     let ones = List::made(rows.len(), |_| 1);
     let whole_factor = FactorLists { n, starts: List::new(&starts), rows: List::new(&rows), values: ones };
-    let request = List::new(&[(n - n / 4) as u32]);
+    let request = List::new(&[(n - full / 2) as u32]);
     for function in [
         Function::CheckFactor,
         Function::FactorPattern,

@@ -14,7 +14,7 @@ use crate::function::{Function, LOOKUPS};
 use crate::lend::lend;
 use crate::list::List;
 use crate::random::Random;
-use crate::refusals::refusal;
+use crate::refusals::{refusal, MOST_COLUMNS};
 use crate::reply::Reply;
 use crate::rules;
 use crate::subjects::{
@@ -29,8 +29,8 @@ use std::io::{self, BufReader};
 use std::path::Path;
 use std::process::{Command, Stdio};
 
-const SETS: [&str; 18] = [
-    "worked", "tiny", "random", "special", "exact", "dyadic", "grid", "large", "default", "diagorig", "opvar",
+const SETS: [&str; 19] = [
+    "worked", "tiny", "random", "special", "exact", "dyadic", "grid", "large", "wide", "default", "diagorig", "opvar",
     "pattern", "perm", "floor", "least", "lookup", "refuse", "timing",
 ];
 /// The first is the generator's own.
@@ -93,6 +93,8 @@ fn seeds_of(seeds: &[u64]) -> &[u64] {
 pub struct Tally {
     /// cases and calls by set and kind
     counts: BTreeMap<(String, String), (usize, usize)>,
+    /// cases of more than half as many columns as are allowed
+    wide: usize,
     /// replies by kind
     replies: BTreeMap<(String, String), usize>,
     /// chains compared, those among several as short, those held against every chain, and the most pairs of one
@@ -172,6 +174,7 @@ impl Tally {
         }
         let sum = self.counts.values().fold((0, 0), |s, c| (s.0 + c.0, s.1 + c.1));
         println!("\n{} cases, {} calls, {} unexpected differences", sum.0, sum.1, self.unexpected);
+        println!("{} cases of dimension {} to {MOST_COLUMNS}", self.wide, MOST_COLUMNS / 2 + 1);
     }
 }
 
@@ -290,6 +293,7 @@ pub fn compare_case(
     if case.kind == "get" {
         return compare_lookups(call, case, answer, seed, tally);
     }
+    tally.wide += usize::from((MOST_COLUMNS / 2 + 1..=MOST_COLUMNS).contains(&call.dimension()));
     lend(&mut call, random, some_more);
     let mut made = call.clone();
     let reply = made.make();

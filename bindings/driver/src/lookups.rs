@@ -140,7 +140,7 @@ pub fn rows_of_lookups(runs: usize) -> io::Result<()> {
     println!("\nLookups, ns for each of {LOOKUPS}, best of {runs} runs\n");
     println!("| grid | n | entries | pairs | found | `get` | checked | Rust | `get` / Rust | checked / Rust |");
     println!("|---|---|---|---|---|---|---|---|---|---|");
-    for (nested, side) in [(false, 16), (false, 32), (false, 45), (true, 16), (true, 32), (true, 45)] {
+    for (nested, side) in [false, true].into_iter().flat_map(|nested| [16, 32, 45, 64].map(|side| (nested, side))) {
         let inverse = result_of(side, nested)?;
         let rust = RustInverse::new(&inverse);
         for (what, pairs) in pairs_of(&inverse) {

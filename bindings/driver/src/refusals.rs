@@ -13,7 +13,7 @@ use crate::subjects::{
 use crate::tracks;
 use crate::whole::exact;
 
-pub const MOST_COLUMNS: usize = 2_048;
+pub const MOST_COLUMNS: usize = 4_096;
 pub const MOST_ENTRIES: usize = 1_048_576;
 /// The greatest size of a weight's ends, and the most terms of a row of such weights.
 pub const GREATEST_WEIGHT: i64 = 1_024;

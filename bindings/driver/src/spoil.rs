@@ -316,7 +316,7 @@ fn some_length(random: &mut Random, need: usize) -> usize {
 /// A call of a function with no, one or several faults, lent lists of any length and contents.
 pub fn random_call(function: Function, random: &mut Random) -> Call {
     let n = match random.below(LARGE) {
-        0 => random.pick(&[MOST_COLUMNS - 1, MOST_COLUMNS, MOST_COLUMNS, MOST_COLUMNS + 1]),
+        0 => random.pick(&[MOST_COLUMNS / 2 + 1, MOST_COLUMNS - 1, MOST_COLUMNS, MOST_COLUMNS, MOST_COLUMNS + 1]),
         1..=59 => random.below(65),
         60..=99 => 40 + random.below(25),
         // a file is short whatever its size, and so is a result of one column

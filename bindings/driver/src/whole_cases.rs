@@ -51,7 +51,7 @@ const SORTS: [Sort; 9] = [
 /// Full blocks, from small numbers to those that pass.
 const SCALED: usize = 60;
 /// The sides of grids.
-const GRIDS: [usize; 6] = [3, 5, 8, 16, 32, 45];
+const GRIDS: [usize; 7] = [3, 5, 8, 16, 32, 45, 64];
 
 /// The cases of a seed, one by one.
 pub fn whole_cases(seed: u64) -> impl Iterator<Item = WholeCase> {
@@ -122,6 +122,8 @@ fn called(factor: FactorLists<i64>, requests: &[Pair], random: &mut Random) -> C
         4..=7 => call.limit = size,
         8 => call.limit = size + 1,
         9 => call.limit = triangle(call.whole_factor.n),
+        // past 32 bits, in which less than the size is left of it
+        10 => call.limit = (1 << 32) + size.saturating_sub(1),
         _ => call.limit = usize::MAX,
     }
     call

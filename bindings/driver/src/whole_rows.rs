@@ -56,7 +56,7 @@ fn requests(n: usize, pairs: &[(u32, u32)]) -> RequestLists {
 fn whole_rows() -> Vec<WholeRow> {
     let mut rows = Vec::new();
     let random = &mut Random::new(1);
-    for side in [16, 32, 45] {
+    for side in [16, 32, 45, 64] {
         for nested in [false, true] {
             let (whole_factor, places) = grid_of_signs(side, nested, random);
             let n = whole_factor.n;

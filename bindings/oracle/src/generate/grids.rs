@@ -1,4 +1,4 @@
-//! Factors of grids, chains, stars and full triangles, to 2,048 columns.
+//! Factors of grids, chains, stars and full triangles; those of more than 2,048 columns are in wide.rs.
 
 use crate::body::{Body, Pair};
 use crate::limits::{all_limits, closed_size, diagonal, jumbled, some_limit, some_requests, Limit};
@@ -6,9 +6,10 @@ use crate::values::ordinary;
 use crate::writer::Writer;
 use cases::factor::{Column, Factor};
 use cases::grid::{grid, Grid, Order};
+use cases::random::Random;
 use std::io;
 
-fn diagonal_body(grid: &Grid) -> Body {
+pub fn diagonal_body(grid: &Grid) -> Body {
     Body::new().factor(&grid.factor).numbers("perm", &grid.orig_to_perm)
 }
 
@@ -67,17 +68,7 @@ fn one_dropped(writer: &mut Writer, factor: &Factor) -> io::Result<()> {
 pub fn large(writer: &mut Writer) -> io::Result<()> {
     for (width, height) in [(32, 16), (32, 32), (64, 32)] {
         for order in [Order::Nested, Order::Natural] {
-            let grid = grid(width, height, order, Some(&mut writer.random));
-            let (factor, n) = (&grid.factor, grid.factor.n);
-            let all = diagonal(n);
-            let size = closed_size(factor, &all);
-            writer.entries(factor, &all, Limit::Default)?;
-            writer.entries(factor, &all, Limit::At(size - 1))?;
-            writer.entries(factor, &[(n - 1, 0)], Limit::Default)?;
-            let random = &mut writer.random;
-            let some: Vec<Pair> = (0..20).map(|_| (random.below(n), random.below(n))).collect();
-            writer.entries(factor, &some, Limit::Default)?;
-            writer.case("diagorig", &diagonal_body(&grid))?;
+            large_grid(writer, width, height, order)?;
         }
     }
     for n in [512, 1024, 2048] {
@@ -93,8 +84,26 @@ pub fn large(writer: &mut Writer) -> io::Result<()> {
     Ok(())
 }
 
+pub fn large_grid(writer: &mut Writer, width: usize, height: usize, order: Order) -> io::Result<()> {
+    let grid = grid(width, height, order, Some(&mut writer.random));
+    let (factor, n) = (&grid.factor, grid.factor.n);
+    let all = diagonal(n);
+    let size = closed_size(factor, &all);
+    writer.entries(factor, &all, Limit::Default)?;
+    writer.entries(factor, &all, Limit::At(size - 1))?;
+    writer.entries(factor, &[(n - 1, 0)], Limit::Default)?;
+    let some = some_pairs(&mut writer.random, n);
+    writer.entries(factor, &some, Limit::Default)?;
+    writer.case("diagorig", &diagonal_body(&grid))
+}
+
+/// Twenty pairs anywhere.
+pub fn some_pairs(random: &mut Random, n: usize) -> Vec<Pair> {
+    (0..20).map(|_| (random.below(n), random.below(n))).collect()
+}
+
 /// A factor whose every column has its diagonal and the next row.
-fn chain(writer: &mut Writer, n: usize) -> io::Result<()> {
+pub fn chain(writer: &mut Writer, n: usize) -> io::Result<()> {
     let random = &mut writer.random;
     let mut columns: Vec<Column> =
         (0..n - 1).map(|c| vec![(c, 1.0 + random.unit()), (c + 1, ordinary(random))]).collect();
@@ -107,16 +116,17 @@ fn chain(writer: &mut Writer, n: usize) -> io::Result<()> {
 }
 
 /// A factor whose first column is full, the others diagonals alone: the closed set of (0,0) is the whole triangle.
-fn star(n: usize) -> Factor {
+pub fn star(n: usize) -> Factor {
     let mut columns: Vec<Column> = (0..n).map(|c| vec![(c, 2.0)]).collect();
     columns[0] = (0..n).map(|r| (r, 1.0)).collect();
     Factor::from_columns(&columns)
 }
 
-/// The whole triangle of 2,048, and full factors on both sides of 1,048,576 stored entries.
+/// The whole triangles of 2,048 and 4,096, and full factors on both sides of 1,048,576 stored entries.
 pub fn huge(writer: &mut Writer) -> io::Result<()> {
-    let n = 2048;
-    writer.entries(&star(n), &[(0, 0)], Limit::At(n * (n + 1) / 2))?;
+    for n in [2048, 4096] {
+        writer.entries(&star(n), &[(0, 0)], Limit::At(n * (n + 1) / 2))?;
+    }
     for n in [1447, 1448] {
         let entry = |c: usize, r: usize| (r, if r == c { 40.0 } else { 1.0 });
         let columns: Vec<Column> = (0..n).map(|c| (c..n).map(|r| entry(c, r)).collect()).collect();
@@ -129,7 +139,7 @@ pub fn huge(writer: &mut Writer) -> io::Result<()> {
 
 /// The cases of the benchmark.
 pub fn timing(writer: &mut Writer) -> io::Result<()> {
-    for side in [16, 32, 45] {
+    for side in [16, 32, 45, 64] {
         for (order, word) in [(Order::Natural, "natural"), (Order::Nested, "nd")] {
             let grid = grid(side, side, order, None);
             let (factor, n) = (&grid.factor, grid.factor.n);

@@ -8,6 +8,11 @@ use std::fmt;
 /// The largest number that a word of a list holds.
 pub const MOST: usize = u32::MAX as usize;
 
+/// A limit that does not fit 32 bits; what is left of it in these is one less than the size.
+pub fn past_a_word(size: usize) -> Limit {
+    Limit::At(MOST + size)
+}
+
 #[derive(Clone, Copy, PartialEq)]
 pub enum Limit {
     Default,
@@ -52,15 +57,16 @@ pub fn some_limit(random: &mut Random, size: usize) -> Limit {
         1 => Limit::At(size.saturating_sub(1)),
         2 | 3 => Limit::At(size),
         4 => Limit::At(size + 1),
-        5 => Limit::At(MOST),
+        5 => past_a_word(size),
         6 if size > 0 => Limit::At(random.below(size)),
         _ => Limit::Default,
     }
 }
 
 pub fn all_limits(size: usize) -> Vec<Limit> {
-    let numbers = [0, size.saturating_sub(1), size, size + 1, MOST];
-    let mut limits: Vec<Limit> = numbers.into_iter().map(Limit::At).chain([Limit::Default]).collect();
+    let numbers = [0, size.saturating_sub(1), size, size + 1, MOST, usize::MAX];
+    let mut limits: Vec<Limit> =
+        numbers.into_iter().map(Limit::At).chain([past_a_word(size), Limit::Default]).collect();
     limits.dedup();
     limits
 }

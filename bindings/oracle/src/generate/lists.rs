@@ -67,7 +67,7 @@ pub fn permutations(writer: &mut Writer) -> io::Result<()> {
         }
     }
     for k in 0..200 {
-        let n = writer.random.pick(&[5, 10, 64, 500, 2047, 2048, 2049]);
+        let n = writer.random.pick(&[5, 10, 64, 500, 2049, 4095, 4096, 4097]);
         if n <= 500 || k <= 40 {
             some_permutation(writer, n)?;
         }

@@ -11,6 +11,7 @@ mod refused;
 mod small;
 mod values;
 mod variances;
+mod wide;
 mod writer;
 
 use cases::random::Random;
@@ -21,7 +22,7 @@ use writer::Writer;
 type Set = (&'static str, fn(&mut Writer) -> io::Result<()>);
 
 /// A set's place goes into its seed.
-const SETS: [Set; 19] = [
+const SETS: [Set; 20] = [
     ("worked", small::worked),
     ("tiny", small::tiny),
     ("random", entries::random),
@@ -41,6 +42,7 @@ const SETS: [Set; 19] = [
     ("refuse", refused::refused),
     ("timing", grids::timing),
     ("huge", grids::huge),
+    ("wide", wide::wide),
 ];
 
 fn main() -> ExitCode {

@@ -131,7 +131,7 @@ fn operator_calls(writer: &mut Writer, spoilt: &Factor, n: usize) -> io::Result<
 
 /// Dimensions at the largest, and past it.
 fn sizes(writer: &mut Writer) -> io::Result<()> {
-    for n in [2048, 2049, 3000] {
+    for n in [4096, 4097, 5000] {
         let body = Body::new().factor(&diagonal_factor(n, 1.0));
         writer.case("entries", &body.clone().requests(n, &[(0, 0)]).field("limit", "default"))?;
         let reversed: Vec<usize> = (0..n).rev().collect();

@@ -50,8 +50,8 @@ pub fn worked(writer: &mut Writer) -> io::Result<()> {
     let body = Body::new().field("floor", "mean").field("scale", "3fe0000000000000").values("input", &[4.0, -2.0, 0.0]);
     let expected = ["floor 4000000000000000", "hits 2", "out 3 4010000000000000 4000000000000000 4000000000000000"];
     writer.named("floor", "floor-4-m2-0-half", &body.expect(&expected))?;
-    // Document 01 refuses it with 1; the Rust answers.
-    writer.named_entries("n2049", &diagonal_factor(2049, 1.0), &[(0, 0)], Limit::At(3), &["reply ok"])
+    // Refused with 1; the Rust answers.
+    writer.named_entries("n4097", &diagonal_factor(4097, 1.0), &[(0, 0)], Limit::At(3), &["reply ok"])
 }
 
 fn worked_f2(writer: &mut Writer) -> io::Result<()> {
