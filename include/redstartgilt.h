@@ -36,9 +36,9 @@ typedef char redstartgilt_size_t_has_64_bits[sizeof(size_t) == 8 ? 1 : -1];
  *       a row's variance, beyond 2^40 in the variances along a track
  *   21  weights: a low one above its high one, one beyond 1,024 in size, or more than 64 terms
  *   22  a width of 0, above 1,024 or above the track's length
- * No call of this header gives the others, which are named for calls that are not in it:
- *   23  a kept diagonal other than 1 beside pivots
- *   24  an empty request list of a dimension above 0 that is to be written as a file */
+ *   24  an empty request list of a dimension above 0 that is to be written as a file
+ * No call of this header gives the other, which is named for calls that are not in it:
+ *   23  a kept diagonal other than 1 beside pivots */
 enum {
     REDSTARTGILT_ACCEPTED = 0,
     REDSTARTGILT_TOO_LARGE = 1,
@@ -103,6 +103,9 @@ typedef struct { uint32_t refusal; double floor; size_t floor_hits; } redstartgi
 /* The reply of reading a request file: a refusal, or the dimension and the number of requests written. On a refusal both
  * are 0. */
 typedef struct { uint32_t refusal; size_t dimension; size_t requests; } redstartgilt_requests;
+
+/* The reply of writing requests as a file: a refusal, or how many bytes the file has. On a refusal these are 0. */
+typedef struct { uint32_t refusal; size_t bytes; } redstartgilt_bytes;
 
 /* How many values are negative, and the least of all. */
 typedef struct { size_t num_negative; double min_value; } redstartgilt_least;
@@ -433,10 +436,11 @@ redstartgilt_pairs redstartgilt_dependency_chain(
  * spaces and tabs are skipped. A number is one or more digits, however many; spaces and tabs part the numbers of a line
  * and may also stand around them.
  *
- * Request k is (rows[k], columns[k]): the indices of entry k, each less 1, in file order, repeats kept. With the reply's
- * dimension and its number of requests for both lengths they are a request of selected entries. Both lists need a place
- * for each entry: 1,048,576 places are enough for every file, so are as many as the text has LFs, and the size line has
- * the number itself. Refuses, in this order, each step for the whole file before the next:
+ * Request k is (rows[k], columns[k]): the indices of entry k, each less 1, in file order, repeats kept. A file without
+ * entries means every diagonal cell: request k is then (k, k), for each k below the size. With the reply's dimension and
+ * its number of requests for both lengths they are a request of selected entries. Both lists need a place for each
+ * request: 1,048,576 places are enough for every file, so is the greater of 4,096 and the number of LFs in the text, and
+ * the size line has the number itself, its entry count or, where that is 0, its size. Refuses, in this order, each step for the whole file before the next:
  *   15  another first line, or none
  *   16  a size or entry line that is missing or not of this form, unequal sizes, a size above 4,096, an entry count that
  *       is above 1,048,576 or not the number of entry lines
@@ -449,6 +453,30 @@ redstartgilt_pairs redstartgilt_dependency_chain(
  * gives refusal 0, dimension 3 and 2 requests, (2, 0) and (1, 1). */
 redstartgilt_requests redstartgilt_read_requests(
     const uint8_t *text, size_t text_len, uint32_t *rows, size_t rows_len, uint32_t *columns, size_t columns_len);
+
+/* Requests as a Matrix Market file, at the front of the output: the header, the size line with the number of distinct
+ * pairs, and an entry line for each pair, once, by column then row, its indices counted from 1; no comments, single
+ * spaces, no leading zeros, LF after every line. Requests that are one set of pairs of one dimension give equal bytes, in
+ * any order and with any repeats; the call above reads the file back as that set. Row and column are not exchanged. T is
+ * that of the dimension; the scratch needs ceil(T/32) words. A file has at most 75 bytes and 10 for each distinct pair.
+ * Refuses, in this order, each step for the whole list before the next:
+ *   1   a dimension above 4,096, or rows_len above 1,048,576
+ *   4   rows_len not columns_len
+ *   5   an index of the dimension or more, or a row less than its column
+ *   24  no requests, of a dimension above 0
+ *   7   fewer than ceil(T/32) words of scratch
+ *   7   an output shorter than the file
+ * The first ceil(T/32) words of the scratch are 0 after an answer and after a short output, which is as it was. The time
+ * is that of the words of scratch, the requests and the bytes.
+ *
+ *   const uint32_t rows[] = {1, 0, 1}, columns[] = {0, 0, 0};
+ *   uint32_t scratch[1];
+ *   uint8_t output[96];
+ *   redstartgilt_bytes written = redstartgilt_write_requests(2, rows, 3, columns, 3, output, 96, scratch, 1);
+ * gives refusal 0 and 65 bytes, whose lines behind the header are 2 2 2, 1 1 and 2 1. */
+redstartgilt_bytes redstartgilt_write_requests(
+    size_t dimension, const uint32_t *rows, size_t rows_len, const uint32_t *columns, size_t columns_len,
+    uint8_t *output, size_t output_len, uint32_t *scratch, size_t scratch_len);
 
 /* The pairs of the factor's kept entries, ascending by row then column: pair k is (pair_rows[k], pair_columns[k]).
  * Scratch needs ceil(T/32) words, the outputs a place for each pair, at most the lesser of rows_len and T. Refuses with

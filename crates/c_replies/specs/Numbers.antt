@@ -18,6 +18,7 @@ use Rattle.c_replies.specs.declared.WholeEntryNumbers.{WholeEntryNumbers
 use Rattle.c_replies.specs.declared.BoundsNumbers.{BoundsNumbers}
 use Rattle.c_replies.specs.declared.PairNumbers.{PairNumbers}
 use Rattle.c_replies.specs.declared.RequestsNumbers.{RequestsNumbers}
+use Rattle.c_replies.specs.declared.BytesNumbers.{BytesNumbers}
 use Rattle.c_replies.specs.declared.FloorNumbers.{FloorNumbers}
 use Rattle.c_replies.specs.declared.LeastNumbers.{LeastNumbers}
 
@@ -75,6 +76,11 @@ pairNumbers (refused k) = record { refusal = k; pairs = 0 }
 abbrev pub requestsNumbers : Reply (ℕ × ℕ) → RequestsNumbers
 requestsNumbers (answered a) = record { refusal = 0; dimension = a .0; requests = a .1 }
 requestsNumbers (refused k) = record { refusal = k; dimension = 0; requests = 0 }
+
+-- requests as a file: how many bytes were written
+abbrev pub bytesNumbers : Reply ℕ → BytesNumbers
+bytesNumbers (answered count) = record { refusal = 0; bytes = count }
+bytesNumbers (refused k) = record { refusal = k; bytes = 0 }
 
 -- the floor, and how many values were raised to it
 abbrev pub floorNumbers : Reply StabilizedVariance → FloorNumbers

@@ -7,7 +7,8 @@ ghost use Rattle.dependency_chain.specs.Reply.{chainReply};
 ghost use Rattle.floor.specs.Floor.{stabilizedReply};
 ghost use Rattle.weight_ranges.specs.Ranges.{boundsReply};
 ghost use Rattle.requests_reader.specs.Reader.{readReply};
-ghost use Rattle.c_replies.specs.Numbers.{statusNumber, selectedNumbers, entryNumbers, countedNumbers, wholeEntryNumbers, boundsNumbers, pairNumbers, requestsNumbers, floorNumbers, leastNumbers};
+ghost use Rattle.requests_writer.specs.Writer.{writtenReply};
+ghost use Rattle.c_replies.specs.Numbers.{statusNumber, selectedNumbers, entryNumbers, countedNumbers, wholeEntryNumbers, boundsNumbers, pairNumbers, requestsNumbers, bytesNumbers, floorNumbers, leastNumbers};
 use dependency_chain::ChainPairs;
 use diagnostics::Selected;
 use diagnostics::SelectedInverseStatus;
@@ -18,6 +19,7 @@ use lookup::ordered::Entry;
 use lookup::whole::WholeEntry;
 use pattern_lists::listed::PatternPairs;
 use requests_reader::ReadRequests;
+use requests_writer::WrittenRequests;
 use verdicts::refusal_number;
 use weight_ranges::VarianceBounds;
 
@@ -76,6 +78,13 @@ pub struct RequestsNumbers {
     pub refusal: u32,
     pub dimension: usize,
     pub requests: usize,
+}
+
+// The answer of writing requests as a file.
+#[repr(C)]
+pub struct BytesNumbers {
+    pub refusal: u32,
+    pub bytes: usize,
 }
 
 // The answer of the floor.
@@ -234,6 +243,21 @@ pub fn requests_numbers(answer: ReadRequests) -> RequestsNumbers
             refusal: refusal_number(why),
             dimension: 0,
             requests: 0,
+        },
+    }
+}
+
+pub fn bytes_numbers(answer: WrittenRequests) -> BytesNumbers
+    ensures { λ r. ⌜ r ≡ bytesNumbers (writtenReply answer) ⌝ }
+{
+    match answer {
+        WrittenRequests::Written(count) => BytesNumbers {
+            refusal: 0,
+            bytes: count,
+        },
+        WrittenRequests::Refused(why) => BytesNumbers {
+            refusal: refusal_number(why),
+            bytes: 0,
         },
     }
 }

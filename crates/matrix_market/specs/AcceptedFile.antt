@@ -1,23 +1,24 @@
 -- An accepted file is a request: what holds of a file that no step refuses.
 -- Assumes nothing.
-use Prim.Native.Nat.{ℕ, zero, suc, _-_, _≤_, _<_}
+use Prim.Native.Nat.{ℕ, _≤_, _<_}
 use native.Mathlib.Omega.{arith}
-use native.Mathlib.Nat.{not-suc-le-zero, le-of-suc-le-suc}
 use mathlib.Core.Path.{_≡_, sym, ap, _∙_}
-use mathlib.Core.Bool.{Bool, true, false}
-use mathlib.Core.List.{List, [], _∷_, _++_}
+use mathlib.Core.Bool.{true, false}
+use mathlib.Core.List.{List, [], _∷_, _++_, map}
 use lib.Dec.{eqb}
 use lib.ListN.{length, getD, length-map}
 use borrow.Author.Tests.{eqb-true, eqb-false, ltb-false, not-false}
 use Rattle.lists.specs.Every.{some}
 use Rattle.lists.specs.Test.{or-neither-left, or-neither-right}
 use Rattle.lists.specs.Select.{getD-mapped}
+use Rattle.lists.specs.Tabulate.{tabulate-length, tabulate-at}
 use Rattle.refusal.specs.Bounds.{maxDimension, maxEntries}
 use Rattle.refusal.specs.Steps.{Step, Passed, Clear, passed-clear, clear-passed, passed-front, passed-back}
 use Rattle.matrix_market.specs.Text.{lines}
+use Rattle.matrix_market.specs.Members.{some-below}
 use Rattle.matrix_market.specs.Examples.{told, sample, sample-passes}
-use Rattle.matrix_market.specs.File.{header, firstLine, sizeFields, entries, number, dimensionOf, pairOf, fileRequests, fileRows, fileColumns}
-use Rattle.matrix_market.specs.File.{sameBytes, sameBytes-equal, outsideIndex, outsidePair, outsideEntry, requests-kept}
+use Rattle.matrix_market.specs.File.{header, firstLine, sizeFields, entries, number, dimensionOf, pairOf, diagonalPair, everyDiagonal, standFor, fileRequests, fileRows, fileColumns}
+use Rattle.matrix_market.specs.File.{sameBytes, sameBytes-equal, outsideIndex, outsidePair, outsideEntry, requestRows, requestColumns, requests-most}
 use Rattle.matrix_market.specs.File.{fileSizeSteps, fileEntrySteps, fileRoomSteps, fileSteps}
 
 -- the header, sizes and requests within the bounds, as many entries as counted, each request inside on or below the diagonal, and room for them
@@ -57,12 +58,39 @@ outsidePair-inside n row column h =
       column-most = ltb-false row column (or-neither-right (outsideIndex n column) _ later);
     }
 
--- what holds of no element does not hold of element k
-some-below : {A : Type 0} (test : A → Bool) (l : List A) (k : ℕ) (d : A) → some test l ≡ false → k < length l → test (getD l k d) ≡ false
-unfolding some
-some-below test [] k d e h = absurd (not-suc-le-zero h)
-some-below test (x ∷ l) zero d e h = or-neither-left (test x) _ e
-some-below test (x ∷ l) (suc k) d e h = some-below test l k d (or-neither-right (test x) _ e) (le-of-suc-le-suc h)
+-- ---- the requests of a file
+-- inside n, on or below the diagonal
+pub record InsideRequest (n : ℕ) (rows columns : List ℕ) (k : ℕ) : Type 0 where
+  pub inside : getD rows k 0 < n
+  pub below : getD columns k 0 ≤ getD rows k 0
+
+module _ (n k : ℕ) where
+  abbrev Inside : List (ℕ × ℕ) → Type 0
+  Inside requests = InsideRequest n (requestRows requests) (requestColumns requests) k
+
+  -- a pair at a place of a list of requests
+  request-inside : (requests : List (ℕ × ℕ)) (row column : ℕ) → k < length requests → getD requests k (0, 0) ≡ (row, column) → row < n → column ≤ row → Inside requests
+  request-inside requests row column l e h m =
+      let r : getD (requestRows requests) k 0 ≡ row = getD-mapped (λ (p : ℕ × ℕ). p .0) requests k (0, 0) 0 l ∙ ap (λ (p : ℕ × ℕ). p .0) e in
+      let c : getD (requestColumns requests) k 0 ≡ column = getD-mapped (λ (p : ℕ × ℕ). p .1) requests k (0, 0) 0 l ∙ ap (λ (p : ℕ × ℕ). p .1) e in
+      record { inside = omega (arith, r); below = omega (arith, r, c) }
+
+  -- a diagonal pair
+  diagonal-inside : k < length (everyDiagonal n) → Inside (everyDiagonal n)
+  diagonal-inside l =
+      let h : k < n = omega (arith, tabulate-length diagonalPair n) in
+      request-inside (everyDiagonal n) k k l (tabulate-at diagonalPair n k (0, 0) h) h (omega arith)
+
+  -- the pair of an entry
+  entry-inside : (es : List (List (List ℕ))) → some (outsideEntry n) es ≡ false → k < length (map pairOf es) → Inside (map pairOf es)
+  entry-inside es e l =
+      let h : k < length es = omega (arith, length-map es pairOf) in
+      let u = outsidePair-inside _ _ _ (some-below [] (outsideEntry n) es k e h) in
+      request-inside (map pairOf es) _ _ l (getD-mapped pairOf es k [] (0, 0) h) (omega (arith, u .row-least, u .row-most)) (omega (arith, u .column-most))
+
+  stands-inside : (es : List (List (List ℕ))) → some (outsideEntry n) es ≡ false → k < length (standFor n es) → Inside (standFor n es)
+  stands-inside [] e l = diagonal-inside l
+  stands-inside (x ∷ es) e l = entry-inside (x ∷ es) e l
 
 -- ---- the theorem
 module _ (text : List ℕ) (rows columns : ℕ) (p : Passed (fileSteps text rows columns)) where
@@ -98,35 +126,13 @@ module _ (text : List ℕ) (rows columns : ℕ) (p : Passed (fileSteps text rows
   few-requests : length (fileRequests text) ≤ maxEntries
   unfolding fileSizeSteps
   few-requests =
+      let small : dimensionOf text ≤ maxDimension = ltb-false _ _ (size-clear .1 .0) in
       let most : number 2 (sizeFields text) ≤ maxEntries = ltb-false _ _ (size-clear .1 .1 .1 .0) in
-      omega (arith, most, count-right, requests-kept (dimensionOf text) (entries text))
+      requests-most (dimensionOf text) (entries text) maxEntries (omega arith) (omega (arith, count-right))
 
-  -- request k is the pair of entry k, which is inside
-  module _ (k : ℕ) (l : k < length (fileRequests text)) where
-    abbrev entry : List (List ℕ)
-    entry = getD (entries text) k []
-
-    entry-there : k < length (entries text)
-    entry-there = omega (arith, l, requests-kept (dimensionOf text) (entries text))
-
-    request-is : getD (fileRequests text) k (0, 0) ≡ pairOf entry
-    request-is = getD-mapped pairOf (entries text) k [] (0, 0) entry-there
-
-    entry-inside : InsidePair (dimensionOf text) (number 0 entry) (number 1 entry)
-    unfolding fileEntrySteps
-    entry-inside = outsidePair-inside _ _ _ (some-below (outsideEntry (dimensionOf text)) (entries text) k [] (entry-clear .1 .1 .0) entry-there)
-
-    row-is : getD (fileRows text) k 0 ≡ number 0 entry - 1
-    row-is = getD-mapped (λ (r : ℕ × ℕ). r .0) (fileRequests text) k (0, 0) 0 l ∙ ap (λ (r : ℕ × ℕ). r .0) request-is
-
-    column-is : getD (fileColumns text) k 0 ≡ number 1 entry - 1
-    column-is = getD-mapped (λ (r : ℕ × ℕ). r .1) (fileRequests text) k (0, 0) 0 l ∙ ap (λ (r : ℕ × ℕ). r .1) request-is
-
-    row-inside : getD (fileRows text) k 0 < dimensionOf text
-    row-inside = omega (arith, row-is, entry-inside .row-least, entry-inside .row-most)
-
-    column-below : getD (fileColumns text) k 0 ≤ getD (fileRows text) k 0
-    column-below = omega (arith, row-is, column-is, entry-inside .column-most)
+  request-within : (k : ℕ) → k < length (fileRequests text) → InsideRequest (dimensionOf text) (fileRows text) (fileColumns text) k
+  unfolding fileEntrySteps
+  request-within k l = stands-inside (dimensionOf text) k (entries text) (entry-clear .1 .1 .0) l
 
   pub file-accepted : AcceptedFile text rows columns
   unfolding fileSizeSteps
@@ -139,8 +145,8 @@ module _ (text : List ℕ) (rows columns : ℕ) (p : Passed (fileSteps text rows
         few = few-requests;
         rows-long = length-map (fileRequests text) (λ (r : ℕ × ℕ). r .0);
         columns-long = length-map (fileRequests text) (λ (r : ℕ × ℕ). r .1);
-        inside = row-inside;
-        below = column-below;
+        inside = λ k l. request-within k l .inside;
+        below = λ k l. request-within k l .below;
         rows-room = ltb-false rows _ (room-clear .0);
         columns-room = ltb-false columns _ (room-clear .1 .0);
       }

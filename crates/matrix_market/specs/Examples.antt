@@ -1,37 +1,44 @@
 -- Files, and what is told and read of them.
 -- Assumes nothing.
-use Prim.Native.Nat.{ℕ}
+use Prim.Native.Nat.{ℕ, _+_, _<_}
+use native.Mathlib.Omega.{arith}
 use Prim.Native.Char.{code}
 use Prim.Native.String.{String, [] as ended, _∷_ as _then_}
 use mathlib.Core.Path.{_≡_, refl}
-use mathlib.Core.Bool.{cond}
-use mathlib.Core.List.{List, [], _∷_, _++_}
+use mathlib.Core.Bool.{Bool, false, cond, _&&_, _||_}
+use mathlib.Core.List.{List, [], _∷_, _++_, map}
 use lib.Dec.{eqb}
 use lib.ListN.{replicate}
 use Rattle.lists.specs.Every.{every, some}
+use Rattle.lists.specs.Sum.{sumTo}
+use Rattle.lists.specs.Select.{select, picked}
+use Rattle.lists.specs.Tabulate.{tabulate}
+use Rattle.lists.specs.Cells.{cells, cellCount}
 use Rattle.refusal.specs.Steps.{Reply, refused, answered, first, verdict, Passed}
-use Rattle.matrix_market.specs.Text.{onFirst, split, fields, isBlank, nonempty, isDigit, numeral}
+use Rattle.matrix_market.specs.Text.{joined, onFirst, split, fields, isBlank, nonempty, isDigit, numeral}
 use Rattle.matrix_market.specs.File.{header, sameBytes, comment, fromSize, firstLine, laterLines, body, sizeFields, entries, areNumbers, outsidePair}
 use Rattle.matrix_market.specs.File.{fileRequests, fileRows, fileColumns, fileSizeSteps, fileEntrySteps, fileSteps, fileAnswer}
+use Rattle.matrix_market.specs.Decimal.{digitsWithin, decimal, decimal-leads}
+use Rattle.matrix_market.specs.FileOf.{spaced, fileOf}
 
 -- the bytes of a text; the file that begins with the header and goes on with a text
-bytes : String → List ℕ
+unfoldable pub bytes : String → List ℕ
 bytes ended = []
 bytes (c then s) = code c ∷ bytes s
 
-headed : String → List ℕ
+unfoldable pub headed : String → List ℕ
 unfolding bytes
 headed s = header ++ bytes s
 
 -- a verdict as a number: that of the refusal, 0 where there is none
-abbrev numberOf : Reply (Unit {0}) → ℕ
+abbrev pub numberOf : Reply (Unit {0}) → ℕ
 numberOf (refused k) = k
 numberOf (answered tt) = 0
 
 -- what is told of a file where each list has 4 places, and of a size line
 unfoldable pub told : List ℕ → ℕ
 unfolding first fileSteps fileSizeSteps fileEntrySteps sameBytes some every areNumbers outsidePair sizeFields firstLine entries body laterLines fromSize comment
-    nonempty split onFirst isBlank numeral isDigit
+    nonempty split onFirst isBlank numeral isDigit tabulate
 told text = numberOf (verdict (fileSteps text 4 4))
 
 sizeTold : List ℕ → ℕ
@@ -127,7 +134,11 @@ unfolding wrong told headed bytes
 indices-refused = refl
 
 -- ---- 7: a list too short
-room-refused : wrong told 7 (("five entries for four places", headed "\n2 2 5\n1 1\n2 1\n2 2\n1 1\n1 1\n") ∷ []) ≡ []
+room-refused :
+    wrong told 7
+    (("five entries for four places", headed "\n2 2 5\n1 1\n2 1\n2 2\n1 1\n1 1\n")
+    ∷ ("no entries of five columns: five diagonal pairs", headed "\n5 5 0\n")
+    ∷ []) ≡ []
 unfolding wrong told headed bytes
 room-refused = refl
 
@@ -140,6 +151,7 @@ accepted-files :
     ∷ ("tabs and spaces between and around numbers", headed "\n\t2 \t2  1 \n \t2\t1\t\n")
     ∷ ("blank lines before and behind each line", headed "\n\n%c\n \n%d\n\t\n2 2 1\n\n1 1\n \n")
     ∷ ("any byte in a comment", headed "\n%%\r\u{b}\0 2 2\n2 2 0\n")
+    ∷ ("no entries of four columns", headed "\n4 4 0\n")
     ∷ ("as many requests as places", headed "\n2 2 4\n1 1\n2 1\n2 2\n2 2\n")
     ∷ []) ≡ []
 unfolding wrong told headed bytes
@@ -194,3 +206,43 @@ rows-short = refl
 columns-short : first (fileSteps sample 4 3) (fileAnswer sample) ≡ refused 7
 unfolding told sample
 columns-short = refl
+
+-- ---- a file without entries: every diagonal pair, ascending; none where there are no columns
+diagonals-read : fileRequests (headed "\n3 3 0\n") ≡ (0, 0) ∷ (1, 1) ∷ (2, 2) ∷ []
+unfolding told headed bytes
+diagonals-read = refl
+
+none-read : fileRequests (headed "\n0 0 0\n") ≡ []
+unfolding told headed bytes
+none-read = refl
+
+diagonals-answer : first (fileSteps (headed "\n3 3 0\n") 3 3) (fileAnswer (headed "\n3 3 0\n")) ≡ answered (3, 3)
+unfolding told headed bytes
+diagonals-answer = refl
+
+-- ---- what is written: digits, and no leading zero
+digits-written : map decimal (0 ∷ 9 ∷ 10 ∷ 4096 ∷ 1048576 ∷ []) ≡ bytes "0" ∷ bytes "9" ∷ bytes "10" ∷ bytes "4096" ∷ bytes "1048576" ∷ []
+unfolding decimal digitsWithin bytes
+digits-written = refl
+
+no-leading-zero : 48 < 52
+unfolding decimal digitsWithin
+no-leading-zero = decimal-leads 4096 (omega arith)
+
+-- the pairs (0, 0), (2, 0), (1, 1) of three columns: column by column, not row by row
+corner : ℕ → ℕ → Bool
+corner r c = eqb (r + c) 2 || (eqb r 0 && eqb c 0)
+
+corner-written : fileOf 3 corner ≡ headed "\n3 3 3\n1 1\n3 1\n2 2\n"
+unfolding fileOf joined spaced decimal digitsWithin cells cellCount sumTo select picked corner headed bytes
+corner-written = refl
+
+-- the last pair of ten columns
+last-written : fileOf 10 (λ r c. eqb r 9 && eqb c 9) ≡ headed "\n10 10 1\n10 10\n"
+unfolding fileOf joined spaced decimal digitsWithin cells cellCount sumTo select picked headed bytes
+last-written = refl
+
+-- no columns
+none-written : fileOf 0 (λ _ _. false) ≡ headed "\n0 0 0\n"
+unfolding fileOf joined spaced decimal digitsWithin cells cellCount sumTo select picked headed bytes
+none-written = refl

@@ -1,13 +1,16 @@
 -- A Matrix Market file of requests: its header, size line and entry lines, what is refused of it, and its requests.
 -- Assumes nothing.
-use Prim.Native.Nat.{ℕ, _-_}
-use mathlib.Core.Path.{_≡_, refl, ap₂}
+use Prim.Native.Nat.{ℕ, _-_, _≤_, _<_}
+use native.Mathlib.Omega.{arith}
+use native.Mathlib.Nat.{not-suc-le-zero}
+use mathlib.Core.Path.{_≡_, refl, sym, ap, ap₂, _∙_}
 use mathlib.Core.Bool.{Bool, true, false, cond, not, _&&_, _||_, false≢true}
 use mathlib.Core.List.{List, [], _∷_, _++_, map}
 use lib.Dec.{eqb, ltb}
 use lib.ListN.{length, getD, length-map}
-use borrow.Author.Tests.{eqb-true, eq-eqb}
+use borrow.Author.Tests.{eqb-true, eq-eqb, ne-eqb}
 use Rattle.lists.specs.Every.{every, some}
+use Rattle.lists.specs.Tabulate.{tabulate, tabulate-length}
 use Rattle.lists.specs.Test.{and-left, and-right, and-both}
 use Rattle.refusal.specs.Bounds.{maxDimension, maxEntries}
 use Rattle.refusal.specs.Steps.{Step}
@@ -78,9 +81,17 @@ dimensionOf text = number 0 (sizeFields text)
 abbrev pub pairOf : List (List ℕ) → ℕ × ℕ
 pairOf entry = (number 0 entry - 1, number 1 entry - 1)
 
--- the requests that the entries of a file of this dimension stand for: their pairs, in file order
+-- the diagonal pairs of n columns, ascending
+abbrev pub diagonalPair : ℕ → ℕ × ℕ
+diagonalPair c = (c, c)
+
+abbrev pub everyDiagonal : ℕ → List (ℕ × ℕ)
+everyDiagonal n = tabulate diagonalPair n
+
+-- the requests that the entries of a file of this dimension stand for: their pairs, in file order; no entries stand for every diagonal pair
 abbrev pub standFor : ℕ → List (List (List ℕ)) → List (ℕ × ℕ)
-standFor n es = map pairOf es
+standFor n [] = everyDiagonal n
+standFor n (e ∷ es) = map pairOf (e ∷ es)
 
 abbrev pub fileRequests : List ℕ → List (ℕ × ℕ)
 fileRequests text = standFor (dimensionOf text) (entries text)
@@ -155,9 +166,28 @@ abbrev pub fileColumns : List ℕ → List ℕ
 fileColumns text = requestColumns (fileRequests text)
 
 -- ---- laws
--- as many requests as entries: repeats are kept
-pub requests-kept : (n : ℕ) (es : List (List (List ℕ))) → length (standFor n es) ≡ length es
-requests-kept n es = length-map es pairOf
+-- entries stand for their pairs: as many requests, repeats kept
+pub stand-entries : (n : ℕ) (es : List (List (List ℕ))) → 0 < length es → standFor n es ≡ map pairOf es
+stand-entries n [] h = absurd (not-suc-le-zero h)
+stand-entries n (e ∷ es) h = refl
+
+-- no entries stand for every diagonal pair
+pub stand-diagonals : (n : ℕ) (es : List (List (List ℕ))) → length es ≡ 0 → standFor n es ≡ everyDiagonal n
+stand-diagonals n [] h = refl
+stand-diagonals n (e ∷ es) h = absurd (omega arith)
+
+-- how many requests so many entries stand for
+abbrev pub requestCount : ℕ → ℕ → ℕ
+requestCount n entries = cond (eqb entries 0) n entries
+
+pub requests-count : (n : ℕ) (es : List (List (List ℕ))) → length (standFor n es) ≡ requestCount n (length es)
+requests-count n [] = tabulate-length diagonalPair n
+requests-count n (e ∷ es) =
+    length-map (e ∷ es) pairOf ∙ sym (ap (λ (b : Bool). cond b n (length (e ∷ es))) (ne-eqb (length (e ∷ es)) 0 (λ q. omega (arith, q))))
+
+pub requests-most : (n : ℕ) (es : List (List (List ℕ))) (most : ℕ) → n ≤ most → length es ≤ most → length (standFor n es) ≤ most
+requests-most n [] most h l = omega (arith, tabulate-length diagonalPair n)
+requests-most n (e ∷ es) most h l = omega (arith, length-map (e ∷ es) pairOf)
 
 -- lists of bytes are the same exactly if they are equal
 pub sameBytes-equal : (s t : List ℕ) → sameBytes s t ≡ true → s ≡ t

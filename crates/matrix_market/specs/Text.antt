@@ -89,7 +89,7 @@ module _ (ends : ℕ → Bool) where
     part-of true b l r d p h = absurd (false≢true p)
     part-of false b l r d p h = ap (onFirst b) (h p)
 
-    part-first : (l r : List ℕ) → solid ends l ≡ true → split ends (l ++ (e ∷ r)) ≡ l ∷ split ends r
+    pub part-first : (l r : List ℕ) → solid ends l ≡ true → split ends (l ++ (e ∷ r)) ≡ l ∷ split ends r
     unfolding split every
     part-first [] r p = rw is-end
     part-first (b ∷ l) r p = part-of (ends b) b l r refl p (part-first l r)
@@ -147,7 +147,8 @@ pub lines-read : (ls : List (List ℕ)) → every (solid lineEnd) ls ≡ true �
 lines-read = split-joined lineEnd 10 refl
 
 -- ---- laws of fields
-abbrev filledOne : List ℕ → Bool
+-- not empty
+abbrev pub filledOne : {A : Type 0} → List A → Bool
 filledOne f = not (empty f)
 
 nonempty-every : (test : List ℕ → Bool) (ls : List (List ℕ)) → every test ls ≡ true → every test (nonempty ls) ≡ true
@@ -169,11 +170,11 @@ fields-filled line = all (split isBlank line)
     all ([] ∷ ls) = all ls
     all ((b ∷ l) ∷ ls) = all ls
 
-nonempty-same : (ls : List (List ℕ)) → every filledOne ls ≡ true → nonempty ls ≡ ls
+pub nonempty-same : {A : Type 0} (ls : List (List A)) → every filledOne ls ≡ true → nonempty ls ≡ ls
 unfolding nonempty every
 nonempty-same [] h = refl
 nonempty-same ([] ∷ ls) h = absurd (false≢true h)
-nonempty-same ((b ∷ l) ∷ ls) h = ap (λ (r : List (List ℕ)). (b ∷ l) ∷ r) (nonempty-same ls h)
+nonempty-same {A} ((b ∷ l) ∷ ls) h = ap (λ (r : List (List A)). (b ∷ l) ∷ r) (nonempty-same ls h)
 
 -- fields put together with a space behind each are read back
 pub fields-read : (fs : List (List ℕ)) → every (solid isBlank) fs ≡ true → every filledOne fs ≡ true → fields (joined 32 fs) ≡ fs

@@ -4,4 +4,5 @@ pub mod SizeLaws
 pub mod OverwriteLaws
 pub mod EntryLaws
 pub mod StoreLaws
+pub mod RequestLaws
 pub mod ReaderLaws

@@ -4,7 +4,7 @@ use Prim.Native.Nat.{ℕ, _≤_, _<_}
 use native.Mathlib.Omega.{arith}
 use mathlib.Core.Path.{_≡_, sym, ap, ap₂, _∙_}
 use mathlib.Core.Bool.{Bool, true, false, not}
-use mathlib.Core.List.{List, _++_, map}
+use mathlib.Core.List.{List, _++_}
 use lib.ListN.{length, drop}
 use borrow.Author.Tests.{lt-ltb, le-ltb, eq-eqb, ne-eqb}
 use Rattle.lists.specs.Every.{some}
@@ -14,13 +14,13 @@ use Rattle.refusal.specs.Steps.{Reply, refused, answered, Step, verdict, Passed
 use Rattle.refusal.specs.Steps.{append-refused, append-passed, after-refused, after-passed}
 use Rattle.matrix_market.specs.Text.{lines, fields}
 use Rattle.matrix_market.specs.File.{header, sameBytes, firstLine, laterLines, fromSize, body, lineEntries, sizeFields, entries, number, dimensionOf}
-use Rattle.matrix_market.specs.File.{pairOf, standFor, requestRows, requestColumns, fileRows, fileColumns, malformed, outsideEntry, requests-kept}
+use Rattle.matrix_market.specs.File.{standFor, fileRequests, requestRows, requestColumns, fileRows, fileColumns, malformed, outsideEntry, requestCount, requests-count}
 use Rattle.matrix_market.specs.File.{fileSizeSteps, fileEntrySteps, fileRoomSteps, fileSteps, fileAnswer}
 use Rattle.file_lines.specs.Scan.{restOf}
 use Rattle.file_lines.specs.Places.{fieldsAt}
 use Rattle.file_lines.proofs.ScanLaws.{firstLine-is, laterLines-are}
 use Rattle.requests_reader.specs.HeaderLines.{LabelAt, SizeAt, SizeRead}
-use Rattle.requests_reader.specs.EntryLines.{entriesFrom, Scanned, StoreEntriesInput, EntriesStored}
+use Rattle.requests_reader.specs.EntryLines.{entriesFrom, Scanned, StoreEntriesInput, RequestsStored}
 use Rattle.requests_reader.specs.Reader.{readReply, RequestsRead}
 use Rattle.requests_reader.specs.declared.ReadRequests.{ReadRequests}
 use Rattle.requests_reader.proofs.EntryLaws.{entriesOf}
@@ -157,12 +157,12 @@ module _ (text rows₀ columns₀ : List ℕ) where
         (first-skip 16 _ tt (c .is ∙ ap not f)
         (first-skip 16 _ tt (ap not (eq-eqb _ _ (c .counted f ∙ q))) (first-hit 17 _ tt (c .found f ∙ o)))))
 
-  module _ (n count p seen : ℕ) (e : EntriesPassed text n count p seen) where
-    requests-are : length (standFor n (entriesFrom text p)) ≡ seen
-    requests-are = requests-kept n (entriesFrom text p) ∙ e .counted
+  module _ (n count p seen requests : ℕ) (e : EntriesPassed text n count p seen) (t : requests ≡ requestCount n seen) where
+    requests-are : length (standFor n (entriesFrom text p)) ≡ requests
+    requests-are = requests-count n (entriesFrom text p) ∙ ap (requestCount n) (e .counted) ∙ sym t
 
     -- only the room is left
-    room-decides : (r : Reply (Unit {0})) → verdict (fileRoomSteps seen (length rows₀) (length columns₀)) ≡ r → verdict steps ≡ r
+    room-decides : (r : Reply (Unit {0})) → verdict (fileRoomSteps requests (length rows₀) (length columns₀)) ≡ r → verdict steps ≡ r
     unfolding fileEntrySteps
     room-decides r h =
         later-decide n count p (e .size) r
@@ -171,30 +171,29 @@ module _ (text rows₀ columns₀ : List ℕ) where
         (first-skip 17 _ tt (e .inside)
         (ap (λ (k : ℕ). verdict (fileRoomSteps k (length rows₀) (length columns₀))) requests-are ∙ h))))
 
-    pub rows-short : length rows₀ < seen → Refuses 7
+    pub rows-short : length rows₀ < requests → Refuses 7
     rows-short l = refuses 7 (room-decides _ (first-hit 7 _ tt (lt-ltb _ _ l)))
 
-    module _ (l : seen ≤ length rows₀) where
-      pub columns-short : length columns₀ < seen → Refuses 7
+    module _ (l : requests ≤ length rows₀) where
+      pub columns-short : length columns₀ < requests → Refuses 7
       columns-short m = refuses 7 (room-decides _ (first-skip 7 _ tt (le-ltb _ _ l) (first-hit 7 _ tt (lt-ltb _ _ m))))
 
-      module _ (m : seen ≤ length columns₀) where
+      module _ (m : requests ≤ length columns₀) where
         passed : Passed steps
         passed = room-decides _ (first-skip 7 _ tt (le-ltb _ _ l) (first-skip 7 _ tt (le-ltb _ _ m) (first-end tt)))
 
-        count-told : length (standFor (dimensionOf text) (entries text)) ≡ seen
-        count-told = requests-kept (dimensionOf text) (entries text) ∙ ap length (e .size .entries-are) ∙ e .counted
+        requests-told : standFor n (entriesFrom text p) ≡ fileRequests text
+        requests-told = ap₂ standFor (sym (e .size .n-is)) (sym (e .size .entries-are))
 
-        pub all-read : (r : ReadRequests) (rows columns : List ℕ) → readReply r ≡ answered (n, seen) → EntriesStored text p rows₀ columns₀ rows columns
+        pub all-read : (r : ReadRequests) (rows columns : List ℕ) → readReply r ≡ answered (n, requests) → RequestsStored (standFor n (entriesFrom text p)) rows₀ columns₀ rows columns
             → RequestsRead text rows₀ columns₀ r rows columns
         all-read r rows columns q w =
-            let es = sym (e .size .entries-are) in
             record {
-              replies = q ∙ ap₂ (λ (i k : ℕ). answered (i, k)) (sym (e .size .n-is)) (sym count-told) ∙ sym (first-passed _ (fileAnswer text) passed);
+              replies = q ∙ ap₂ (λ (i k : ℕ). answered (i, k)) (sym (e .size .n-is)) (sym requests-are ∙ ap length requests-told) ∙ sym (first-passed _ (fileAnswer text) passed);
               rows-are =
-                  w .rows-are ∙ ap (λ (l : List (List (List ℕ))). overwrite (requestRows (map pairOf l)) rows₀) es
+                  w .rows-are ∙ ap (λ (l : List (ℕ × ℕ)). overwrite (requestRows l) rows₀) requests-told
                   ∙ sym (after-passed steps (overwrite (fileRows text) rows₀) rows₀ passed);
               columns-are =
-                  w .columns-are ∙ ap (λ (l : List (List (List ℕ))). overwrite (requestColumns (map pairOf l)) columns₀) es
+                  w .columns-are ∙ ap (λ (l : List (ℕ × ℕ)). overwrite (requestColumns l) columns₀) requests-told
                   ∙ sym (after-passed steps (overwrite (fileColumns text) columns₀) columns₀ passed);
             }

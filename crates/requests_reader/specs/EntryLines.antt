@@ -68,9 +68,9 @@ pub record StoreEntriesInput (text : List ℕ) (p count : ℕ) : Type 0 where
   pub counted : length (entriesFrom text p) ≡ count
   pub within : p ≤ length text
 
--- both lists begin with the pairs of the entries from p on
-pub record EntriesStored (text : List ℕ) (p : ℕ) (rows₀ columns₀ rows columns : List ℕ) : Type 0 where
-  pub rows-are : rows ≡ overwrite (requestRows (pairsFrom text p)) rows₀
-  pub columns-are : columns ≡ overwrite (requestColumns (pairsFrom text p)) columns₀
+-- both lists begin with these requests
+pub record RequestsStored (requests : List (ℕ × ℕ)) (rows₀ columns₀ rows columns : List ℕ) : Type 0 where
+  pub rows-are : rows ≡ overwrite (requestRows requests) rows₀
+  pub columns-are : columns ≡ overwrite (requestColumns requests) columns₀
   pub rows-long : length rows ≡ length rows₀
   pub columns-long : length columns ≡ length columns₀

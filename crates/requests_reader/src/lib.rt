@@ -6,16 +6,18 @@ ghost use lib.ListN.{length};
 ghost use Rattle.requests_reader.specs.HeaderLines.{SizeRead};
 ghost use Rattle.requests_reader.specs.Reader.{RequestsRead};
 use entries::scan_entries;
-use entries::store_entries;
 use file_lines::read_triple;
 use front::first_line_is;
 use front::skip_comments;
 use refusal::MAX_DIMENSION;
 use refusal::MAX_ENTRIES;
 use refusal::Refusal;
+use requests::request_count;
+use requests::store_requests;
 
 pub mod entries;
 pub mod front;
+pub mod requests;
 
 // The dimension and the number of requests, or why the file is refused.
 pub enum ReadRequests {
@@ -69,7 +71,7 @@ fn not_a_size() -> Size
     }
 }
 
-// Reads the file's requests to the front of the two lists, in file order, repeats kept.
+// Reads the file's requests to the front of the two lists, in file order, repeats kept; a file without entries stands for every diagonal pair.
 pub fn read_requests(text: &[u8], rows: &mut [u32], columns: &mut [u32]) -> ReadRequests
     ensures { λ r. ⌜ RequestsRead (now (text .entry)) (now (rows .entry)) (now (columns .entry)) r (now (rows .exit)) (now (columns .exit)) ⌝ }
 {
@@ -92,12 +94,13 @@ pub fn read_requests(text: &[u8], rows: &mut [u32], columns: &mut [u32]) -> Read
     if scan.outside {
         return ReadRequests::Refused(Refusal::FileIndexOutside);
     }
-    if rows.len() < scan.count {
+    let requests = request_count(size.n, scan.count);
+    if rows.len() < requests {
         return ReadRequests::Refused(Refusal::TooShort);
     }
-    if columns.len() < scan.count {
+    if columns.len() < requests {
         return ReadRequests::Refused(Refusal::TooShort);
     }
-    store_entries(text, size.next, scan.count, rows, columns);
-    ReadRequests::Read(size.n, scan.count)
+    store_requests(text, size.next, size.n, scan.count, rows, columns);
+    ReadRequests::Read(size.n, requests)
 }

@@ -1,0 +1,4 @@
+pub mod ByteLaws
+pub mod MarkLaws
+pub mod ColumnLaws
+pub mod WriterLaws

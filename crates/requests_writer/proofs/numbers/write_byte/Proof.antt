@@ -1,0 +1,20 @@
+use borrow.Author.Needs.{needs}
+use Prim.Native.Nat.{_-_}
+use Rattle.requests_writer.proofs.ByteLaws.{wrote-byte}
+use Rattle.requests_writer.proofs.numbers.write_byte.Statement.{statement}
+use Rattle.requests_writer.proofs.numbers.write_byte.Tie as tie
+
+slice-write-text : tie.Need-slice-write-text
+slice-write-text c = search needs
+
+add-result : tie.Need-add-result
+add-result c = search needs
+
+same-length : tie.Need-same-length
+same-length c = search needs
+
+returns : tie.Need-returns
+returns c = wrote-byte _ _ _ (c .pre)
+
+pub write-byte-spec : {M : Type 1} → statement M
+write-byte-spec = tie.close (tie.spec slice-write-text add-result same-length returns)
