@@ -458,7 +458,7 @@ redstartgilt_requests redstartgilt_read_requests(
  * pairs, and an entry line for each pair, once, by column then row, its indices counted from 1; no comments, single
  * spaces, no leading zeros, LF after every line. Requests that are one set of pairs of one dimension give equal bytes, in
  * any order and with any repeats; the call above reads the file back as that set. Row and column are not exchanged. T is
- * that of the dimension; the scratch needs ceil(T/32) words. A file has at most 75 bytes and 10 for each distinct pair.
+ * that of the dimension; the scratch needs ceil(T/32) words. A file has at most 69 bytes and 10 for each distinct pair.
  * Refuses, in this order, each step for the whole list before the next:
  *   1   a dimension above 4,096, or rows_len above 1,048,576
  *   4   rows_len not columns_len

@@ -172,6 +172,15 @@ int main(void)
         printf(" (%u, %u)", (unsigned)read_rows[place], (unsigned)read_columns[place]);
     printf("\n");
 
+    /* The same requests as a file again, each pair once, by column then row; the scratch has a bit for each of 3 pairs. */
+    uint8_t output[96];
+    uint32_t pair_marks[1];
+    redstartgilt_bytes written = redstartgilt_write_requests(
+        requests.dimension, read_rows, requests.requests, read_columns, requests.requests,
+        output, COUNT(output), pair_marks, COUNT(pair_marks));
+    printf("written: refusal %u, %zu bytes:\n%.*s",
+        (unsigned)written.refusal, written.bytes, (int)written.bytes, (const char *)output);
+
     /* In whole numbers, exact: the factor of columns (1, -3) and (1), whose inverse is (10, 3; 3, 1). */
     const int64_t whole_values[] = {1, -3, 1};
     int64_t whole_result[3];

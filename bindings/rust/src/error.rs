@@ -82,8 +82,7 @@ pub enum Error {
     BadWeights,
     /// 22: a width of 0, above 1,024, or above the length of the track.
     BadWidth,
-    /// 23: a diagonal entry other than 1 in a factor with pivots; an entry of 0.0 counts as none. No call gives it yet, nor
-    /// the one below.
+    /// 23: a diagonal entry other than 1 in a factor with pivots; an entry of 0.0 counts as none. No call gives it yet.
     PivotDiagonalNotOne,
     /// 24: requests without a pair, of a dimension above 0, that are to be written as a file, where they would mean all
     /// diagonals.

@@ -2,7 +2,7 @@
 //!
 //! A list may be longer than needed; places past those filled keep their contents. A refused call leaves every list as
 //! it was, unless its documentation says otherwise. Lengths that suffice: [`result_places`], [`scratch_words`],
-//! [`pair_total`], [`request_places`], [`chain_words`], [`chain_places`] and [`track_runs`].
+//! [`pair_total`], [`request_places`], [`request_file_bytes`], [`chain_words`], [`chain_places`] and [`track_runs`].
 //!
 //! ```
 //! use redstartgilt::lent::{self, EntryLists, FactorLists, ResultLists};
@@ -70,11 +70,11 @@ mod wholes;
 
 pub use chains::dependency_chain;
 pub use factors::check_factor;
-pub use files::{read_requests, FileRequests};
+pub use files::{read_requests, write_requests, FileRequests};
 pub use floors::{count_and_least, stabilize_variances, Floored};
 pub use lengths::{
-    chain_places, chain_words, default_limit, mark_words, pair_total, request_places, result_places, scratch_words,
-    track_runs,
+    chain_places, chain_words, default_limit, mark_words, pair_total, request_file_bytes, request_places,
+    result_places, scratch_words, track_runs,
 };
 pub use lists::{EntryLists, FactorLists, Number, OperatorLists, ResultLists};
 pub use patterns::{from_cholesky_factor, from_transformed_operator};

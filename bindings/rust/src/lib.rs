@@ -79,7 +79,7 @@ pub use inverse::{
 pub use operator::SparseRowOperator;
 pub use pattern::SparseSymmetricPattern;
 pub use permutation::Permutation;
-pub use request_file::{RequestFileError, RequestFileFault, REQUEST_FILE_HEADER};
+pub use request_file::{RequestFileError, RequestFileFault, RequestFileWriteError, REQUEST_FILE_HEADER};
 pub use variances::{
     selected_inverse_diag, selected_inverse_diag_with_diagnostics, selected_inverse_diag_with_diagnostics_in,
     selected_inverse_transformed_diag, selected_inverse_transformed_diag_in, SelectedInverseDiagResult,

@@ -2,7 +2,8 @@
 
 use crate::index::word;
 use crate::lent;
-use crate::{CholeskyFactor, Error, RequestFileError, RequestFileFault, SparseRowOperator};
+use crate::{CholeskyFactor, Error, RequestFileError, RequestFileFault, RequestFileWriteError, SparseRowOperator};
+use crate::{MAX_DIMENSION, MAX_ENTRIES};
 use std::collections::BTreeSet;
 use std::path::Path;
 
@@ -105,7 +106,7 @@ impl SparseSymmetricPattern {
     }
 
     /// The pairs of a Matrix Market file that begins with [`REQUEST_FILE_HEADER`](crate::REQUEST_FILE_HEADER), counted
-    /// from 0; the file counts from 1.
+    /// from 0; the file counts from 1. A file without entries means all diagonals.
     ///
     /// Refuses with [`Error::OtherHeader`], [`Error::MalformedFile`] and [`Error::FileIndexOutside`];
     /// [`RequestFileFault::find`] then tells the line and the reason. The file's order and its repeats, which a set does
@@ -155,6 +156,57 @@ impl SparseSymmetricPattern {
         let text = std::fs::read(path).map_err(RequestFileError::Unreadable)?;
         Self::from_matrix_market(&text)
             .map_err(|error| RequestFileError::Refused(RequestFileFault::of_refusal(&text, error)))
+    }
+
+    /// The set as a Matrix Market file, which the library writes: each pair once, by column then row, without comments.
+    /// Equal sets of one dimension give equal bytes, and [`from_matrix_market`](Self::from_matrix_market) gives the set
+    /// back.
+    ///
+    /// Refuses with [`Error::TooLarge`], with [`Error::RequestOutOfRange`] for a pair outside or above the diagonal, and
+    /// with [`Error::NoRequests`] for no pairs of a dimension above 0: a file without entries means all diagonals.
+    ///
+    /// ```
+    /// use redstartgilt::{Error, SparseSymmetricPattern};
+    ///
+    /// let mut pattern = SparseSymmetricPattern::new(3);
+    /// assert_eq!(pattern.to_matrix_market(), Err(Error::NoRequests));
+    /// pattern.insert(0, 2)?;
+    /// pattern.insert(1, 1)?;
+    /// let file = pattern.to_matrix_market()?;
+    /// assert_eq!(file, b"%%MatrixMarket matrix coordinate pattern symmetric\n3 3 2\n3 1\n2 2\n");
+    /// assert_eq!(SparseSymmetricPattern::from_matrix_market(&file)?, pattern);
+    /// # Ok::<(), redstartgilt::Error>(())
+    /// ```
+    pub fn to_matrix_market(&self) -> Result<Vec<u8>, Error> {
+        let (rows, columns) = self.request_lists();
+        // Where 1 refuses, nothing is written.
+        let small = self.dimension <= MAX_DIMENSION && rows.len() <= MAX_ENTRIES;
+        let mut scratch = vec![0; if small { lent::mark_words(self.dimension) } else { 0 }];
+        let mut output = vec![0; if small { lent::request_file_bytes(rows.len()) } else { 0 }];
+        let bytes = lent::write_requests(self.dimension, &rows, &columns, &mut output, &mut scratch)?;
+        output.truncate(bytes);
+        Ok(output)
+    }
+
+    /// Writes the set to a file by its path, as [`to_matrix_market`](Self::to_matrix_market) has it. Nothing is written
+    /// where it is refused.
+    ///
+    /// ```
+    /// use redstartgilt::SparseSymmetricPattern;
+    ///
+    /// let path = std::env::temp_dir().join(format!("diagonals-{}.mtx", std::process::id()));
+    /// SparseSymmetricPattern::diagonal(2).write_matrix_market(&path).unwrap();
+    /// let text = std::fs::read_to_string(&path)?;
+    /// assert_eq!(text, "%%MatrixMarket matrix coordinate pattern symmetric\n2 2 2\n1 1\n2 2\n");
+    ///
+    /// let refused = SparseSymmetricPattern::new(2).write_matrix_market(&path).unwrap_err();
+    /// assert!(refused.to_string().starts_with("refusal 24: no requests"));
+    /// # std::fs::remove_file(&path)?;
+    /// # Ok::<(), std::io::Error>(())
+    /// ```
+    pub fn write_matrix_market(&self, path: impl AsRef<Path>) -> Result<(), RequestFileWriteError> {
+        let file = self.to_matrix_market().map_err(RequestFileWriteError::Refused)?;
+        std::fs::write(path, file).map_err(RequestFileWriteError::Unwritable)
     }
 
     /// The pairs that a call lists, at most `most` of them. `dimension` must be one that the library accepts, as the

@@ -10,7 +10,8 @@ use std::{fmt, io};
 /// The first line of a request file, which is a Matrix Market file of requested pairs.
 ///
 /// After it come comment lines, each with `%` as its first byte; then a line with rows, columns and the number of
-/// entries; then so many lines with row and column of a pair, counted from 1, on or below the diagonal. A number is one
+/// entries; then so many lines with row and column of a pair, counted from 1, on or below the diagonal; without such lines
+/// the file means all diagonals. A number is one
 /// or more digits; spaces and tabs part the numbers of a line and may also stand around them. Lines end in LF, the last
 /// perhaps without it, and those after the header that are empty or only spaces and tabs are skipped.
 pub const REQUEST_FILE_HEADER: &str = "%%MatrixMarket matrix coordinate pattern symmetric";
@@ -100,6 +101,28 @@ impl fmt::Display for RequestFileError {
 }
 
 impl std::error::Error for RequestFileError {}
+
+/// Why a set of pairs is not written to a request file.
+#[derive(Debug)]
+pub enum RequestFileWriteError {
+    /// The file cannot be written.
+    Unwritable(io::Error),
+    /// The library refuses the set.
+    Refused(Error),
+}
+
+impl fmt::Display for RequestFileWriteError {
+    fn fmt(&self, formatter: &mut fmt::Formatter<'_>) -> fmt::Result {
+        match self {
+            RequestFileWriteError::Unwritable(error) => write!(formatter, "the file cannot be written: {error}"),
+            RequestFileWriteError::Refused(error) => {
+                write!(formatter, "refusal {}: {}", error.number(), error.reason())
+            }
+        }
+    }
+}
+
+impl std::error::Error for RequestFileWriteError {}
 
 /// What is wrong, and in which line.
 struct Fault {

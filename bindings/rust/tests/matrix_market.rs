@@ -1,4 +1,4 @@
-//! Requests from Matrix Market files: what is read, what is refused, and which line is told.
+//! Requests from and to Matrix Market files: what is read, what is refused, which line is told, and what is written.
 
 use redstartgilt::lent::{self, FileRequests};
 use redstartgilt::{
@@ -79,8 +79,10 @@ fn files_that_are_read() {
     );
     accepted(file("2 2 1\n2 1\n\n \n\t"), 2, &[(1, 0)]);
     accepted(file(format!("{0}2 2 {0}1\n{0}2 {0}1\n", "0".repeat(400))), 2, &[(1, 0)]);
-    // No entries, no cells.
-    accepted(file("2 2 0\n"), 2, &[]);
+    // Without entries every diagonal cell, ascending.
+    accepted(file("2 2 0\n"), 2, &[(0, 0), (1, 1)]);
+    accepted(file("%\n\n3 3 00"), 3, &[(0, 0), (1, 1), (2, 2)]);
+    accepted(file("1 1 0\n"), 1, &[(0, 0)]);
     accepted(file("0 0 0"), 0, &[]);
     accepted(file("00 0 000\n\n"), 0, &[]);
 }
@@ -108,11 +110,24 @@ fn lists_that_are_lent() {
         Err(Error::TooShort)
     );
     assert_eq!(lists, [[BEFORE; 4]; 2]);
-    // Without entries no list is needed.
+    // Without entries a place is needed for each diagonal cell, and for none of no cells.
+    let text = file("3 3 0");
+    let reply = Ok(FileRequests {
+        dimension: 3,
+        requests: 3,
+    });
+    let (mut rows, mut columns) = ([BEFORE; 3], [BEFORE; 4]);
+    for (row_places, column_places) in [(2, 4), (3, 2), (0, 0)] {
+        let reply = lent::read_requests(&text, &mut rows[..row_places], &mut columns[..column_places]);
+        assert_eq!(reply, Err(Error::TooShort));
+    }
+    assert_eq!((rows, columns), ([BEFORE; 3], [BEFORE; 4]));
+    assert_eq!(lent::read_requests(&text, &mut rows, &mut columns), reply);
+    assert_eq!((rows, columns), ([0, 1, 2], [0, 1, 2, BEFORE]));
     assert_eq!(
-        lent::read_requests(&file("3 3 0"), &mut [], &mut []),
+        lent::read_requests(&file("0 0 0"), &mut [], &mut []),
         Ok(FileRequests {
-            dimension: 3,
+            dimension: 0,
             requests: 0
         })
     );
@@ -130,7 +145,8 @@ fn lists_that_are_lent() {
 fn replies() {
     for (text, reply) in [
         (file("3 3 1\n3 1\n"), [0, 3, 1]),
-        (file("3 3 0\n"), [0, 3, 0]),
+        (file("0 0 0\n"), [0, 0, 0]),
+        (file("3 3 0\n"), [7, 0, 0]),
         (b"3 3 1\n3 1\n".to_vec(), [15, 0, 0]),
         (file("3 3 2\n3 1\n"), [16, 0, 0]),
         (file("3 3 1\n1 3\n"), [17, 0, 0]),
@@ -375,4 +391,122 @@ fn files_by_path() {
     let error = SparseSymmetricPattern::read_matrix_market(&path).unwrap_err();
     assert!(matches!(error, RequestFileError::Unreadable(_)));
     assert!(error.to_string().starts_with("the file cannot be read: "));
+}
+
+/// Requests as lists of rows and columns.
+fn lists(pairs: &[(u32, u32)]) -> (Vec<u32>, Vec<u32>) {
+    pairs.iter().copied().unzip()
+}
+
+/// The file of requests. The output keeps its later bytes, the scratch its later words, and those that are used end 0.
+fn written(dimension: usize, pairs: &[(u32, u32)]) -> Result<Vec<u8>, Error> {
+    let (rows, columns) = lists(pairs);
+    let words = lent::mark_words(dimension);
+    let mut scratch = vec![BEFORE; words + 1];
+    let mut output = vec![b'x'; lent::request_file_bytes(pairs.len()) + 1];
+    let bytes = lent::write_requests(dimension, &rows, &columns, &mut output, &mut scratch)?;
+    assert!(output[bytes..].iter().all(|byte| *byte == b'x'));
+    assert!(scratch[..words].iter().all(|word| *word == 0) && scratch[words] == BEFORE);
+    output.truncate(bytes);
+    Ok(output)
+}
+
+#[test]
+fn files_that_are_written() {
+    let is = |dimension, pairs: &[(u32, u32)], rest: &str| {
+        assert_eq!(written(dimension, pairs), Ok(file(rest)), "{rest}");
+    };
+    // Each pair once, by column then row.
+    is(2, &[(1, 0), (0, 0), (1, 0)], "2 2 2\n1 1\n2 1\n");
+    is(3, &[(1, 1), (2, 0), (0, 0)], "3 3 3\n1 1\n3 1\n2 2\n");
+    is(100, &[(99, 99), (99, 9), (9, 8)], "100 100 3\n10 9\n100 10\n100 100\n");
+    is(1, &[(0, 0)], "1 1 1\n1 1\n");
+    is(0, &[], "0 0 0\n");
+    let n = MAX_DIMENSION as u32;
+    is(
+        MAX_DIMENSION,
+        &[(n - 1, 0), (n - 1, n - 1)],
+        &format!("{n} {n} 2\n{n} 1\n{n} {n}\n"),
+    );
+}
+
+#[test]
+fn sets_that_are_not_written() {
+    let refused = |dimension, rows: &[u32], columns: &[u32], error| {
+        let (mut output, mut scratch) = ([b'x'; 70], [BEFORE; 2]);
+        let reply = lent::write_requests(dimension, rows, columns, &mut output, &mut scratch);
+        assert_eq!(reply, Err(error), "{dimension} {rows:?} {columns:?}");
+        assert_eq!((output, scratch), ([b'x'; 70], [BEFORE; 2]));
+    };
+    // The lowest step decides: 1, 4, 5, 24.
+    refused(MAX_DIMENSION + 1, &[9], &[], Error::TooLarge);
+    refused((1 << 32) + 2, &[], &[], Error::TooLarge);
+    refused(2, &vec![9; MAX_ENTRIES + 1], &[], Error::TooLarge);
+    refused(2, &[], &vec![0; MAX_ENTRIES + 1], Error::DimensionMismatch);
+    refused(2, &[2], &[], Error::DimensionMismatch);
+    refused(2, &[1, 2], &[0, 0], Error::RequestOutOfRange);
+    refused(2, &[1, 0], &[0, 1], Error::RequestOutOfRange);
+    refused(0, &[0], &[0], Error::RequestOutOfRange);
+    refused(2, &[], &[], Error::NoRequests);
+    // 7 of the scratch, which is then as it was; 8 cells have 36 pairs.
+    let (mut output, mut scratch) = ([b'x'; 99], [BEFORE; 2]);
+    let reply = lent::write_requests(8, &[7], &[0], &mut output, &mut scratch[..1]);
+    assert_eq!((reply, scratch), (Err(Error::TooShort), [BEFORE; 2]));
+    // 7 of the output, which is then as it was, and the scratch 0.
+    let bytes = written(8, &[(7, 0)]).unwrap().len();
+    let reply = lent::write_requests(8, &[7], &[0], &mut output[..bytes - 1], &mut scratch);
+    assert_eq!((reply, scratch), (Err(Error::TooShort), [0; 2]));
+    assert!(output.iter().all(|byte| *byte == b'x'));
+    let reply = lent::write_requests(8, &[7], &[0], &mut output[..bytes], &mut scratch);
+    assert_eq!((reply, output[bytes]), (Ok(bytes), b'x'));
+    // No cells need no scratch.
+    assert_eq!(lent::write_requests(0, &[], &[], &mut output, &mut []), Ok(57));
+}
+
+/// Numbers in no order that matters (xorshift).
+fn below(state: &mut u64, bound: usize) -> usize {
+    *state ^= *state << 13;
+    *state ^= *state >> 7;
+    *state ^= *state << 17;
+    (*state % bound as u64) as usize
+}
+
+#[test]
+fn files_there_and_back() {
+    let mut state = 1;
+    for _ in 0..2000 {
+        let n = 1 + below(&mut state, 40);
+        let mut pairs = Vec::new();
+        for _ in 0..1 + below(&mut state, 60) {
+            let row = below(&mut state, n);
+            pairs.push((row as u32, below(&mut state, row + 1) as u32));
+        }
+        let file = written(n, &pairs).unwrap();
+        // The set, each pair once, by column then row.
+        let mut set = pairs.clone();
+        set.sort_by_key(|(row, column)| (*column, *row));
+        set.dedup();
+        assert_eq!(read(&file), Ok((n, set.clone())));
+        // Lists of one set give equal bytes; so does the set that is read back.
+        for _ in 0..pairs.len() {
+            let (from, to) = (below(&mut state, pairs.len()), below(&mut state, pairs.len()));
+            pairs.swap(from, to);
+        }
+        pairs.push(pairs[0]);
+        assert_eq!(written(n, &pairs).unwrap(), file);
+        assert_eq!(written(n, &set).unwrap(), file);
+        let pattern = SparseSymmetricPattern::from_matrix_market(&file).unwrap();
+        assert_eq!(pattern.to_matrix_market().unwrap(), file);
+    }
+    // A file without entries becomes that of the diagonal cells.
+    let pattern = SparseSymmetricPattern::from_matrix_market(&file("%\n2 2 0")).unwrap();
+    assert_eq!(pattern.to_matrix_market().unwrap(), file("2 2 2\n1 1\n2 2\n"));
+    // A set that is above the diagonal, outside or too large.
+    let mut pattern = SparseSymmetricPattern::new(2);
+    pattern.pairs.insert((0, 1));
+    assert_eq!(pattern.to_matrix_market(), Err(Error::RequestOutOfRange));
+    pattern.pairs = [(1 << 32, 0)].into();
+    assert_eq!(pattern.to_matrix_market(), Err(Error::RequestOutOfRange));
+    pattern.dimension = usize::MAX;
+    assert_eq!(pattern.to_matrix_market(), Err(Error::TooLarge));
 }

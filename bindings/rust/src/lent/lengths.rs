@@ -1,6 +1,6 @@
 //! Lengths that suffice for the lists of a call.
 
-use crate::MAX_ENTRIES;
+use crate::{MAX_DIMENSION, MAX_ENTRIES};
 
 /// The number of pairs (row, column) with row ≥ column in dimension n, n(n+1)/2; `usize::MAX` where it is more.
 pub const fn pair_total(n: usize) -> usize {
@@ -49,12 +49,18 @@ pub const fn default_limit(stored_entries: usize) -> usize {
     stored_entries.saturating_mul(10)
 }
 
-/// The places that suffice for the requests of a file: one for each line end, but no more than
-/// [`MAX_ENTRIES`].
+/// The places that suffice for the requests of a file: one for each line end, but no fewer than
+/// [`MAX_DIMENSION`], as a file without entries means every diagonal cell, and no more than [`MAX_ENTRIES`].
 pub fn request_places(text: &[u8]) -> usize {
     // The header and the size line are lines too, so the last entry may do without an end.
     let line_ends = text.iter().filter(|byte| **byte == b'\n').count();
-    line_ends.min(MAX_ENTRIES)
+    line_ends.clamp(MAX_DIMENSION, MAX_ENTRIES)
+}
+
+/// The bytes that suffice for a file of so many distinct pairs: 69 for the header and the size line, and 10 for each
+/// pair.
+pub const fn request_file_bytes(pairs: usize) -> usize {
+    pairs.saturating_mul(10).saturating_add(69)
 }
 
 /// The runs of `width` cells that a track of so many has: cells − width + 1, and 0 for a width that a call refuses.

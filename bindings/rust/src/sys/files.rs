@@ -14,6 +14,17 @@ pub struct redstartgilt_requests {
     pub requests: usize,
 }
 
+/// The reply of writing requests as a file: a refusal, or how many bytes the file has. On a refusal these are 0.
+#[repr(C)]
+#[derive(Debug, Clone, Copy, PartialEq)]
+#[allow(non_camel_case_types)]
+pub struct redstartgilt_bytes {
+    /// The refusal's number, or 0.
+    pub refusal: u32,
+    /// Bytes written.
+    pub bytes: usize,
+}
+
 extern "C" {
     /// Requests from a Matrix Market file.
     pub fn redstartgilt_read_requests(
@@ -24,4 +35,17 @@ extern "C" {
         columns: *mut u32,
         columns_len: usize,
     ) -> redstartgilt_requests;
+
+    /// Requests as a Matrix Market file.
+    pub fn redstartgilt_write_requests(
+        dimension: usize,
+        rows: *const u32,
+        rows_len: usize,
+        columns: *const u32,
+        columns_len: usize,
+        output: *mut u8,
+        output_len: usize,
+        scratch: *mut u32,
+        scratch_len: usize,
+    ) -> redstartgilt_bytes;
 }

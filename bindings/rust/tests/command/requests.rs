@@ -47,7 +47,8 @@ fn requests_in_matrix_market_form() {
         &format!("{HEADER}\n% cells\n\n 03\t3 3 \n2 2\n3 1\n \n2 2"),
         "2 2\n3 1\n",
     );
-    same(&format!("{HEADER}\n3 3 0"), "# none\n");
+    // A file without entries means every cell.
+    same(&format!("{HEADER}\n3 3 0"), "1 1\n2 2\n3 3\n");
     folder.write("cells.mtx", format!("{HEADER}\n3 3 1\n3 2\n"));
     let entries = ["--entries", "--csv", "f3.mtx", "--requests", "cells.mtx"];
     assert_eq!(folder.prints(&entries), "row,column,value\n3,2,-0.0\n");
@@ -143,4 +144,72 @@ fn refused_request_files() {
     assert!(folder
         .fails(&["f2.mtx", "--requests", "absent.mtx"], 1)
         .starts_with("absent.mtx: "));
+}
+
+#[test]
+fn written_request_files() {
+    let folder = Folder::new("written_requests");
+    folder.write("f3.mtx", F3);
+    folder.write("order.txt", "3\n1\n2\n");
+    folder.write("pairs.txt", "1 3\n2 2\n3 1\n");
+    let file = format!("{HEADER}\n3 3 2\n3 1\n2 2\n");
+    // In the order of the cells, whatever that of the factor is; and beside what else is printed.
+    for words in [
+        &["f3.mtx"][..],
+        &["f3.mtx", "--permutation", "order.txt", "--entries"],
+        &["f3.mtx", "--permutation", "order.txt", "--whole"],
+        &["f3.mtx", "--why", "3,1"],
+    ] {
+        let asked = [words, &["--requests", "pairs.txt"]].concat();
+        let printed = folder.prints(&asked);
+        assert_eq!(
+            folder.prints(&[&asked[..], &["--write-requests", "cells.mtx"]].concat()),
+            printed
+        );
+        assert_eq!(folder.read("cells.mtx"), file, "{words:?}");
+        // Read back and written again it is the same, also over itself.
+        folder.prints(&[words, &["--requests", "cells.mtx", "--write-requests", "cells.mtx"]].concat());
+        assert_eq!(folder.read("cells.mtx"), file, "{words:?}");
+        std::fs::remove_file(folder.0.join("cells.mtx")).unwrap();
+    }
+    // Without --requests, and of a file without entries: every cell.
+    let all = format!("{HEADER}\n3 3 3\n1 1\n2 2\n3 3\n");
+    folder.prints(&["f3.mtx", "--write-requests", "all.mtx"]);
+    assert_eq!(folder.read("all.mtx"), all);
+    folder.write("none.mtx", format!("{HEADER}\n3 3 0\n"));
+    folder.prints(&["f3.mtx", "--requests", "none.mtx", "--write-requests", "all.mtx"]);
+    assert_eq!(folder.read("all.mtx"), all);
+    folder.prints(&["--demo", "--write-requests", "harbour.mtx"]);
+    assert!(folder
+        .read("harbour.mtx")
+        .starts_with(&format!("{HEADER}\n266 266 266\n1 1\n")));
+    // A list without pairs is not written, and the file is as it was.
+    folder.write("none.txt", "# none\n");
+    let message = folder.fails(&["f3.mtx", "--requests", "none.txt", "--write-requests", "all.mtx"], 34);
+    assert!(message.starts_with("all.mtx: refusal 24: no requests"), "{message}");
+    assert_eq!(folder.read("all.mtx"), all);
+    // A folder that is not there.
+    let message = folder.fails(&["f3.mtx", "--write-requests", "no/cells.mtx"], 1);
+    assert!(message.starts_with("no/cells.mtx: "), "{message}");
+    for (words, message) in [
+        (
+            &["--operator", "f3.mtx"][..],
+            "--operator does not go with --write-requests",
+        ),
+        (
+            &["--whole", "--ranges", "pairs.txt"],
+            "--ranges does not go with --write-requests",
+        ),
+        (
+            &["--whole", "--track", "pairs.txt", "--width", "1"],
+            "--track does not go with --write-requests",
+        ),
+        (
+            &["--grid", "3x1", "--svg", "a.mtx"],
+            "--write-requests and --svg need two files",
+        ),
+    ] {
+        let words = [words, &["f3.mtx", "--write-requests", "a.mtx"]].concat();
+        assert_eq!(folder.fails(&words, 2), format!("{message}; try --help"));
+    }
 }

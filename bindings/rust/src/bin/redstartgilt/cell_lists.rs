@@ -2,7 +2,7 @@
 
 use crate::failure::Failure;
 use crate::lines::Lines;
-use redstartgilt::{Error, Permutation, RequestFileFault, SparseSymmetricPattern};
+use redstartgilt::{Error, Permutation, RequestFileFault, RequestFileWriteError, SparseSymmetricPattern};
 use std::collections::BTreeMap;
 use std::path::Path;
 
@@ -119,6 +119,24 @@ pub fn requests(file: &Path, dimension: usize, permutation: &Permutation) -> Res
             .map_err(|error| Failure::refused_at(format_args!("{}:{line}", file.display()), error))?;
     }
     Ok(pattern)
+}
+
+/// Writes requested pairs, which are in the factor's order, as a Matrix Market file in the order of the cells.
+pub fn write_requests(
+    file: &Path,
+    requested: &SparseSymmetricPattern,
+    permutation: &Permutation,
+) -> Result<(), Failure> {
+    let refused = |error| Failure::refused_at(file.display(), error);
+    let cell = |place: usize| permutation.perm_to_orig[place];
+    let mut pattern = SparseSymmetricPattern::new(requested.dimension);
+    for (row, column) in &requested.pairs {
+        pattern.insert(cell(*row), cell(*column)).map_err(refused)?;
+    }
+    pattern.write_matrix_market(file).map_err(|error| match error {
+        RequestFileWriteError::Unwritable(error) => Failure::in_file(file, error),
+        RequestFileWriteError::Refused(error) => refused(error),
+    })
 }
 
 /// The row pairs of a file, for operators of so many rows.

@@ -157,13 +157,17 @@ fn write_map(options: &Options, map: &Map<'_>) -> Result<(), Failure> {
     Ok(())
 }
 
-/// The pairs that the options ask for, in the factor's order.
+/// The pairs that the options ask for, in the factor's order; written to a file where that is asked for.
 fn requested(permutation: &Permutation, options: &Options) -> Result<SparseSymmetricPattern, Failure> {
     let n = permutation.dimension();
-    match &options.requests {
-        Some(file) => cell_lists::requests(file, n, permutation),
-        None => Ok(SparseSymmetricPattern::diagonal(n)),
+    let requested = match &options.requests {
+        Some(file) => cell_lists::requests(file, n, permutation)?,
+        None => SparseSymmetricPattern::diagonal(n),
+    };
+    if let Some(file) = &options.write_requests {
+        cell_lists::write_requests(file, &requested, permutation)?;
     }
+    Ok(requested)
 }
 
 /// The answer to what the options ask of a factor; `place` is for messages.

@@ -14,7 +14,7 @@ Usage:
   redstartgilt --whole --ranges FILE [--permutation FILE] [--limit N] [--csv] FACTOR
   redstartgilt --whole --track FILE --width K [--permutation FILE] [--limit N] [--csv] [--grid WxH ..] FACTOR
   redstartgilt --operator FILE [--with FILE [--pairs FILE]] [--permutation FILE] [--csv] FACTOR
-  redstartgilt --demo [--requests FILE] [--why R,C] [--csv] [--svg FILE] [--html FILE]
+  redstartgilt --demo [--requests FILE] [--write-requests FILE] [--why R,C] [--csv] [--svg FILE] [--html FILE]
 
 FACTOR is a Matrix Market file of a lower factor L: the header
   %%MatrixMarket matrix coordinate real general
@@ -28,6 +28,10 @@ Options:
   --requests FILE     the pairs whose entries are wanted; without it all diagonals. Two indices a line, in either order;
                       lines that are empty or begin with % or # are passed over, here and in every other list. Or
                       a Matrix Market file, see below
+  --write-requests FILE
+                      write the pairs whose entries are wanted, in the order of the cells, as a Matrix Market file:
+                      each pair once, by column then row, without comments, so that lists of the same pairs give equal
+                      files. A list without pairs is refused with 24. The file is written before any entry is computed
   --permutation FILE  the order of the factor: line i has the place of cell i in the factor. Requests and output are
                       then in the order of the cells, not of the factor
   --limit N           give no entries if the requests and what the recurrence needs for them are more than N pairs;
@@ -82,7 +86,8 @@ file, every other one as a list of pairs. That line must be exactly
   %%MatrixMarket matrix coordinate pattern symmetric
 Another such header is refused with 15, and not taken for a comment. Then come comment lines that begin with %, a line
 with rows, columns and entries, both sizes that of the factor, and a line with row and column for each entry, on or
-below the diagonal. Lines end in LF, not in CR LF. The message of a refusal has the file, the line and the reason.
+below the diagonal. A file without entries means all diagonals; a list without pairs means none. Lines end in LF, not in
+CR LF. The message of a refusal has the file, the line and the reason.
 
 With --requests not every cell need be computed. One that is not has no variance: it is printed as \"not computed\", with
 --csv as an empty variance with no in the column covered (yes for every other cell), and on maps it is hatched. A
@@ -99,13 +104,13 @@ Exit status:
   10 + N  the library refuses with number N:
 ";
 
-/// The last refusal that the help lists: no call gives a later one yet.
-const LAST_REFUSAL: u32 = redstartgilt::sys::REDSTARTGILT_BAD_WIDTH;
+/// A refusal that the help does not list: no call gives it yet.
+const NOT_GIVEN: redstartgilt::Error = redstartgilt::Error::PivotDiagonalNotOne;
 
 /// The help with the list of refusals.
 pub fn help() -> String {
     let mut text = HELP.to_string();
-    let given = |error: &redstartgilt::Error| error.number() <= LAST_REFUSAL;
+    let given = |error: &redstartgilt::Error| *error != NOT_GIVEN;
     for error in redstartgilt::Error::ALL.into_iter().filter(given) {
         let status = u32::from(crate::failure::REFUSED) + error.number();
         text.push_str(&format!("  {status}  {error}\n"));
@@ -118,6 +123,7 @@ pub struct Options {
     /// `None` with `--demo`.
     pub factor: Option<PathBuf>,
     pub requests: Option<PathBuf>,
+    pub write_requests: Option<PathBuf>,
     pub permutation: Option<PathBuf>,
     pub operator: Option<PathBuf>,
     pub with: Option<PathBuf>,
@@ -148,6 +154,7 @@ pub fn read(words: impl IntoIterator<Item = OsString>) -> Result<Command, Failur
     let mut options = Options {
         factor: None,
         requests: None,
+        write_requests: None,
         permutation: None,
         operator: None,
         with: None,
@@ -182,6 +189,7 @@ pub fn read(words: impl IntoIterator<Item = OsString>) -> Result<Command, Failur
         let takes_value = matches!(
             name,
             "--requests"
+                | "--write-requests"
                 | "--permutation"
                 | "--operator"
                 | "--with"
@@ -205,6 +213,7 @@ pub fn read(words: impl IntoIterator<Item = OsString>) -> Result<Command, Failur
         };
         let twice = match name {
             "--requests" => options.requests.replace(value.into()).is_some(),
+            "--write-requests" => options.write_requests.replace(value.into()).is_some(),
             "--permutation" => options.permutation.replace(value.into()).is_some(),
             "--operator" => options.operator.replace(value.into()).is_some(),
             "--with" => options.with.replace(value.into()).is_some(),
@@ -269,6 +278,7 @@ fn checked(options: Options, demo: bool) -> Result<Command, Failure> {
     if options.ranges.is_some() {
         let others = [
             ("--requests", options.requests.is_some()),
+            ("--write-requests", options.write_requests.is_some()),
             ("--operator", options.operator.is_some()),
             ("--entries", options.entries),
             ("--why", options.why.is_some()),
@@ -282,6 +292,7 @@ fn checked(options: Options, demo: bool) -> Result<Command, Failure> {
     if options.track.is_some() {
         let others = [
             ("--requests", options.requests.is_some()),
+            ("--write-requests", options.write_requests.is_some()),
             ("--ranges", options.ranges.is_some()),
             ("--operator", options.operator.is_some()),
             ("--entries", options.entries),
@@ -298,6 +309,7 @@ fn checked(options: Options, demo: bool) -> Result<Command, Failure> {
     if options.operator.is_some() {
         let others = [
             ("--requests", options.requests.is_some()),
+            ("--write-requests", options.write_requests.is_some()),
             ("--limit", options.limit.is_some()),
             ("--entries", options.entries),
             ("--whole", options.whole),
@@ -321,8 +333,16 @@ fn checked(options: Options, demo: bool) -> Result<Command, Failure> {
     if options.pairs.is_some() && options.with.is_none() {
         return Err(Failure::usage("--pairs needs --with"));
     }
-    if options.svg.is_some() && options.svg == options.html {
-        return Err(Failure::usage("--svg and --html need two files"));
+    let written = [
+        ("--write-requests", &options.write_requests),
+        ("--svg", &options.svg),
+        ("--html", &options.html),
+    ];
+    for (place, (name, file)) in written.iter().enumerate() {
+        let other = written[place + 1..].iter().find(|(_, other)| other == file);
+        if let (Some(_), Some((other, _))) = (file, other) {
+            return Err(Failure::usage(format!("{name} and {other} need two files")));
+        }
     }
     Ok(Command::Run(Box::new(options)))
 }
