@@ -4,7 +4,8 @@
 //! nothing is held but one case and its answer. What the library must reply and leave is the Rust's answer; where
 //! document 01 refuses, or document 02 a factor that is not finite, it is that refusal, and how the Rust differs is
 //! counted. The set `whole` is the driver's own: calls of the whole-number engine, which the Rust answers as floats. So is
-//! the set `variances`: rows whose weights are known within ranges, and tracks, which the Rust has not.
+//! the set `variances`: rows whose weights are known within ranges, and tracks, which the Rust has not; and the set `files`:
+//! requests written as files and read from them.
 
 use crate::call::Call;
 use crate::chains::{chosen, Chains};
@@ -16,6 +17,7 @@ use crate::list::List;
 use crate::random::Random;
 use crate::refusals::{refusal, MOST_COLUMNS};
 use crate::reply::Reply;
+use crate::round_trips::compare_round_trips;
 use crate::rules;
 use crate::subjects::{
     EntryLists, FactorLists, OperatorLists, Pair, PermutationLists, RequestLists, ResultLists, RowPairLists, ValueLists,
@@ -66,6 +68,7 @@ pub fn compare(folder: &Path, seeds: &[u64], huge: bool) -> io::Result<usize> {
             }
             compare_whole_cases(folder, seed, &mut tally)?;
             compare_variance_cases(seed, &mut tally);
+            compare_round_trips(seed, &mut tally);
         }
     }
     tally.report();
@@ -76,6 +79,14 @@ pub fn compare(folder: &Path, seeds: &[u64], huge: bool) -> io::Result<usize> {
 pub fn compare_variances(seeds: &[u64]) -> usize {
     let mut tally = Tally::default();
     seeds_of(seeds).iter().for_each(|&seed| compare_variance_cases(seed, &mut tally));
+    tally.report();
+    tally.unexpected
+}
+
+/// The same of the set `files` alone.
+pub fn compare_files(seeds: &[u64]) -> usize {
+    let mut tally = Tally::default();
+    seeds_of(seeds).iter().for_each(|&seed| compare_round_trips(seed, &mut tally));
     tally.report();
     tally.unexpected
 }

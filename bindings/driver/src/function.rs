@@ -31,9 +31,10 @@ pub enum Function {
     FloorMean,
     Least,
     ReadRequests,
+    WriteRequests,
 }
 
-pub const FUNCTIONS: [Function; 28] = [
+pub const FUNCTIONS: [Function; 29] = [
     Function::EntriesWithLimit,
     Function::Entries,
     Function::CheckFactor,
@@ -62,6 +63,7 @@ pub const FUNCTIONS: [Function; 28] = [
     Function::FloorMean,
     Function::Least,
     Function::ReadRequests,
+    Function::WriteRequests,
 ];
 
 /// The functions that look up a pair in a result of floats.
@@ -99,6 +101,7 @@ impl Function {
             Function::FloorMean => "stabilize_variances_positive_mean",
             Function::Least => "count_and_least",
             Function::ReadRequests => "read_requests",
+            Function::WriteRequests => "write_requests",
         }
     }
 

@@ -21,6 +21,7 @@ mod ranges;
 mod reading;
 mod refusals;
 mod reply;
+mod round_trips;
 mod rules;
 mod sound;
 mod spoil;
@@ -35,6 +36,8 @@ mod whole_cases;
 mod whole_factors;
 mod whole_results;
 mod whole_rows;
+mod writing;
+mod written_lists;
 
 use function::FUNCTIONS;
 use std::path::Path;
@@ -44,6 +47,7 @@ const USAGE: &str = "usage:
   driver compare ORACLE_FOLDER [SEED..]            every set but huge with each seed, 1 7 11 where none is given
   driver compare ORACLE_FOLDER --huge              the set huge
   driver compare-variances [SEED..]                the set of rows and tracks over results alone, which needs no oracle
+  driver compare-files [SEED..]                    the set of files written and read alone, which needs no oracle
   driver malformed [COUNT [SEED [FIRST]]] [--only FUNCTION] [--bare]
                                                    random calls, 1,000,000 where no number is given, from call FIRST on;
                                                    with --only of one function, named as in the header without
@@ -56,7 +60,7 @@ const USAGE: &str = "usage:
   driver benchmark-wholes ORACLE_FOLDER [RUNS]     the part of it that has the whole-number engine
   driver benchmark-variances [RUNS]                the part of it that has bounds and tracks, which needs no oracle
   driver benchmark-lookups [RUNS]                  the part of it that looks up entries, which needs no oracle
-  driver benchmark-files [RUNS]                    the part of it that reads files, which needs no oracle
+  driver benchmark-files [RUNS]                    the part of it that reads and writes files, which needs no oracle
   driver profile ORACLE_FOLDER CASE RUNS           one case of the benchmark alone, for a profiler; of the whole-number
                                                    engine's rows whole:ROW, and float:ROW for the same in floats
 ORACLE_FOLDER has the programs `generate` and `oracle` of bindings/oracle.";
@@ -101,6 +105,10 @@ fn run(words: &[&str]) -> Option<std::io::Result<usize>> {
         ["compare-variances", seeds @ ..] => {
             let seeds: Vec<u64> = seeds.iter().map(|s| s.parse().ok()).collect::<Option<_>>()?;
             Some(Ok(compare::compare_variances(&seeds)))
+        }
+        ["compare-files", seeds @ ..] => {
+            let seeds: Vec<u64> = seeds.iter().map(|s| s.parse().ok()).collect::<Option<_>>()?;
+            Some(Ok(compare::compare_files(&seeds)))
         }
         ["malformed", rest @ .., "--bare"] => {
             list::leave_out_guards();
