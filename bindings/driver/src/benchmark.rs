@@ -22,6 +22,7 @@ use crate::subjects::{FactorLists, OperatorLists, PermutationLists, RequestLists
 use crate::text::{Block, Blocks};
 use crate::variance_rows;
 use crate::whole_rows;
+use crate::writing;
 use std::fs::File;
 use std::io::{self, BufRead, BufReader, Write};
 use std::path::Path;
@@ -159,7 +160,8 @@ pub fn benchmark(folder: &Path, runs: usize) -> io::Result<()> {
     growth(folder, runs)?;
     split(runs);
     lookups::rows_of_lookups(runs)?;
-    reading::rows_of_files(runs)
+    reading::rows_of_files(runs)?;
+    writing::rows_of_written(runs)
 }
 
 /// Makes the call of one case of the timing set alone, or of a row of the whole-number engine or with pivots, for a profiler.

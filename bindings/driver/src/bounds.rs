@@ -13,6 +13,7 @@ use crate::subjects::{FactorLists, OperatorLists, Pair, PairLists, RequestLists,
 use crate::variance_cases::calls_at_the_bounds;
 use crate::whole_cases::calls_at_the_greatest;
 use crate::whole_factors::as_floats;
+use crate::written_lists::written_at_the_bounds;
 
 /// Calls on both sides of each bound of document 01's step 1, of those of files, of the greatest whole number, and of those of
 /// rows and tracks over results; those within it are accepted, or refused by a later step.
@@ -101,6 +102,7 @@ pub fn bounds() -> Vec<Call> {
             Function::WholeEntriesWithLimit,
             Function::WholeEntries,
             Function::DependencyChain,
+            Function::WriteRequests,
         ] {
             let mut call = sound(function, 3, &mut random);
             (call.requests.rows, call.requests.columns) = (long(count), long(count));
@@ -175,6 +177,7 @@ pub fn bounds() -> Vec<Call> {
         lend(call, &mut random, |_, need| need);
     }
     calls.extend(calls_at_the_bounds(100));
+    calls.extend(written_at_the_bounds(&mut random));
     // the longest chain with a list one place short
     let longest = calls.iter().rfind(|call| call.function == Function::DependencyChain).expect("made above").clone();
     let words = |count: usize| List::made(count, |at| at as u32);
@@ -184,6 +187,11 @@ pub fn bounds() -> Vec<Call> {
     calls.push(Call { pairs: pair_lists(length - 1, length), ..longest.clone() });
     calls.push(Call { pairs: pair_lists(length, length - 1), ..longest.clone() });
     calls.push(Call { scratch: words(longest.scratch.len() - 1), ..longest });
+    // a file without entries, with a list one place short
+    let diagonal = file(&plain_file([&[n, n, 0][..]]));
+    for (rows, columns) in [(n - 1, n), (n, n - 1), (n + 1, n), (0, n)] {
+        calls.push(Call { pairs: pair_lists(rows, columns), ..diagonal.clone() });
+    }
     // files of as many entries as are allowed, with a list one place short
     let longest = file(&longest_file(MOST_ENTRIES));
     for (rows, columns) in [(MOST_ENTRIES - 1, MOST_ENTRIES), (MOST_ENTRIES, MOST_ENTRIES - 1)] {
@@ -288,6 +296,10 @@ fn files() -> Vec<Vec<u8>> {
         &[&[n, n, 1], &[n + 1, 1]],
         &[&[n, n, 1], &[n, 0]],
         &[&[0, 0, 0]],
+        // every diagonal cell
+        &[&[1, 1, 0]],
+        &[&[n, n, 0]],
+        &[&[n + 1, n + 1, 0]],
         &[&[0, 0, 1], &[1, 1]],
         &[&[(1 << 32) + 2, (1 << 32) + 2, 0]],
         &[&[usize::MAX, usize::MAX, 0]],

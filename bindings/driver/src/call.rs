@@ -31,7 +31,7 @@ pub struct Call {
     pub track: TrackLists,
     pub permutation: PermutationLists,
     pub values: ValueLists,
-    /// A file's bytes.
+    /// A file's bytes that are read.
     pub text: List<u8>,
     pub result: ResultLists,
     pub whole_result: ResultLists<i64>,
@@ -40,6 +40,8 @@ pub struct Call {
     pub work: List<i64>,
     pub pairs: PairLists,
     pub output: OutputLists,
+    /// The bytes that a file is written to.
+    pub file: List<u8>,
 }
 
 /// Calls a function of the C interface with arguments in a row: `(n)` as it is, `[rows]` a list's pointer and length,
@@ -82,10 +84,12 @@ macro_rules! c_call {
 }
 
 impl Call {
-    /// The dimension of the pairs that it asks for or lists: the factor's, or of an operator's pattern its columns.
+    /// The dimension of the pairs that it asks for or lists: the factor's, of an operator's pattern its columns, of a file
+    /// the requests'.
     pub fn dimension(&self) -> usize {
         match self.function {
             Function::OperatorPattern => self.operator.ncols,
+            Function::WriteRequests => self.requests.dimension,
             function if function.takes_whole_factor() => self.whole_factor.n,
             _ => self.factor.n,
         }
@@ -105,7 +109,7 @@ impl Call {
     pub fn make(&mut self) -> Reply {
         let Call {
             function, factor, whole_factor, pivots, requests, limit, pair, operator, other, row_pairs, entries, whole_entries,
-            ranges, track, permutation, values, text, result, whole_result, scratch, work, pairs, output,
+            ranges, track, permutation, values, text, result, whole_result, scratch, work, pairs, output, file,
         } = self;
         match function {
             Function::EntriesWithLimit => c_call!(redstartgilt_selected_inverse_entries_with_limit:
@@ -156,6 +160,7 @@ impl Call {
                 [values.input] (values.scale) {output.values}),
             Function::Least => c_call!(redstartgilt_count_and_least: [values.input]),
             Function::ReadRequests => c_call!(redstartgilt_read_requests: [text] pairs(pairs)),
+            Function::WriteRequests => c_call!(redstartgilt_write_requests: requests(requests) {file} {scratch}),
         }
     }
 
@@ -185,6 +190,7 @@ impl Call {
             work,
             pairs,
             output,
+            file,
         } = self;
         let subjects = [
             ("factor", factor.parts()),
@@ -209,6 +215,7 @@ impl Call {
             ("work", vec![("", Part::from(work))]),
             ("pairs", pairs.parts()),
             ("output", output.parts()),
+            ("file", vec![("", Part::from(file))]),
         ];
         let named = |(subject, parts): (&'static str, Vec<(&'static str, _)>)| {
             parts.into_iter().map(move |(name, part)| (subject, name, part))

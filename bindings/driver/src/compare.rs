@@ -5,8 +5,8 @@
 //! document 01 refuses, or document 02 a factor that is not finite, it is that refusal, and how the Rust differs is
 //! counted. The set `whole` is the driver's own: calls of the whole-number engine, which the Rust answers as floats. So is
 //! the set `variances`: rows whose weights are known within ranges, and tracks, which the Rust has not; the set
-//! `multiples`: selected entries in the exact case beyond unit diagonals; and the set `ldl`: unit lower factors with
-//! pivots, which it has not either.
+//! `multiples`: selected entries in the exact case beyond unit diagonals; the set `ldl`: unit lower factors with pivots,
+//! which it has not either; and the set `files`: requests written as files and read from them.
 
 use crate::call::Call;
 use crate::chains::{chosen, Chains};
@@ -20,6 +20,7 @@ use crate::list::List;
 use crate::random::Random;
 use crate::refusals::{refusal, MOST_COLUMNS};
 use crate::reply::Reply;
+use crate::round_trips::compare_round_trips;
 use crate::rules;
 use crate::subjects::{
     EntryLists, FactorLists, OperatorLists, Pair, PermutationLists, RequestLists, ResultLists, RowPairLists, ValueLists,
@@ -72,6 +73,7 @@ pub fn compare(folder: &Path, seeds: &[u64], huge: bool) -> io::Result<usize> {
             compare_variance_cases(seed, &mut tally);
             compare_multiple_cases(seed, &mut tally);
             compare_ldl_cases(seed, &mut tally);
+            compare_round_trips(seed, &mut tally);
         }
     }
     tally.report();
@@ -98,6 +100,14 @@ pub fn compare_multiples(seeds: &[u64]) -> usize {
 pub fn compare_ldl(seeds: &[u64]) -> usize {
     let mut tally = Tally::default();
     seeds_of(seeds).iter().for_each(|&seed| compare_ldl_cases(seed, &mut tally));
+    tally.report();
+    tally.unexpected
+}
+
+/// The same of the set `files` alone.
+pub fn compare_files(seeds: &[u64]) -> usize {
+    let mut tally = Tally::default();
+    seeds_of(seeds).iter().for_each(|&seed| compare_round_trips(seed, &mut tally));
     tally.report();
     tally.unexpected
 }

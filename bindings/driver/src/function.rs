@@ -33,9 +33,10 @@ pub enum Function {
     FloorMean,
     Least,
     ReadRequests,
+    WriteRequests,
 }
 
-pub const FUNCTIONS: [Function; 30] = [
+pub const FUNCTIONS: [Function; 31] = [
     Function::EntriesWithLimit,
     Function::Entries,
     Function::LdlEntriesWithLimit,
@@ -66,6 +67,7 @@ pub const FUNCTIONS: [Function; 30] = [
     Function::FloorMean,
     Function::Least,
     Function::ReadRequests,
+    Function::WriteRequests,
 ];
 
 /// The functions that look up a pair in a result of floats.
@@ -105,6 +107,7 @@ impl Function {
             Function::FloorMean => "stabilize_variances_positive_mean",
             Function::Least => "count_and_least",
             Function::ReadRequests => "read_requests",
+            Function::WriteRequests => "write_requests",
         }
     }
 

@@ -8,7 +8,7 @@ use crate::matrix_market;
 use crate::random::Random;
 use crate::refusals::{refusal, MOST_COLUMNS};
 use crate::rules::{self, triangle};
-use crate::subjects::PairLists;
+use crate::subjects::{PairLists, RequestLists};
 
 /// The lengths that a call needs; small ones where it is refused whatever it is lent.
 pub struct Needs {
@@ -18,6 +18,7 @@ pub struct Needs {
     output: usize,
     pairs: usize,
     inverse: usize,
+    file: usize,
 }
 
 pub fn needs(call: &Call) -> Needs {
@@ -27,6 +28,8 @@ pub fn needs(call: &Call) -> Needs {
     let bare = Call { scratch: List::default(), pairs: PairLists::default(), ..call.clone() };
     let chain = call.function == Function::DependencyChain && call.pair.row < n && call.pair.column < n;
     let listed = (pattern || chain) && matches!(refusal(&bare), 0 | 7);
+    let RequestLists { dimension, rows, columns } = &call.requests;
+    let written = call.function == Function::WriteRequests && matches!(refusal(&bare), 0 | 7);
     Needs {
         starts: n + 1,
         entries: rules::limit(call).min(triangle(n)),
@@ -47,6 +50,7 @@ pub fn needs(call: &Call) -> Needs {
             _ => 3,
         },
         inverse: call.permutation.orig_to_perm.len(),
+        file: if written { matrix_market::written(*dimension, rows, columns).len() } else { 3 },
     }
 }
 
@@ -72,6 +76,7 @@ pub fn lend(call: &mut Call, random: &mut Random, mut length: impl FnMut(&mut Ra
             call.pairs.rows = words(random, needs.pairs);
             call.pairs.columns = words(random, needs.pairs);
         }
+        Function::WriteRequests => call.scratch = words(random, needs.scratch),
         Function::Inverse => call.permutation.perm_to_orig = words(random, needs.inverse),
         Function::ReadRequests => {
             call.pairs.rows = words(random, needs.pairs);
@@ -112,5 +117,9 @@ pub fn lend(call: &mut Call, random: &mut Random, mut length: impl FnMut(&mut Ra
     if matches!(call.function, Function::Diag | Function::ReorderMarked) {
         let length = length(random, needs.output);
         call.output.marks = List::made(length, |_| random.bits() as u8);
+    }
+    if call.function == Function::WriteRequests {
+        let length = length(random, needs.file);
+        call.file = List::made(length, |_| random.bits() as u8);
     }
 }

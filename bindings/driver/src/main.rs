@@ -32,6 +32,7 @@ mod ranges;
 mod reading;
 mod refusals;
 mod reply;
+mod round_trips;
 mod rules;
 mod sound;
 mod spoil;
@@ -46,6 +47,8 @@ mod whole_cases;
 mod whole_factors;
 mod whole_results;
 mod whole_rows;
+mod writing;
+mod written_lists;
 
 use function::FUNCTIONS;
 use std::path::Path;
@@ -59,6 +62,7 @@ const USAGE: &str = "usage:
   driver compare-ldl [SEED..]                      the set of unit lower factors with pivots alone, which needs no oracle
   driver compare-export FOLDER [CSV]               a factor with pivots made by bindings/partner, beside a dense inverse;
                                                    CSV has the variances that the command printed of it
+  driver compare-files [SEED..]                    the set of files written and read alone, which needs no oracle
   driver malformed [COUNT [SEED [FIRST]]] [--only FUNCTION] [--bare]
                                                    random calls, 1,000,000 where no number is given, from call FIRST on;
                                                    with --only of one function, named as in the header without
@@ -72,7 +76,7 @@ const USAGE: &str = "usage:
   driver benchmark-ldl [RUNS]                      the part of it that has factors with pivots, which needs no oracle
   driver benchmark-variances [RUNS]                the part of it that has bounds and tracks, which needs no oracle
   driver benchmark-lookups [RUNS]                  the part of it that looks up entries, which needs no oracle
-  driver benchmark-files [RUNS]                    the part of it that reads files, which needs no oracle
+  driver benchmark-files [RUNS]                    the part of it that reads and writes files, which needs no oracle
   driver profile ORACLE_FOLDER CASE RUNS           one case of the benchmark alone, for a profiler; of the whole-number
                                                    engine's rows whole:ROW, and float:ROW for the same in floats;
                                                    of those with pivots ldl:ROW, and own:ROW for our own family
@@ -129,6 +133,10 @@ fn run(words: &[&str]) -> Option<std::io::Result<usize>> {
         }
         ["compare-export", folder, csv @ ..] if csv.len() < 2 => {
             Some(partner::compare_export(Path::new(folder), csv.first().map(Path::new)))
+        }
+        ["compare-files", seeds @ ..] => {
+            let seeds: Vec<u64> = seeds.iter().map(|s| s.parse().ok()).collect::<Option<_>>()?;
+            Some(Ok(compare::compare_files(&seeds)))
         }
         ["malformed", rest @ .., "--bare"] => {
             list::leave_out_guards();

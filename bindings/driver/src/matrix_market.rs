@@ -1,10 +1,13 @@
-//! Matrix Market files of request lists, read from document 02's text by lines and fields: the driver's own reader.
+//! Matrix Market files of request lists, from document 02's text: the driver's own reader, by lines and fields, and its own
+//! writer.
 
 use crate::refusals::{MOST_COLUMNS, MOST_ENTRIES};
+use std::collections::BTreeSet;
+use std::iter::once;
 
 pub const HEADER: &[u8] = b"%%MatrixMarket matrix coordinate pattern symmetric";
 
-/// A file's requests, in file order, counted from 0.
+/// A file's requests, in file order, counted from 0; of a file without entries every diagonal cell.
 pub struct Requests {
     pub dimension: usize,
     pub rows: Vec<u32>,
@@ -21,7 +24,7 @@ pub fn read(text: &[u8]) -> Result<Requests, u32> {
     let filled = lines.filter(|line| !line.iter().all(is_blank));
     let mut lines = filled.skip_while(|line| line.starts_with(b"%"));
     let [size, other_size, count] = lines.next().and_then(numbers).ok_or(16u32)?;
-    let entries: Vec<[u64; 2]> = lines.map(numbers).collect::<Option<_>>().ok_or(16u32)?;
+    let mut entries: Vec<[u64; 2]> = lines.map(numbers).collect::<Option<_>>().ok_or(16u32)?;
     if size != other_size || size > MOST_COLUMNS as u64 {
         return Err(16);
     }
@@ -31,8 +34,20 @@ pub fn read(text: &[u8]) -> Result<Requests, u32> {
     if entries.iter().any(|&[row, column]| column == 0 || row < column || row > size) {
         return Err(17);
     }
+    if entries.is_empty() {
+        entries = (1..=size).map(|cell| [cell, cell]).collect();
+    }
     let places = |at: usize| entries.iter().map(|entry| entry[at] as u32 - 1).collect();
     Ok(Requests { dimension: size as usize, rows: places(0), columns: places(1) })
+}
+
+/// The file of requests that are not refused: each pair once, by column then row.
+pub fn written(dimension: usize, rows: &[u32], columns: &[u32]) -> Vec<u8> {
+    let pairs: BTreeSet<(u32, u32)> = columns.iter().copied().zip(rows.iter().copied()).collect();
+    let size = format!("{dimension} {dimension} {}", pairs.len());
+    let lines = pairs.iter().map(|(column, row)| format!("{} {}", row + 1, column + 1));
+    let lines = once(size).chain(lines).map(String::into_bytes);
+    once(HEADER.to_vec()).chain(lines).flat_map(|line| [line, b"\n".to_vec()]).flatten().collect()
 }
 
 fn is_blank(byte: &u8) -> bool {

@@ -1,4 +1,4 @@
-//! `benchmark-files`: the time of reading a file beside that of a plain Rust reader and of C's `fscanf`.
+//! `benchmark-files`, its first table: the time of reading a file beside that of a plain Rust reader and of C's `fscanf`.
 //!
 //! A file has as many entries as there may be, once by column then row and once in random order. Each reader fills the
 //! same lists, allocated before, and must give the same requests. Timed is processor time, in turn, the best of the runs
@@ -13,6 +13,7 @@ use crate::list::List;
 use crate::random::Random;
 use crate::refusals::{MOST_COLUMNS, MOST_ENTRIES};
 use crate::subjects::PairLists;
+use crate::writing::rows_of_written;
 use std::ffi::{c_char, c_int, CString};
 use std::hint::black_box;
 use std::io;
@@ -106,14 +107,14 @@ fn read_by_fscanf(name: &CString, rows: &mut [u32], columns: &mut [u32]) -> Opti
     }
 }
 
-fn time_of<T>(work: impl FnOnce() -> T) -> f64 {
+pub fn time_of<T>(work: impl FnOnce() -> T) -> f64 {
     let start = processor_ms();
     black_box(work());
     processor_ms() - start
 }
 
 /// As many pairs as there may be, each once, in random order.
-fn some_pairs() -> Vec<[usize; 2]> {
+pub fn some_pairs() -> Vec<[usize; 2]> {
     let mut pairs: Vec<[usize; 2]> = (1..=MOST_COLUMNS).flat_map(|r| (1..=r).map(move |c| [r, c])).collect();
     Random::new(1).shuffle(&mut pairs);
     pairs.truncate(MOST_ENTRIES);
@@ -168,7 +169,8 @@ fn row(pairs: &[[usize; 2]], runs: usize) -> io::Result<Row> {
 
 pub fn benchmark_files(runs: usize) -> io::Result<()> {
     println!("{}; processor time in ms", machine());
-    rows_of_files(runs)
+    rows_of_files(runs)?;
+    rows_of_written(runs)
 }
 
 /// The table, with its title.

@@ -55,6 +55,7 @@ pub fn refusal(call: &Call) -> u32 {
         Function::FloorMean => floor(call, true),
         Function::Least => Ok(()),
         Function::ReadRequests => file(call),
+        Function::WriteRequests => written_file(call),
     };
     steps.err().unwrap_or(0)
 }
@@ -283,6 +284,17 @@ fn floor(call: &Call, scaled: bool) -> Steps {
 
 fn file(call: &Call) -> Steps {
     pair_room(call, matrix_market::read(&call.text)?.rows.len())
+}
+
+fn written_file(call: &Call) -> Steps {
+    let RequestLists { dimension, rows, columns } = &call.requests;
+    refuse(1, *dimension > MOST_COLUMNS)?;
+    request_bound(&call.requests)?;
+    requests(&call.requests, *dimension)?;
+    refuse(5, rows.iter().zip(columns.iter()).any(|(row, column)| row < column))?;
+    refuse(24, rows.is_empty() && *dimension > 0)?;
+    refuse(7, call.scratch.len() < rules::mark_words(*dimension))?;
+    refuse(7, call.file.len() < matrix_market::written(*dimension, rows, columns).len())
 }
 
 /// What 2 says of starts but for their number, and 9 of row starts.

@@ -24,6 +24,7 @@ pub struct Reply {
     pub least: f64,
     pub dimension: usize,
     pub requests: usize,
+    pub bytes: usize,
 }
 
 impl Reply {
@@ -39,7 +40,7 @@ impl Reply {
     pub fn same(&self, other: &Self) -> bool {
         let numbers = |r: &Self| {
             let counts = [r.requested, r.closure, r.factor, r.limit, r.pairs, r.hits, r.negative];
-            (r.refusal, r.status, counts, [r.dimension, r.requests, r.looks], [r.whole, r.low, r.high])
+            (r.refusal, r.status, counts, [r.dimension, r.requests, r.bytes, r.looks], [r.whole, r.low, r.high])
         };
         let values = |r: &Self| {
             [r.ratio, r.value, r.floor, r.least].map(|x| if x.is_nan() { f64::NAN.to_bits() } else { x.to_bits() })
@@ -79,6 +80,12 @@ impl From<sys::redstartgilt_pairs> for Reply {
 impl From<sys::redstartgilt_requests> for Reply {
     fn from(r: sys::redstartgilt_requests) -> Self {
         Reply { refusal: r.refusal, dimension: r.dimension, requests: r.requests, ..Reply::default() }
+    }
+}
+
+impl From<sys::redstartgilt_bytes> for Reply {
+    fn from(r: sys::redstartgilt_bytes) -> Self {
+        Reply { refusal: r.refusal, bytes: r.bytes, ..Reply::default() }
     }
 }
 

@@ -38,7 +38,7 @@ pub fn chain_words(n: usize) -> usize {
 /// The scratch words that a call with an answer leaves 0.
 pub fn cleared_words(function: Function, n: usize) -> usize {
     match function {
-        Function::FactorPattern | Function::OperatorPattern => mark_words(n),
+        Function::FactorPattern | Function::OperatorPattern | Function::WriteRequests => mark_words(n),
         Function::DependencyChain => chain_words(n),
         _ => scratch_words(n),
     }
@@ -307,11 +307,13 @@ pub fn expected(call: Call) -> Expected {
     expected
 }
 
-/// What a refused call leaves: of a scratch that is long enough the marks end 0 in pattern lists, and all words where the
-/// chain list is short, and after 8; after 20 scratch and work list.
+/// What a refused call leaves: of a scratch that is long enough the marks end 0 in pattern lists and where a file's bytes are
+/// short, and all words where the chain list is short, and after 8; after 20 scratch and work list.
 pub fn refused(number: u32, mut call: Call) -> Expected {
     let late = match call.function {
-        Function::FactorPattern | Function::OperatorPattern | Function::DependencyChain => number == 7,
+        Function::FactorPattern | Function::OperatorPattern | Function::DependencyChain | Function::WriteRequests => {
+            number == 7
+        }
         Function::OriginalDiag => number == 8,
         function => function.selects_wholes() && number == 20,
     };
@@ -406,6 +408,12 @@ fn accepted(mut call: Call) -> Expected {
             call.pairs.rows[..requests].copy_from_slice(&read.rows);
             call.pairs.columns[..requests].copy_from_slice(&read.columns);
             Expected::untouched(Reply { dimension: read.dimension, requests, ..Reply::default() }, call)
+        }
+        Function::WriteRequests => {
+            let written = matrix_market::written(call.requests.dimension, &call.requests.rows, &call.requests.columns);
+            call.file[..written.len()].copy_from_slice(&written);
+            clear(&mut call);
+            Expected::untouched(Reply { bytes: written.len(), ..Reply::default() }, call)
         }
         // those that write nothing
         _ => Expected::untouched(Reply::default(), call),

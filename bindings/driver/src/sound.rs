@@ -14,6 +14,7 @@ use crate::subjects::{
 use crate::whole::GREATEST;
 use crate::whole_factors::lists;
 use crate::whole_results::{any_row, any_track};
+use crate::written_lists::written_lists;
 use std::cmp::Ordering::{self, Equal, Greater, Less};
 
 /// Numbers at and past the greatest size that whole numbers may have.
@@ -321,6 +322,7 @@ pub fn sound(function: Function, n: usize, random: &mut Random) -> Call {
         }
         Function::Least => call.values.input = List::made(n, |_| some_value(random)),
         Function::ReadRequests => call.text = List::new(&sound_file(n, random)),
+        Function::WriteRequests => call.requests = written_lists(n, random),
     }
     call
 }

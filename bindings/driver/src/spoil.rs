@@ -11,6 +11,7 @@ use crate::random::Random;
 use crate::refusals::MOST_COLUMNS;
 use crate::sound::{sound, LARGE as LARGE_WHOLES};
 use crate::subjects::{EntryLists, FactorLists, OperatorLists, Pair, RangeLists, RequestLists, TrackLists};
+use crate::written_lists::WRITTEN_FAULTS;
 
 /// One call of so many is large.
 const LARGE: usize = 4_000;
@@ -306,6 +307,10 @@ fn spoil(call: &mut Call, n: usize, random: &mut Random) {
             _ => call.values.scale = random.any_value(),
         },
         Function::ReadRequests => call.text.edit(|text| damage(text, random)),
+        Function::WriteRequests => match random.below(REQUESTS + WRITTEN_FAULTS.len()) {
+            way if way < REQUESTS => spoil_requests(&mut call.requests, way, n, random),
+            way => WRITTEN_FAULTS[way - REQUESTS](&mut call.requests, random),
+        },
     }
 }
 
@@ -330,6 +335,8 @@ pub fn random_call(function: Function, random: &mut Random) -> Call {
         // a file is short whatever its size, and so is a result of one column
         100..=999 if function == Function::ReadRequests => random.below(MOST_COLUMNS + 2),
         100..=499 if function.reads_result() => random.below(600),
+        // and so are requests that are written, but for their scratch
+        100..=299 if function == Function::WriteRequests => random.below(MOST_COLUMNS + 2),
         _ => random.below(13),
     };
     let mut call = sound(function, n, random);
