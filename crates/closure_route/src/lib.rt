@@ -62,15 +62,7 @@ fn takahashi_column(
         scratch,
         result_values,
     );
-    finish_part(
-        result_values,
-        result_rows,
-        first,
-        last,
-        j,
-        with_pivots,
-        d,
-    );
+    finish_part(result_values, result_rows, first, last, j, with_pivots, d);
     store_diagonal(
         n,
         j,

@@ -1,21 +1,23 @@
 -- F2 and F3 of document 01, small broken factors and operators: what the definitions give, by computation.
 -- Assumes nothing.
-use Prim.Native.Nat.{ℕ}
+use Prim.Native.Nat.{ℕ, zero, suc, _<_}
+use native.Mathlib.Omega.{arith}
 use mathlib.Core.Bool.{true, false}
 use mathlib.Core.List.{List, [], _∷_}
 use mathlib.Core.Path.{_≡_, refl}
 use lib.Ieee.{Float, nan, inf, fin, binary64, ofBits, ofInt, ne, eq, le}
+use lib.Ieee.Scale.{finite}
 use lib.IntN.{pos, negsuc}
 use Rattle.lists.specs.Test.{any, anyIn}
 use Rattle.lists.specs.Select.{select, picked}
 use Rattle.lists.specs.Sum.{sumTo}
 use Rattle.refusal.specs.Steps.{Passed, verdict, refused, first}
-use Rattle.columns.specs.Columns.{factorLists, boundSteps, brokenSteps, startsSteps, rowsSteps, columnSteps}
+use Rattle.columns.specs.Columns.{value, factorLists, boundSteps, brokenSteps, startsSteps, rowsSteps, columnSteps}
 use Rattle.columns.specs.Kept.{f0, nonzero, diag, desc, pattern, keptPair, factorPairs}
 use Rattle.columns.specs.Stored.{finiteSteps, storedSteps, factorSteps}
 use Rattle.columns.specs.Diagonal.{diagonalSteps}
 use Rattle.columns.specs.Form.{patternPairs, patternPair}
-use Rattle.columns.specs.Pivots.{floatOne, pivotListSteps, pivotSteps}
+use Rattle.columns.specs.Pivots.{floatOne, pivotListSteps, pivotSteps, pivotSteps-passed}
 use Rattle.columns.specs.UnitDiagonals.{unitSteps}
 use Rattle.columns.specs.Operator.{operatorBoundSteps, operatorSteps}
 
@@ -202,6 +204,23 @@ pivot-zero = refl
 pivot-least : Passed (pivotSteps 1 (fin false 1 (negsuc 1073) ∷ []))
 unfolding first pivotSteps any ofBits le
 pivot-least = refl
+
+-- `pivotSteps-passed`: one pivot, 1
+pivot-passes : Passed (pivotListSteps 1 (whole 1 ∷ [])) × Passed (pivotSteps 1 (whole 1 ∷ []))
+unfolding ofInt ofBits le
+pivot-passes = pivotSteps-passed 1 (whole 1 ∷ []) (record {
+  long = refl;
+  finite-pivot = λ c h. one c h;
+  positive = λ c h. above c h;
+})
+  where
+    one : (c : ℕ) → c < 1 → finite (value (whole 1 ∷ []) c) ≡ true
+    one zero h = refl
+    one (suc c) h = absurd (omega (arith, h))
+
+    above : (c : ℕ) → c < 1 → le (value (whole 1 ∷ []) c) f0 ≡ false
+    above zero h = refl
+    above (suc c) h = absurd (omega (arith, h))
 
 -- ---- 23: a kept diagonal other than 1; a dropped one and a missing one are none
 pivot-diagonal : verdict (unitSteps 23 2 F2-starts F2-rows (nonzero (whole 1 ∷ whole 2 ∷ whole 3 ∷ [])) (floatOne (whole 1 ∷ whole 2 ∷ whole 3 ∷ []))) ≡ refused 23

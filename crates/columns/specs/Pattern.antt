@@ -17,7 +17,7 @@ use Rattle.takahashi.specs.Entries.{Entry}
 use Rattle.columns.specs.Columns.{start, row}
 use Rattle.columns.specs.Kept.{entry, nonzero, kept, keptDiagonal, keptBelow, keptRow, descPlaces, desc, pattern, keptPair, keptCount, factorPairs}
 use Rattle.columns.specs.Factor.{Starts, Sorted, starts-end, rows-rise}
-use Rattle.columns.specs.Diagonal.{Diagonal, keptDiagonal-row, keptDiagonal-kept}
+use Rattle.columns.specs.Diagonal.{Diagonal}
 
 -- the descendants' rows are the pattern
 pub desc-pattern : (starts rows : List ℕ) (values : List Float) (c : ℕ)
@@ -69,14 +69,6 @@ module _ {n : ℕ} {starts rows : List ℕ} (nz : ℕ → Bool) (S : Starts n st
       let g = select-holds (keptBelow rows nz c) (start starts c) (start starts (c + 1)) p (f .1) (f .2) b in
       let l : g .0 < length (pattern starts rows nz c) = rw length-map (g .1) in
       (g .0, l, pattern-at (g .0) l ∙ ap (row rows) (g .2) ∙ q)
-
--- a kept diagonal is a kept entry
-pub keptPair-diagonal : {starts rows : List ℕ} {c : ℕ} (nz : ℕ → Bool) → Diagonal starts rows nz c → keptPair starts rows nz c c ≡ true
-unfolding keptPair
-keptPair-diagonal {starts} {rows} {c} nz D =
-    let p = D .place in
-    anyIn-hit (keptRow rows nz c c) (start starts c) (start starts (c + 1)) p (D .from) (D .below)
-    (and-both (eqb (row rows p) c) (kept rows nz c p) (eq-eqb _ _ (keptDiagonal-row rows nz c p (D .kept))) (keptDiagonal-kept rows nz c p (D .kept)))
 
 module _ {n : ℕ} {starts rows : List ℕ} (nz : ℕ → Bool) (S : Starts n starts rows) (R : Sorted n starts rows) (c : ℕ) (h : c < n) where
   -- descendants lie below n

@@ -3,17 +3,16 @@
 use Prim.Native.Nat.{ℕ, zero, suc, _+_, _-_, _≤_, _<_}
 use native.Mathlib.Omega.{arith}
 use native.Mathlib.Nat.{eq-or-lt-of-le, le-of-suc-le-suc, le-refl, le-of-lt, lt-trans, not-suc-le-zero, add-zero, max-eq-left, min-eq-right}
-use native.Mathlib.Numerals.{add-one}
 use mathlib.Core.Path.{_≡_, refl, sym, ap, ap₂, subst, subst₂, _∙_}
 use mathlib.Core.Bool.{Bool, true}
 use mathlib.Core.Logic.{⊎-elim}
-use mathlib.Core.List.{List, _∷_, _++_, map, map-map, append-assoc, append-nil}
+use mathlib.Core.List.{List, _∷_, _++_, map, map-map}
 use lib.ListN.{length, getD, take, length-take, length-map, List·getD-append}
 use lib.Seq.{getD-take, getD-append-add}
 use lib.Ieee.{Float, nan}
 use Rattle.refusal.specs.Bounds.{maxDimension}
 use Rattle.lists.specs.Sum.{sumTo}
-use Rattle.lists.specs.Select.{one, picked, select, tally, getD-mapped}
+use Rattle.lists.specs.Select.{select, tally, getD-mapped}
 use Rattle.lists.specs.Tabulate.{tabulate-at}
 use Rattle.lists.specs.Cells.{cells, cellCount, cellCount-next, cellCount-mono, cells-length}
 use Rattle.pairs.specs.ColumnOrder.{byColumn, columnFirst, columnEnd, setSize}

@@ -3,6 +3,7 @@ ghost use Rattle.columns.specs.Columns.{factorLists};
 ghost use Rattle.columns.specs.Form.{formOf};
 ghost use Rattle.selection.specs.Selection.{lists};
 ghost use Rattle.fill.specs.Fill.{FillInput, Fills, FillsLists};
+use super::routes::takahashi_selected_inverse;
 use closure::diagnose;
 use diagnostics::SelectedInverseDiagnostics;
 use diagnostics::SelectedInverseStatus;
@@ -10,7 +11,6 @@ use kept_entries::kept_pairs;
 use layout::lay_out;
 use pair_places::scratch::clear_scratch;
 use refusal::MAX_DIMENSION;
-use super::routes::takahashi_selected_inverse;
 
 // The diagnosis; where the closed set of the marked pairs is within the limit the result lists are filled, and the scratch ends with the
 // positions of its members.

@@ -5,7 +5,7 @@ use mathlib.Core.Path.{_≡_, refl}
 use mathlib.Core.Bool.{true, false}
 use mathlib.Core.List.{List, [], _∷_}
 use lib.IntN.{pos, negsuc}
-use lib.Ieee.{Float, nan, inf, fin, binary64, ofBits, ofInt, ne, eq, le, add, sub, mul, div, neg}
+use lib.Ieee.{Float, nan, inf, fin, ofBits, ofInt, ne, eq, le, add, sub, mul, div, neg}
 use Rattle.lists.specs.Test.{any, anyIn}
 use Rattle.lists.specs.Sum.{sumTo}
 use Rattle.lists.specs.Select.{picked, select}

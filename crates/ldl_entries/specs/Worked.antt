@@ -1,33 +1,35 @@
 -- F2 of document 01 with pivots of 1, its diagonals kept and not, the request (0, 0) and limit 3: what the laws of a reply ask is met, and what they then give.
 -- Assumes nothing.
 use mathlib.Core.Path.{_≡_, refl, sym, ap, _∙_}
+use mathlib.Core.Bool.{true}
 use mathlib.Core.List.{List, [], _∷_}
 use Prim.Native.Nat.{ℕ, _<_}
 use lib.IntN.{pos, negsuc}
+use lib.Dec.{lit≤, lit<}
 use lib.ListN.{take}
-use lib.Ieee.{Float, ofBits, ofInt, ne, eq, le, add, sub, mul, div, neg}
+use lib.Ieee.{Float, binary64, ofBits, ofInt, ne, eq, le, add, sub, mul, div, neg, fits}
 use Rattle.lists.specs.Test.{any, anyIn}
 use Rattle.lists.specs.Select.{select, picked}
 use Rattle.lists.specs.Sum.{sumTo}
 use Rattle.lists.specs.Cells.{cells, cellCount}
 use Rattle.lists.specs.Tabulate.{tabulate}
 use Rattle.lists.specs.Overwrite.{overwrite, filled}
-use Rattle.refusal.specs.Steps.{Step, Passed, answered, first, first-passed}
+use Rattle.refusal.specs.Steps.{Passed, answered, first, first-passed}
 use Rattle.bits.specs.Bits.{bitWords}
 use Rattle.pairs.specs.Pair.{pairTotal}
 use Rattle.pairs.specs.Scratch.{scratchWords}
 use Rattle.columns.specs.Columns.{value, boundSteps, brokenSteps, startsSteps, rowsSteps, columnSteps}
-use Rattle.columns.specs.Kept.{nonzero, pattern}
+use Rattle.columns.specs.Kept.{nonzero, desc, pattern}
 use Rattle.columns.specs.Stored.{finiteSteps, storedSteps}
 use Rattle.columns.specs.Form.{pivoted, patternPairs}
-use Rattle.columns.specs.Pivots.{pivotListSteps, pivotSteps}
+use Rattle.columns.specs.Pivots.{floatOne, pivotListSteps, pivotSteps}
 use Rattle.columns.specs.UnitDiagonals.{unitSteps}
 use Rattle.columns.specs.Examples.{whole, F2-starts, F2-rows, F2-values}
 use Rattle.exact.specs.Multiple.{Whole}
 use Rattle.exact.specs.Examples.{columns₂, F2-entries, F2-matrix, F2-inverse}
 use Rattle.closed_set.specs.ClosedSet.{reach, member}
 use Rattle.closed_set.specs.Requests.{requested}
-use Rattle.entries.specs.Entries.{pivotTable}
+use Rattle.entries.specs.Entries.{floatTable, pivotTable}
 use Rattle.diagnostics.specs.Diagnosis.{diagnosis}
 use Rattle.diagnostics.specs.declared.SelectedInverseDiagnostics.{SelectedInverseDiagnostics}
 use Rattle.diagnostics.specs.declared.SelectedInverseStatus.the-variants.{Complete}
@@ -37,13 +39,15 @@ use Rattle.diagnostics.specs.Selected.{selectedReplyOf}
 use Rattle.selection.specs.Diagnosis.{diagnosisOf}
 use Rattle.selection.specs.RequestSteps.{requestSteps}
 use Rattle.selection.specs.Selection.{Lent, roomOf, roomSteps, selectedAnswer, selectedTable, lists-passed, fillingOf}
-use Rattle.selection.specs.LdlCall.{LdlCall, ldlCall, ldlSelection, ldlSteps, ldl-accepted}
+use Rattle.selection.specs.LdlCall.{LdlCall, ldlCall, ldlSelection, ldlSteps, ldl-units, ldl-accepted}
 use Rattle.exact_entries.specs.Recurrence.{ReadsRecurrence}
 use Rattle.exact_entries.specs.ExactEntries.{ExactCall}
-use Rattle.exact_entries.specs.Worked.{F2-exact, F2-lent, F2-lists, F2Left, F2-found, F2ReadsBack, F2-passed, F2-left, F2-below}
+use Rattle.exact_entries.specs.Worked.{F2-diagonals, F2-exact, F2-lent, F2-lists, F2Left, F2-found, F2ReadsBack, F2-passed, F2-left, F2-below}
 use Rattle.ldl_entries.specs.LdlEntries.{LdlEntries}
 use Rattle.ldl_entries.specs.LdlReply.{ldl-passed, ldl-answers, ldl-answer, ldl-recurrence, ldl-exact}
 use Rattle.ldl_entries.specs.LdlSame.{pivots-same, families-same}
+use Rattle.ldl_entries.specs.DivOne.{div-one}
+use Rattle.ldl_entries.specs.LdlOnes.{OnesBeside, ones-same}
 
 abbrev F2-pivots : List Float
 F2-pivots = whole 1 ∷ whole 1 ∷ []
@@ -132,6 +136,11 @@ complete = ap (λ (d : SelectedInverseDiagnostics). d .status) told
 F2-reads-below : (v : Float) × (F2-found (ldlSelection F2-ldl) 1 0 ≡ answered v) × Whole v (negsuc 1)
 F2-reads-below = F2-reads .members complete 1 0 F2-below
 
+-- `ldl-units`: the kept diagonal of column 0, stored at place 0, is 1
+F2-unit : floatOne F2-values 0 ≡ true
+unfolding ofInt ofBits ne
+F2-unit = ldl-units F2-ldl (roomOf F2-lent) ldl-is-passed 0 0 (lit< tt) (lit≤ tt) (lit< tt) refl
+
 -- ---- with its diagonals kept and not, and with L * Lᵀ: the same descendants, so equal answers, starts and rows
 same : (c : ℕ) → c < 2 → pattern F2-starts F2-rows (nonzero F2-values) c ≡ pattern (0 ∷ 1 ∷ 1 ∷ []) (1 ∷ []) (nonzero (whole 2 ∷ [])) c
 unfolding select picked ofBits ofInt ne
@@ -148,3 +157,22 @@ either-family : take 3 (F2-lists .resultStarts) ≡ take 3 (F2-lists .resultStar
 either-family =
     families-same 2 2 3 (0 ∷ []) (0 ∷ []) F2-starts F2-rows F2-values F2-pivots F2-starts F2-rows F2-values (λ c h. refl) F2-lent F2-lent
     ldl-is-passed F2-passed replied F2-left .starts-same complete
+
+-- `ones-same`: with its diagonals not kept and pivots of 1, F2 has the bits that it has with L * Lᵀ
+bare-ones : OnesBeside 2 (0 ∷ 1 ∷ 1 ∷ []) (1 ∷ []) (whole 2 ∷ []) F2-pivots F2-starts F2-rows F2-values
+unfolding select picked ofBits ofInt ne
+bare-ones = record {
+  pivots-one = columns₂ (λ j. Whole (value F2-pivots j) (pos 1)) refl refl;
+  diagonals-one = F2-diagonals;
+  entries-same = columns₂ (λ j. desc (0 ∷ 1 ∷ 1 ∷ []) (1 ∷ []) (whole 2 ∷ []) j ≡ desc F2-starts F2-rows F2-values j) refl refl;
+}
+
+bare-bits : pivotTable 2 (0 ∷ 1 ∷ 1 ∷ []) (1 ∷ []) (whole 2 ∷ []) F2-pivots 1 0 ≡ floatTable 2 F2-starts F2-rows F2-values 1 0
+bare-bits =
+    ones-same (ldl-accepted F2-bare (roomOf F2-lent) bare-is-passed .factor) (ldl-accepted F2-ldl (roomOf F2-lent) ldl-is-passed .factor) bare-ones 1 0
+    (lit≤ tt, lit< tt)
+
+-- `div-one`: 5 / 1 is 5
+five-by-one : div binary64 (whole 5) (whole 1) ≡ whole 5
+unfolding ofInt fits
+five-by-one = div-one (whole 5) (whole 1) tt refl

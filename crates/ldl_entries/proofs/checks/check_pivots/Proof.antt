@@ -3,9 +3,8 @@ use Rattle.refusal.specs.Steps.{first-hit, first-skip, first-end}
 use Rattle.columns.specs.Pivots.{lowPivot, pivotSteps}
 use Rattle.lists.specs.Test.{any, any-none, any-more, any-less, any-hit}
 use borrow.Author.Needs.{needs}
-use native.Mathlib.Omega.{arith}
 use Prim.Native.Nat.{_≤_, _-_}
-use mathlib.Core.Path.{_≡_, sym, _∙_}
+use mathlib.Core.Path.{_≡_, sym}
 use Rattle.ldl_entries.proofs.checks.check_pivots.Statement.{statement}
 use Rattle.ldl_entries.proofs.checks.check_pivots.Tie as tie
 
