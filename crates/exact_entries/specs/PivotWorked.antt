@@ -40,7 +40,7 @@ use Rattle.exact_entries.specs.PivotEntries.{DyadicPivots, pivots-invers
 use Rattle.exact_entries.specs.Worked.{F2-lent, F2-accepted}
 
 -- F2 with the pivots 2 and 4, the request (0, 0) and limit 3
-abbrev two-four : List Float
+abbrev pub two-four : List Float
 two-four = whole 2 ∷ whole 4 ∷ []
 
 abbrev quarters : Selection
@@ -71,15 +71,15 @@ quarters-accepted =
     }
 
 -- ---- in multiples of 1 / 4: the pivots', those of the entry below the diagonal, and those of the inverse's entries
-abbrev quarters-pivots : ℕ → ℤ
+abbrev pub quarters-pivots : ℕ → ℤ
 quarters-pivots zero = pos 8
 quarters-pivots (suc j) = pos 16
 
-abbrev quarters-entries : ℕ → List (Entry ℤ)
+abbrev pub quarters-entries : ℕ → List (Entry ℤ)
 quarters-entries zero = record { row = 1; value = pos 8 } ∷ []
 quarters-entries (suc j) = []
 
-abbrev quarters-z : Matrix
+abbrev pub quarters-z : Matrix
 quarters-z zero j = pos 6
 quarters-z (suc i) zero = negsuc 1
 quarters-z (suc i) (suc j) = pos 1
@@ -124,7 +124,7 @@ lower-pair : (i j : ℕ) → InClosedSet quarters i j → Lower 2 i j
 lower-pair i j p = needed-range _ _ 2 (factor-pattern (nonzero F2-values) (quarters-accepted .factor)) (quarters-accepted .requests) p
 
 -- the hypotheses, with s = 2
-quarters-dyadic : DyadicPivots quarters two-four 2 quarters-pivots quarters-entries quarters-z
+pub quarters-dyadic : DyadicPivots quarters two-four 2 quarters-pivots quarters-entries quarters-z
 quarters-dyadic = record {
   form-is = refl;
   scale = lit≤ tt;
@@ -147,19 +147,19 @@ quarters-dyadic = record {
 }
 
 -- ---- an inverse of L * D * Lᵀ, which is 2 4 and 4 12: the whole numbers 6 -2 and -2 1 over 4
-abbrev quarters-matrix : Matrix
+abbrev pub quarters-matrix : Matrix
 quarters-matrix zero zero = pos 6
 quarters-matrix zero (suc j) = negsuc 1
 quarters-matrix (suc i) zero = negsuc 1
 quarters-matrix (suc i) (suc j) = pos 1
 
-abbrev unit-factor : Matrix
+abbrev pub unit-factor : Matrix
 unit-factor = factor (λ j. pos 4) quarters-entries
 
 abbrev inverts : ℕ → ℕ → Type 0
 inverts i j = product 2 (product 2 (columns-by quarters-pivots unit-factor) (transpose unit-factor)) quarters-matrix i j ≡ pos 256 *ℤ identity i j
 
-quarters-inverse : PivotInverse 2 (pos 4) quarters-pivots unit-factor quarters-matrix 4
+pub quarters-inverse : PivotInverse 2 (pos 4) quarters-pivots unit-factor quarters-matrix 4
 quarters-inverse = record {
   positive = lit< tt;
   product-is = λ i j h l. columns₂ (λ i. (j : ℕ) → j < 2 → inverts i j) (columns₂ (inverts 0) refl refl) (columns₂ (inverts 1) refl refl) i h j l;

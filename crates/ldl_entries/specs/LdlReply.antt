@@ -1,9 +1,10 @@
--- What reads back after a call that answers: the recurrence of L, D, L transposed, and where every pivot is 1 the exact inverse.
+-- What reads back after a call that answers: the recurrence of L, D, L transposed; where every pivot is 1, and where every exact step is a multiple of one
+-- 2 ^ -s, the exact inverse.
 -- Assumes nothing.
-use Prim.Native.Nat.{ℕ}
+use Prim.Native.Nat.{ℕ, _^_}
 use mathlib.Core.Path.{_≡_, sym, _∙_}
 use mathlib.Core.List.{List}
-use lib.IntN.{ℤ}
+use lib.IntN.{ℤ, pos}
 use Rattle.refusal.specs.Steps.{Step, answered, Passed, first-passed}
 use Rattle.refusal.specs.Told.{told-passed, told-answer}
 use Rattle.diagnostics.specs.declared.SelectedInverseDiagnostics.{SelectedInverseDiagnostics}
@@ -11,6 +12,7 @@ use Rattle.diagnostics.specs.declared.Selected.{Selected}
 use Rattle.diagnostics.specs.Selected.{selectedReplyOf}
 use Rattle.integers.specs.Matrix.{Matrix}
 use Rattle.integers.specs.Inverse.{WholeInverse}
+use Rattle.integers.specs.PivotInverse.{PivotInverse}
 use Rattle.takahashi.specs.Entries.{Entry}
 use Rattle.exact.specs.Factor.{factor}
 use Rattle.exact.specs.ExactCase.{ones}
@@ -18,6 +20,8 @@ use Rattle.selection.specs.Selection.{Lent, roomOf, selectedAnswer, selectedTab
 use Rattle.selection.specs.LdlCall.{LdlCall, ldlSelection, ldlSteps, ldl-accepted}
 use Rattle.exact_entries.specs.Recurrence.{ReadsRecurrence, reads-recurrence}
 use Rattle.exact_entries.specs.ExactEntries.{ExactCall, ReadsBack, exact-entries}
+use Rattle.exact_entries.specs.DyadicEntries.{ReadsMultiples}
+use Rattle.exact_entries.specs.PivotEntries.{DyadicPivots, pivots-entries}
 use Rattle.ldl_entries.specs.LdlEntries.{LdlEntries}
 
 module _ (x : LdlCall) (lent : Lent) {reply : Selected} {left : Lent} (C : LdlEntries x lent reply left) where
@@ -45,3 +49,9 @@ module _ (x : LdlCall) (lent : Lent) {reply : Selected} {left : Lent} (C : LdlEn
     pub ldl-exact : (whole : ℕ → List (Entry ℤ)) → ExactCall (ldlSelection x) whole → (X : Matrix) → WholeInverse (x .factor .n) (factor ones whole) X
         → ReadsBack (ldlSelection x) left X
     ldl-exact whole E X is = exact-entries (ldlSelection x) lent (ldl-accepted x (roomOf lent) ldl-answers) whole E X is steps ldl-answers (C .lists-are)
+
+    -- and of other pivots, where every exact step is a multiple of 2 ^ -s by at most 2 ^ 53: P / Q, any inverse of L * D * Lᵀ, is what reads back
+    pub ldl-dyadic : (s : ℕ) (w : ℕ → ℤ) (l : ℕ → List (Entry ℤ)) (z : Matrix) → DyadicPivots (ldlSelection x) (x .pivots) s w l z → (P : Matrix) (Q : ℕ)
+        → PivotInverse (x .factor .n) (pos (2 ^ s)) w (factor (λ j. pos (2 ^ s)) l) P Q → ReadsMultiples (ldlSelection x) left s z P Q
+    ldl-dyadic s w l z E P Q is =
+        pivots-entries (ldlSelection x) lent (ldl-accepted x (roomOf lent) ldl-answers) (x .pivots) s w l z E P Q is steps ldl-answers (C .lists-are)

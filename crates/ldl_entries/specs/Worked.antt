@@ -1,13 +1,13 @@
 -- F2 of document 01 with pivots of 1, its diagonals kept and not, the request (0, 0) and limit 3: what the laws of a reply ask is met, and what they then give.
 -- Assumes nothing.
 use mathlib.Core.Path.{_≡_, refl, sym, ap, _∙_}
-use mathlib.Core.Bool.{true}
+use mathlib.Core.Bool.{true, false}
 use mathlib.Core.List.{List, [], _∷_}
 use Prim.Native.Nat.{ℕ, _<_}
 use lib.IntN.{pos, negsuc}
 use lib.Dec.{lit≤, lit<}
 use lib.ListN.{take}
-use lib.Ieee.{Float, binary64, ofBits, ofInt, ne, eq, le, add, sub, mul, div, neg, fits}
+use lib.Ieee.{Float, binary64, ofBits, ofInt, ne, eq, le, add, sub, mul, div, neg, fits, fin}
 use Rattle.lists.specs.Test.{any, anyIn}
 use Rattle.lists.specs.Select.{select, picked}
 use Rattle.lists.specs.Sum.{sumTo}
@@ -38,13 +38,15 @@ use Rattle.diagnostics.specs.declared.Selected.the-variants.{Answered}
 use Rattle.diagnostics.specs.Selected.{selectedReplyOf}
 use Rattle.selection.specs.Diagnosis.{diagnosisOf}
 use Rattle.selection.specs.RequestSteps.{requestSteps}
-use Rattle.selection.specs.Selection.{Lent, roomOf, roomSteps, selectedAnswer, selectedTable, lists-passed, fillingOf}
+use Rattle.selection.specs.Selection.{Lent, lists, ResultLists, roomOf, roomSteps, selectedAnswer, selectedTable, lists-passed, fillingOf}
 use Rattle.selection.specs.LdlCall.{LdlCall, ldlCall, ldlSelection, ldlSteps, ldl-units, ldl-accepted}
 use Rattle.exact_entries.specs.Recurrence.{ReadsRecurrence}
 use Rattle.exact_entries.specs.ExactEntries.{ExactCall}
-use Rattle.exact_entries.specs.Worked.{F2-diagonals, F2-exact, F2-lent, F2-lists, F2Left, F2-found, F2ReadsBack, F2-passed, F2-left, F2-below}
+use Rattle.exact_entries.specs.Worked.{F2-diagonals, F2-exact, F2-lent, F2-lists, F2Left, F2-found, F2ReadsBack, F2-passed, F2-left, F2-below, F2-cleared}
+use Rattle.exact_entries.specs.DyadicEntries.{ReadsMultiples}
+use Rattle.exact_entries.specs.PivotWorked.{two-four, quarters-pivots, quarters-entries, quarters-z, quarters-dyadic, quarters-matrix, quarters-inverse}
 use Rattle.ldl_entries.specs.LdlEntries.{LdlEntries}
-use Rattle.ldl_entries.specs.LdlReply.{ldl-passed, ldl-answers, ldl-answer, ldl-recurrence, ldl-exact}
+use Rattle.ldl_entries.specs.LdlReply.{ldl-passed, ldl-answers, ldl-answer, ldl-recurrence, ldl-exact, ldl-dyadic}
 use Rattle.ldl_entries.specs.LdlSame.{pivots-same, families-same}
 use Rattle.ldl_entries.specs.DivOne.{div-one}
 use Rattle.ldl_entries.specs.LdlOnes.{OnesBeside, ones-same}
@@ -140,6 +142,40 @@ F2-reads-below = F2-reads .members complete 1 0 F2-below
 F2-unit : floatOne F2-values 0 ≡ true
 unfolding ofInt ofBits ne
 F2-unit = ldl-units F2-ldl (roomOf F2-lent) ldl-is-passed 0 0 (lit< tt) (lit≤ tt) (lit< tt) refl
+
+-- ---- the pivots 2 and 4, in multiples of 1 / 4: the entries 3 / 2, -1 / 2 and 1 / 4
+abbrev F2-quarters : LdlCall
+F2-quarters = ldlCall 2 F2-starts F2-rows F2-values two-four 2 (0 ∷ []) (0 ∷ []) 3
+
+abbrev quarters-lists : Lent
+quarters-lists = lists F2-starts F2-rows (fin false 3 (negsuc 0) ∷ fin true 1 (negsuc 0) ∷ fin false 1 (negsuc 1) ∷ []) F2-cleared
+
+quarters-is-passed : Passed (ldlSteps F2-quarters (roomOf F2-lent))
+unfolding any anyIn ofInt ofBits ne eq le first pairTotal bitWords scratchWords boundSteps brokenSteps startsSteps rowsSteps columnSteps finiteSteps storedSteps
+    requestSteps pivotListSteps unitSteps pivotSteps roomSteps ldlSteps
+quarters-is-passed = refl
+
+quarters-told : selectedAnswer (ldlSelection F2-quarters) ≡ diagnosis 1 3 3 3 Complete
+unfolding any sumTo picked select cellCount ofInt ofBits ne patternPairs reach member requested diagnosisOf
+quarters-told = refl
+
+quarters-left : ResultLists (ldlSteps F2-quarters (roomOf F2-lent)) (fillingOf (ldlSelection F2-quarters)) F2-lent quarters-lists
+unfolding any anyIn sumTo picked select cells cellCount tabulate filled overwrite ofInt ofBits ne add sub mul div neg pairTotal bitWords scratchWords reach member
+    requested pivotTable
+quarters-left = lists-passed (ldlSteps F2-quarters (roomOf F2-lent)) (fillingOf (ldlSelection F2-quarters)) F2-lent quarters-is-passed refl refl refl refl
+
+quarters-replied : LdlEntries F2-quarters F2-lent (Answered (diagnosis 1 3 3 3 Complete)) quarters-lists
+quarters-replied = record {
+  replies =
+      ap (λ (d : SelectedInverseDiagnostics). answered d) (sym quarters-told)
+      ∙ sym (first-passed (ldlSteps F2-quarters (roomOf F2-lent)) (selectedAnswer (ldlSelection F2-quarters)) quarters-is-passed);
+  lists-are = quarters-left;
+}
+
+-- `ldl-dyadic`: the inverse 6 -2 and -2 1 over 4 is what reads back
+quarters-read : ReadsMultiples (ldlSelection F2-quarters) quarters-lists 2 quarters-z quarters-matrix 4
+quarters-read =
+    ldl-dyadic F2-quarters F2-lent quarters-replied refl 2 quarters-pivots quarters-entries quarters-z quarters-dyadic quarters-matrix 4 quarters-inverse
 
 -- ---- with its diagonals kept and not, and with L * Lᵀ: the same descendants, so equal answers, starts and rows
 same : (c : ℕ) → c < 2 → pattern F2-starts F2-rows (nonzero F2-values) c ≡ pattern (0 ∷ 1 ∷ 1 ∷ []) (1 ∷ []) (nonzero (whole 2 ∷ [])) c
