@@ -60,11 +60,7 @@ impl Trip<'_> {
         let call = Call { function: Function::ReadRequests, text: List::new(text), ..Call::default() };
         let (reply, made) = self.made(call);
         let front = |list: &[u32]| List::new(&list[..reply.requests]);
-        RequestLists {
-            dimension: reply.dimension,
-            rows: front(&made.pairs.rows),
-            columns: front(&made.pairs.columns),
-        }
+        RequestLists { dimension: reply.dimension, rows: front(&made.pairs.rows), columns: front(&made.pairs.columns) }
     }
 
     fn holds(&mut self, holds: bool, what: &str, call: &Call) {
