@@ -29,7 +29,9 @@ What the answers file holds is the Rust's answer with these changes:
 - `route` and `finish`, which a call does not tell, are left out.
 
 The Rust has no reader of Matrix Market files. The answers of kind `mmread` are those of `read_file`
-below, which follows document 02's text, and the files of the set `mmread` are made here too. Nor does it
+below, which follows document 02's text, and the files of the set `mmread` are made here too. Nor has it a
+writer: those of kind `mmwrite` are `write_file`'s, each of which `read_file` must read back as the set that was
+written, and the lists of the set are made here. Nor does it
 count the places that a search looks at: of kind `search` places and looks are those of `search` below,
 and the columns of the set are made here. Nor has it a chain to a pair: the answers of kind `chain` are those
 of `chain_of` below, which follows document 02's text, and the set is made here. Nor does it compute in whole
@@ -71,6 +73,7 @@ SETS = {
     "permmarked": (60, 2000, 12),
     "pattern": (70, 4000, 12),
     "mmread": (100, 420, 12),
+    "mmwrite": (100, 1500, 12),
 }
 
 # ---- the text form
@@ -111,6 +114,7 @@ LENT = {
     "floor": OUTPUT,
     "least": {},
     "mmread": {"lrrows": ROOM, "lrcols": ROOM},
+    "mmwrite": {"lscratch": 67072, "lfile": 65536},
 }
 # the fields after the lists lent
 READ = {
@@ -136,12 +140,13 @@ READ = {
     "floor": ("floor", "scale", "input"),
     "least": ("input",),
     "mmread": ("file",),
+    "mmwrite": ("rdim", "rrows", "rcols"),
 }
 FIELDS = {kind: (*LENT[kind], *READ[kind]) for kind in READ}
 SCALARS = ("n", "rdim", "limit", "ncols", "ancols", "bncols", "prow", "pcol", "width", "floor", "scale")
 VALUES = ("values", "pivots", "oweights", "aweights", "bweights", "input", "lvalues", "lout")
 WHOLES = ("wvalues", "lwvalues", "lwork", "lows", "highs", "lwout")
-BYTES = ("file",)
+BYTES = ("file", "lfile")
 MARKS = ("marks", "lmarks")
 # what the program has room for: ROOM items of a list, so many pairs, bytes of a case, and this dimension where it lends its own lists
 PAIRS, LONGEST, DIMENSION = 64, 1048576, 256
@@ -215,7 +220,8 @@ def written_over(front, held):
 
 
 def is_value(x):
-    return isinstance(x, str)
+    """Whether it is a value's digits, or nan: a byte has two digits."""
+    return isinstance(x, str) and len(x) > 2
 
 
 def is_nan(bits):
@@ -308,7 +314,7 @@ def readable_fields(lines):
     f, expect = {}, []
     for line in lines:
         name, *words = line.split("#")[0].split()
-        if name in BYTES:
+        if name == "file":
             f[name] = byte_items(file_bytes(line[len(name) + 1 :]))
         elif name == "expect":
             expect = [x for w in words for x in items(w)]
@@ -316,7 +322,7 @@ def readable_fields(lines):
             f[name] = value_bits(words[0]) if name == "scale" else scalar(name, words[0])
         else:
             long = [x for w in words for x in items(w)]
-            read = value_bits if name in VALUES else whole_of if name in WHOLES else int
+            read = value_bits if name in VALUES else whole_of if name in WHOLES else str if name in BYTES else int
             f[name] = [read(x) for x in long]
     return f, expect
 
@@ -1095,7 +1101,8 @@ def read_file(data):
         return 16
     if not all(1 <= column <= row <= n for row, column in entries):
         return 17
-    return n, entries
+    # a file without entries means every diagonal cell
+    return n, [(row, column) for row, column in entries] or [(k, k) for k in range(1, n + 1)]
 
 
 def read_case(f):
@@ -1116,6 +1123,40 @@ def mmread_answer(f):
     rows, cols = ([str(pair[k] - 1) for pair in pairs] for k in (0, 1))
     count = str(len(pairs))
     return {"reply": ["ok"], "rdim": [str(n)], "requests": [count], "rrows": [count] + rows, "rcols": [count] + cols}
+
+
+def write_file(n, pairs):
+    """The file of a set of pairs, counted from 0: each once, by column then row."""
+    entries = sorted({(column, row) for row, column in pairs})
+    lines = [(n, n, len(entries))] + [(row + 1, column + 1) for column, row in entries]
+    data = HEADER + b"\n" + b"".join(b" ".join(b"%d" % x for x in line) + b"\n" for line in lines)
+    read = read_file(data)
+    assert read == (n, [(row + 1, column + 1) for column, row in entries])
+    return data
+
+
+def write_case(f):
+    return write_file(f["rdim"], zip(f["rrows"], f["rcols"]))
+
+
+def mmwrite_refusals(f):
+    n, rows, cols = f["rdim"], f["rrows"], f["rcols"]
+    if n > MOST_COLUMNS or len(rows) > MOST_ENTRIES:
+        yield 1
+    if len(rows) != len(cols):
+        yield 4
+    if any(not col <= row < n for row, col in zip(rows, cols)):
+        yield 5
+    if not rows and n:
+        yield 24
+    if room("mmwrite", f, "lscratch") < mark_words(n) or room("mmwrite", f, "lfile") < len(write_case(f)):
+        yield 7
+
+
+def mmwrite_answer(f):
+    """The answer to an accepted case, as the Rust tells those of other kinds."""
+    data = write_case(f)
+    return {"reply": ["ok"], "bytes": [str(len(data))], "file": [str(len(data))] + byte_items(data)}
 
 
 def no_refusals(f):
@@ -1145,6 +1186,7 @@ REFUSALS = {
     "floor": floor_refusals,
     "least": no_refusals,
     "mmread": mmread_refusals,
+    "mmwrite": mmwrite_refusals,
 }
 
 
@@ -1214,6 +1256,7 @@ TOLD = {
     "floor": ("floor", "hits"),
     "least": ("negative", "least"),
     "mmread": ("rdim", "requests"),
+    "mmwrite": ("bytes",),
 }
 
 
@@ -1225,10 +1268,10 @@ def error_number(kind, word):
 
 def cleared(kind, f, number):
     """How many words of the scratch end 0."""
-    pattern = kind in ("patfactor", "patoperator")
+    pattern = kind in ("patfactor", "patoperator", "mmwrite")
     needed = mark_words if pattern else chain_words if kind == "chain" else scratch_words
     words = needed(f[READ[kind][0]])
-    # the pairs alone have no room
+    # the pairs, or the file's bytes, alone have no room
     short = number == 7 and (pattern or kind == "chain") and room(kind, f, "lscratch") >= words
     return words if number in (0, 8, 20) or short else 0
 
@@ -1238,7 +1281,7 @@ def filled(kind, name, got):
     if kind == "diag" and name == "marks":
         return runs([0 if word == "none" else 1 for word in got["gets"][1:]])
     words = got["diag" if kind == "diag" else name][1:]
-    return runs(words if "l" + name in VALUES else [int(w) for w in words])
+    return runs(words if "l" + name in VALUES + BYTES else [int(w) for w in words])
 
 
 def lists_after(kind, f, number, got):
@@ -1247,7 +1290,7 @@ def lists_after(kind, f, number, got):
     lines = []
     for field, length in LENT[kind].items():
         name = field[1:]
-        blank = SEVENS if field in VALUES else 77 if field in MARKS else 7777
+        blank = SEVENS if field in VALUES else "77" if field in BYTES else 77 if field in MARKS else 7777
         held = runs(f[field]) if field in f else [(blank, length)]
         if name == "scratch":
             held = written_over([(0, cleared(kind, f, number))], held)
@@ -1290,7 +1333,7 @@ def get_answer(f, got):
 
 
 # the answers to accepted cases of which the Rust is not asked
-ANSWERS = {"mmread": mmread_answer, "chain": chain_answer, "bounds": bounds_answer, "track": track_answer}
+ANSWERS = {"mmread": mmread_answer, "mmwrite": mmwrite_answer, "chain": chain_answer, "bounds": bounds_answer, "track": track_answer}
 
 
 def expected(kind, f, answer):
@@ -1462,6 +1505,57 @@ def some_files(seed=1):
         if chance.one_of(3):
             f.update({x: [7777] * chance.below(6) for x in LENT["mmread"]})
         yield "mmread-%d" % k, f
+
+
+# how many lists the set mmwrite has
+LISTS = 1000
+
+
+def some_list_written(chance):
+    """Requests to be written: a few, most pairs of a small dimension, or its diagonal, in any order, some repeated; now and then
+    with a fault. One in two is lent lists, as long as needed, a few places more, or one less."""
+    n = chance.pick((0, 1, 2, 3, 3, 4, 5, 7, 8, 9, 10, 63, 64, 99, 100, 1000, 2071, 2072, MOST_COLUMNS))
+    ends = (0, 8, 9, 98, 99, 998, 999, n - 1)
+    index = lambda: min(chance.pick(ends), n - 1) if chance.one_of(3) else chance.below(n)
+    if n == 0:
+        pairs = []
+    elif n <= 10 and chance.one_of(3):
+        pairs = [(row, col) for row in range(n) for col in range(row + 1) if not chance.one_of(4)] or [(0, 0)]
+    elif n <= 10 and chance.one_of(4):
+        pairs = [(k, k) for k in range(n)]
+    else:
+        pairs = [ordered(index(), index()) for _ in range(chance.pick((1, 2, 3, 5, 8)))]
+    if pairs:
+        pairs += [chance.pick(pairs) for _ in range(chance.pick((0, 0, 1, 2, 5)))]
+    order = sorted((chance.next(), pair) for pair in pairs)
+    rows, cols = [pair[0] for _, pair in order], [pair[1] for _, pair in order]
+    f = {"rdim": n, "rrows": rows, "rcols": cols}
+    if chance.one_of(2):
+        lengths = mark_words(n), len(write_file(n, pairs))
+        words, count = (max(x + (-1 if chance.one_of(6) else chance.pick((0, 0, 1, 3))), 0) for x in lengths)
+        f.update({"lscratch": [chance.pick((7777, 5)) for _ in range(words)], "lfile": ["77"] * count})
+    if chance.one_of(5):
+        which = chance.below(6)
+        if which == 0:
+            f["rdim"] = chance.pick((MOST_COLUMNS + 1, 2**32 + n, 2**64 - 1))
+        elif which == 1:
+            name = chance.pick(("rrows", "rcols"))
+            f[name] = f[name][:-1] if f[name] and chance.one_of(2) else f[name] + [0]
+        elif which == 2:
+            f["rrows"] = f["rrows"] + [chance.pick((n, 2**32 - 1))]
+            f["rcols"] = f["rcols"] + [0]
+        elif which == 3 and n > 1:
+            f["rrows"] = [0] + f["rrows"]
+            f["rcols"] = [1 + chance.below(n - 1)] + f["rcols"]
+        else:
+            f["rrows"], f["rcols"] = [], []
+    return f
+
+
+def some_lists_written(seed=1):
+    chance = Chance(int(seed))
+    for k in range(LISTS):
+        yield "mmwrite-%d" % k, some_list_written(chance)
 
 
 # how many columns the set search has
@@ -1940,6 +2034,7 @@ def some_tracks(seed=1):
 # the sets that are made here, of the kind of the same name, of which the Rust is not asked
 MADE = {
     "mmread": some_files,
+    "mmwrite": some_lists_written,
     "search": some_searches,
     "chain": some_chains,
     "wget": some_whole_lookups,
@@ -2104,6 +2199,9 @@ def given(programs):
         elif kind in ("bounds", "track"):
             number = [refusal(kind, f)]
             number += [] if number[0] else variance_bounds(f) if kind == "bounds" else track_variances(f)
+        elif kind == "mmwrite":
+            number = [refusal(kind, f)]
+            number += [] if number[0] else [int(word) for word in write_case(f).split(b"\n", 1)[1].split()]
         elif kind in ("wentries", "ldl"):
             number = [refusal(kind, f)]
             if not number[0]:

@@ -21,6 +21,7 @@ use pattern_lists::listed::PatternPairs;
 use refusal::Checked;
 use refusal::Refusal;
 use requests_reader::ReadRequests;
+use requests_writer::WrittenRequests;
 use verdicts::refusal_number;
 use weight_ranges::VarianceBounds;
 
@@ -137,6 +138,25 @@ pub fn put_requests(rows: &[u32], columns: &[u32]) {
     put_words(b"rcols ", columns);
 }
 
+fn put_length(bytes: usize) {
+    put_ok();
+    put_number(b"bytes ", bytes);
+}
+
+// The reply of writing requests as a file.
+pub fn put_written(answer: WrittenRequests) {
+    match answer {
+        WrittenRequests::Written(bytes) => put_length(bytes),
+        WrittenRequests::Refused(why) => put_refused(why),
+    }
+}
+
+// The lists after it.
+pub fn put_file(scratch: &[u32], file: &[u8]) {
+    put_scratch(scratch);
+    put_bytes(b"file ", true, file);
+}
+
 pub fn put_scratch(scratch: &[u32]) {
     put_words(b"scratch ", scratch);
 }
@@ -146,7 +166,7 @@ pub fn put_output(output: &[f64]) {
 }
 
 pub fn put_marks(marks: &[u8]) {
-    put_bytes(b"marks ", marks);
+    put_bytes(b"marks ", false, marks);
 }
 
 fn put_status(status: SelectedInverseStatus) {

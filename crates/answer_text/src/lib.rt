@@ -74,8 +74,19 @@ fn put_word(x: u32, k: usize) {
     put_times(k);
 }
 
-fn put_byte(x: u8, k: usize) {
-    put_word(x as u32, k);
+// A byte as two hexadecimal digits, or as a decimal number.
+fn put_digits(x: u8, hex: bool) {
+    if hex {
+        io::print_hex(1, x as u64, 2);
+    } else {
+        io::print_decimal(1, x as u64);
+    }
+}
+
+fn put_byte(x: u8, hex: bool, k: usize) {
+    put(b" ");
+    put_digits(x, hex);
+    put_times(k);
 }
 
 fn put_spaced_value(x: f64, k: usize) {
@@ -167,14 +178,14 @@ pub fn put_words(label: &[u8], list: &[u32]) {
     put_line_end();
 }
 
-// The same with bytes.
-pub fn put_bytes(label: &[u8], list: &[u8]) {
+// The same with bytes, as hexadecimal or decimal numbers.
+pub fn put_bytes(label: &[u8], hex: bool, list: &[u8]) {
     put(label);
     put_count(list.len());
     let mut i = 0;
     while i < list.len() {
         let k = alike_bytes(list, i);
-        put_byte(list[i], k);
+        put_byte(list[i], hex, k);
         i += k;
     }
     put_line_end();

@@ -43,11 +43,11 @@ pub fn lent_words<'a>(text: &[u8], label: &[u8], list: &'a mut [u32]) -> &'a mut
     list
 }
 
-// The bytes after the label, as decimal numbers.
-pub fn lent_bytes<'a>(text: &[u8], label: &[u8], list: &'a mut [u8]) -> &'a mut [u8] {
+// The bytes after the label, as hexadecimal or decimal numbers.
+pub fn lent_bytes<'a>(text: &[u8], label: &[u8], hex: bool, list: &'a mut [u8]) -> &'a mut [u8] {
     let p = skip_to(text, 0, label);
     if p < text.len() {
-        let count = read_bytes(text, p, false, list);
+        let count = read_bytes(text, p, hex, list);
         return front_bytes(list, count);
     }
     list
@@ -107,5 +107,9 @@ pub fn lent_whole_output<'a>(text: &[u8], list: &'a mut [i64]) -> &'a mut [i64] 
 }
 
 pub fn lent_marks<'a>(text: &[u8], list: &'a mut [u8]) -> &'a mut [u8] {
-    lent_bytes(text, b"\nlmarks ", list)
+    lent_bytes(text, b"\nlmarks ", false, list)
+}
+
+pub fn lent_file<'a>(text: &[u8], list: &'a mut [u8]) -> &'a mut [u8] {
+    lent_bytes(text, b"\nlfile ", true, list)
 }

@@ -1,7 +1,6 @@
 // The cases of a text, one after another.
 ghost use Prim.Native.Nat.{_≤_};
 ghost use lib.ListN.{length};
-use super::files::of_files;
 use super::floors::of_floors;
 use super::permutations::of_permutations;
 use answer_text::put;
@@ -11,6 +10,7 @@ use case_text::skip_blanks;
 use case_text::skip_to;
 use case_text::skip_word;
 use replay_entries::of_entries;
+use replay_files::of_files;
 use replay_lookups::of_lookups;
 use replay_patterns::of_patterns;
 use replay_variances::of_variances;

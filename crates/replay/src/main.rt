@@ -1,6 +1,5 @@
 // Reads cases from standard input, makes their calls and writes the answers, both in the text form that replay/README.md gives.
 mod cases;
-mod files;
 mod floors;
 mod permutations;
 

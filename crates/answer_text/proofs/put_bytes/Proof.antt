@@ -5,10 +5,10 @@ use Rattle.answer_text.proofs.put_bytes.Statement.{statement}
 use Rattle.answer_text.proofs.put_bytes.Tie as tie
 
 abbrev Inv-loop : tie.InvT-loop
-Inv-loop label list i₀ i = i ≤ length list
+Inv-loop label hex list i₀ i = i ≤ length list
 
 abbrev μ-loop : tie.MeasureT-loop
-μ-loop label list i₀ i = length list - i
+μ-loop label hex list i₀ i = length list - i
 
 -- src/lib.rt:98:5
 put-requires : tie.Need-put-requires Inv-loop μ-loop
