@@ -686,6 +686,35 @@ fn request_files(answer: &mut String, case: &Case<'_>) {
     put_words(answer, "rcols", &columns);
 }
 
+fn written_requests(answer: &mut String, case: &Case<'_>) {
+    let (rows, columns) = (case.words("rrows"), case.words("rcols"));
+    let mut scratch = case.lent_words("lscratch", 67_072);
+    let mut file = match case.has("lfile") {
+        true => case.bytes("lfile"),
+        false => vec![0x77; 65_536],
+    };
+    let reply = unsafe {
+        sys::redstartgilt_write_requests(
+            case.number("rdim"),
+            rows.as_ptr(),
+            rows.len(),
+            columns.as_ptr(),
+            columns.len(),
+            file.as_mut_ptr(),
+            file.len(),
+            scratch.as_mut_ptr(),
+            scratch.len(),
+        )
+    };
+    if put_reply(answer, reply.refusal) {
+        let _ = writeln!(answer, "bytes {}", reply.bytes);
+    } else {
+        assert_eq!(reply.bytes, 0);
+    }
+    put_words(answer, "scratch", &scratch);
+    put_items(answer, "file", &file, u8::eq, |byte| format!("{byte:02x}"));
+}
+
 fn patterns(answer: &mut String, case: &Case<'_>) {
     let mut scratch = case.lent_words("lscratch", 33_024);
     let mut pair_rows = case.lent_words("lprows", 33_024);
@@ -887,6 +916,7 @@ fn answer(case: &Case<'_>) -> String {
         "search" => searches(&mut answer, case),
         "diag" => diagonals(&mut answer, case),
         "mmread" => request_files(&mut answer, case),
+        "mmwrite" => written_requests(&mut answer, case),
         "chain" => chains(&mut answer, case),
         "patfactor" | "patoperator" => patterns(&mut answer, case),
         "permvalidate" | "permfrom" | "permapply" | "permmarked" => permutations(&mut answer, case),
