@@ -9,7 +9,7 @@ const NOT_FINITE: [f64; 3] = [f64::NAN, f64::INFINITY, f64::NEG_INFINITY];
 
 /// A dimension past the bound, the lists as they were.
 fn large_dimension(call: &mut Call, random: &mut Random) {
-    call.factor.n = random.pick(&[MOST_COLUMNS + 1, (1 << 32) + call.factor.n, 1 << 63, usize::MAX]);
+    call.factor.n = random.pick(&[MOST_COLUMNS + 1, (1_usize << 32).saturating_add(call.factor.n), 1 << 63, usize::MAX]);
 }
 
 /// Starts or the number of values broken.
