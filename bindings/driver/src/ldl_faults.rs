@@ -9,7 +9,8 @@ const NOT_FINITE: [f64; 3] = [f64::NAN, f64::INFINITY, f64::NEG_INFINITY];
 
 /// A dimension past the bound, the lists as they were.
 fn large_dimension(call: &mut Call, random: &mut Random) {
-    call.factor.n = random.pick(&[MOST_COLUMNS + 1, (1_usize << 32).saturating_add(call.factor.n), 1 << 63, usize::MAX]);
+    call.factor.n =
+        random.pick(&[MOST_COLUMNS + 1, (1_usize << 32).saturating_add(call.factor.n), 1 << 63, usize::MAX]);
 }
 
 /// Starts or the number of values broken.
@@ -73,7 +74,11 @@ fn pivot_not_positive(call: &mut Call, random: &mut Random) {
 fn request_lengths(call: &mut Call, random: &mut Random) {
     let requests = &mut call.requests;
     match random.below(4) {
-        0 => requests.dimension = random.pick(&[0, requests.dimension + 1, usize::MAX, (1 << 32) + requests.dimension]),
+        0 => {
+            let dimension = requests.dimension;
+            let others = [0, dimension.saturating_add(1), usize::MAX, dimension.saturating_add(1 << 32)];
+            requests.dimension = random.pick(&others);
+        }
         1 => requests.rows.edit(|rows| rows.push(0)),
         2 => requests.columns.edit(|columns| columns.push(0)),
         _ => requests.columns.edit(|columns| columns.truncate(columns.len().saturating_sub(1))),
