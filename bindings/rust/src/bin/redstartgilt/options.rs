@@ -60,8 +60,8 @@ Options:
                       do. The command checks these hypotheses and says yes, or no and which number fails and what it is,
                       with the exit status 4; then nothing is promised, though a value may be exact all the same. The
                       theorem is proved, this check is a program. Values have all their digits; --csv and maps say that
-                      they are exact as with --whole. Not with --whole, whose answers are exact, nor with --operator,
-                      --why and --demo
+                      they are exact as with --whole. Not with --whole, whose answers are exact, nor with --pivots,
+                      --operator, --why and --demo
   --ranges FILE       with --whole: print bounds on the variance of weighted sums of cells whose weights are known within
                       ranges, and not the variances of the cells. Four whole numbers a line, in any order of the lines:
                       row, cell, and the low and the high end of the weight of that cell in that row's sum. The pairs of
