@@ -24,7 +24,7 @@ use weight_ranges::VarianceBounds;
 
 // The answer of a call that selects entries.
 #[repr(C)]
-#[derive(Drop)]
+#[derive(Clone, Copy)]
 pub struct SelectedNumbers {
     pub refusal: u32,
     pub status: u32,
@@ -37,7 +37,7 @@ pub struct SelectedNumbers {
 
 // The answer of a lookup.
 #[repr(C)]
-#[derive(Drop)]
+#[derive(Clone, Copy)]
 pub struct EntryNumbers {
     pub refusal: u32,
     pub value: f64,
@@ -45,7 +45,7 @@ pub struct EntryNumbers {
 
 // The answer of a lookup that counts the places it looks at.
 #[repr(C)]
-#[derive(Drop)]
+#[derive(Clone, Copy)]
 pub struct CountedNumbers {
     pub refusal: u32,
     pub value: f64,
@@ -54,7 +54,7 @@ pub struct CountedNumbers {
 
 // The answer of a lookup in a result of whole numbers.
 #[repr(C)]
-#[derive(Drop)]
+#[derive(Clone, Copy)]
 pub struct WholeEntryNumbers {
     pub refusal: u32,
     pub value: i64,
@@ -62,7 +62,7 @@ pub struct WholeEntryNumbers {
 
 // The bounds on a row's variance.
 #[repr(C)]
-#[derive(Drop)]
+#[derive(Clone, Copy)]
 pub struct BoundsNumbers {
     pub refusal: u32,
     pub low: i64,
@@ -71,7 +71,7 @@ pub struct BoundsNumbers {
 
 // The answer of a pattern list, or of a chain.
 #[repr(C)]
-#[derive(Drop)]
+#[derive(Clone, Copy)]
 pub struct PairNumbers {
     pub refusal: u32,
     pub pairs: usize,
@@ -79,7 +79,7 @@ pub struct PairNumbers {
 
 // The answer of reading a file of requests.
 #[repr(C)]
-#[derive(Drop)]
+#[derive(Clone, Copy)]
 pub struct RequestsNumbers {
     pub refusal: u32,
     pub dimension: usize,
@@ -88,7 +88,7 @@ pub struct RequestsNumbers {
 
 // The answer of writing requests as a file.
 #[repr(C)]
-#[derive(Drop)]
+#[derive(Clone, Copy)]
 pub struct BytesNumbers {
     pub refusal: u32,
     pub bytes: usize,
@@ -96,7 +96,7 @@ pub struct BytesNumbers {
 
 // The answer of the floor.
 #[repr(C)]
-#[derive(Drop)]
+#[derive(Clone, Copy)]
 pub struct FloorNumbers {
     pub refusal: u32,
     pub floor: f64,
@@ -105,7 +105,7 @@ pub struct FloorNumbers {
 
 // The count and the least.
 #[repr(C)]
-#[derive(Drop)]
+#[derive(Clone, Copy)]
 pub struct LeastNumbers {
     pub num_negative: usize,
     pub min_value: f64,

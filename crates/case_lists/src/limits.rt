@@ -1,7 +1,7 @@
 // The limit of a case, which may be absent.
 use case_text::{begins, decimal, skip_to};
 
-#[derive(Drop)]
+#[derive(Clone, Copy)]
 pub enum Limit {
     Default,
     Given(usize),

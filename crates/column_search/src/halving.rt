@@ -8,7 +8,7 @@ use super::Place;
 use words::at;
 
 // A place and the row there.
-#[derive(Drop)]
+#[derive(Clone, Copy)]
 struct Stood {
     place: usize,
     there: usize,

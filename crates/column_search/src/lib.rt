@@ -17,14 +17,14 @@ ghost use Rattle.column_search.specs.Reply.{place_reply};
 use words::at;
 
 // Where a row stands; `placeReply` of specs/Reply.antt gives document 01's number for an absent one.
-#[derive(Drop)]
+#[derive(Clone, Copy)]
 pub enum Place {
     At(usize),
     Absent,
 }
 
 // A place, and how many places were looked at for it.
-#[derive(Drop)]
+#[derive(Clone, Copy)]
 pub struct Found {
     pub place: Place,
     pub looks: usize,

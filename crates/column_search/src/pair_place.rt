@@ -11,14 +11,14 @@ use super::{Place, find_in_column};
 use refusal::{Checked, Refusal};
 
 // Where a pair stands, or what it is refused with; `pairReply` of specs/Reply.antt gives document 01's number.
-#[derive(Drop)]
+#[derive(Clone, Copy)]
 pub enum PairPlace {
     At(usize),
     Refused(Refusal),
 }
 
 // The same, and how many places were looked at.
-#[derive(Drop)]
+#[derive(Clone, Copy)]
 pub struct CountedPlace {
     pub place: PairPlace,
     pub looks: usize,

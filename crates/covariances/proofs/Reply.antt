@@ -1,4 +1,4 @@
--- A call beyond the bounds. The lists of a call within the limit: they can be read, and the row pairs' values that stand in them are the table's.
+-- The lists of a call within the limit: they can be read, and the row pairs' values that stand in them are the table's.
 -- Assumes nothing.
 use Prim.Native.Nat.{ℕ, ◌≤◌}
 use native.Mathlib.Omega.{arith}
@@ -9,10 +9,9 @@ use lib.ListN.{length}
 use lib.Ieee.{Float, nan}
 use borrow.Author.Tests.{leb-true}
 use Rattle.lists.specs.Overwrite.{overwrite, cleared}
-use Rattle.refusal.specs.Steps.{Step, refused, verdict, Passed, append-refused}
+use Rattle.refusal.specs.Steps.{Step, Passed}
 use Rattle.pairs.specs.Scratch.{scratch_words_room}
 use Rattle.pairs.specs.Positions.{inverse_at}
-use Rattle.columns.specs.Columns.{bound_steps}
 use Rattle.columns.specs.Kept.{nonzero, pattern}
 use Rattle.closed_set.specs.ClosedSet.{Holds, member_holds}
 use Rattle.closed_set.specs.Size.{closure_size_most}
@@ -24,7 +23,7 @@ use Rattle.selection.specs.Selection.{ResultLists, complete_values}
 use Rattle.quadratic_form.specs.RowValue.{row_pair_values}
 use Rattle.operator_values.specs.Reading.{RowPairValuesInput}
 use Rattle.operator_values.specs.Filled.{filled_pairs_reading, filled_pairs_values}
-use Rattle.covariances.specs.Covariances.{CovarianceCall, covariance_selection, covariance_bounds, covariance_steps, covariance_values, AcceptedCovariances}
+use Rattle.covariances.specs.Covariances.{CovarianceCall, covariance_selection, covariance_steps, covariance_values, AcceptedCovariances}
 
 module _ (x : CovarianceCall) (lent : Lent) (output : List Float) where
   abbrev steps : List Step
@@ -32,11 +31,6 @@ module _ (x : CovarianceCall) (lent : Lent) (output : List Float) where
 
   abbrev sel : Selection
   sel = covariance_selection x
-
-  -- ---- beyond the bounds, whatever the limit
-  pub out_of-bounds : {k : ℕ} → verdict (bound_steps x.factor.n (length x.factor.rows)) ≡ refused k → verdict steps ≡ refused k
-  unfolding covariance_steps
-  out_of-bounds e = append-refused (covariance_bounds x) _ _ tt (append-refused (bound_steps x.factor.n (length x.factor.rows)) _ _ tt e)
 
   -- ---- within the limit, with the scratch still to clear
   module _ (passed : Passed steps) {rs rr : List ℕ} {rv : List Float} (mid : List ℕ)

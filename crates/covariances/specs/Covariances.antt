@@ -11,7 +11,7 @@ use Rattle.columns.specs.Columns.{FactorLists, factor_lists, outside_at, outside
 use Rattle.columns.specs.Factor.{bound_steps-sound}
 use Rattle.columns.specs.Stored.{stored_steps}
 use Rattle.columns.specs.Operator.{operator_rows, operator_bound_steps, operator_steps, operator_steps-sound}
-use Rattle.selection.specs.Selection.{Selection, selection, Lent, Room, room_of, fill_steps, selected_table, Accepted}
+use Rattle.selection.specs.Selection.{Selection, selection, Lent, Room, room_of, default_limit, fill_steps, selected_table, Accepted}
 use Rattle.selection.specs.Call.{fill_accepted}
 use Rattle.diagnostics.specs.declared.Selected.{Selected}
 use Rattle.request_marks.specs.CrossRequests.{cross_requested, cross_requested_ranged, OperatorPairs}
@@ -25,28 +25,27 @@ pub record Operator : Type 0 where
   pub columns : List ℕ
   pub weights : List Float
 
--- what a call is handed to read: a factor, operators a and b in factor order, the rows of each row pair, and a limit
+-- what a call is handed to read: a factor, operators a and b in factor order, and the rows of each row pair
 pub record CovarianceCall : Type 0 where
   pub factor : FactorLists Float
   pub a : Operator
   pub b : Operator
   pub a_rows : List ℕ
   pub b_rows : List ℕ
-  pub limit : ℕ
 
 abbrev pub operator : ℕ → List ℕ → List ℕ → List Float → Operator
 operator ncols row_starts columns weights = record { ncols = ncols; row_starts = row_starts; columns = columns; weights = weights }
 
 -- a call, from a function's parameters in their order
-abbrev pub covariance_call : ℕ → List ℕ → List ℕ → List Float → Operator → Operator → List ℕ → List ℕ → ℕ → CovarianceCall
-covariance_call n starts rows values a b a_rows b_rows limit = record { factor = factor_lists n starts rows values; a = a; b = b; a_rows = a_rows; b_rows = b_rows; limit = limit }
+abbrev pub covariance_call : ℕ → List ℕ → List ℕ → List Float → Operator → Operator → List ℕ → List ℕ → CovarianceCall
+covariance_call n starts rows values a b a_rows b_rows = record { factor = factor_lists n starts rows values; a = a; b = b; a_rows = a_rows; b_rows = b_rows }
 
 module _ (x : CovarianceCall) where
-  -- the requests are every column of the one row with every column of the other, for each row pair
+  -- the requests are every column of the one row with every column of the other, for each row pair; the limit is the default one
   abbrev pub covariance_selection : Selection
   covariance_selection =
       selection x.factor (cross_requested x.a.row_starts x.a.columns x.b.row_starts x.b.columns x.a_rows x.b_rows)
-      x.limit
+      (default_limit x.factor.rows)
 
   -- 1: too many row pairs, counted by a's list
   abbrev pub pair_bound_steps : List Step
@@ -77,7 +76,7 @@ module _ (x : CovarianceCall) where
       ∷ stored_steps x.factor
       ∷ count_steps
       ∷ operators_steps
-      ∷ fill_steps x.factor x.limit lengths
+      ∷ fill_steps x.factor (default_limit x.factor.rows) lengths
       ∷ output_steps (length x.a_rows) output
       ∷ []
 
@@ -90,8 +89,8 @@ module _ (x : CovarianceCall) where
       row_pair_values x.a.row_starts x.a.columns x.a.weights x.b.row_starts x.b.columns x.b.weights x.a_rows x.b_rows (selected_table covariance_selection)
 
 -- the reply and the lists of a call; either status carries the diagnosis
-pub record Covariances (x : CovarianceCall) (lent : Lent) (output : List Float) (reply : Selected) (left : Lent) (out : List Float) : Type 0 where
-  pub selected : SelectedOutput (covariance_steps x (room_of lent) (length output)) (covariance_selection x) (covariance_values x) lent output reply left out
+abbrev pub Covariances : CovarianceCall → Lent → List Float → Selected → Lent → List Float → Type 0
+Covariances x lent output = SelectedOutput (covariance_steps x (room_of lent) (length output)) (covariance_selection x) (covariance_values x) lent output
 
 -- ---- a call that passed
 

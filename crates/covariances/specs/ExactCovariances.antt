@@ -43,7 +43,7 @@ place_count o i = start o.row_starts (i + 1) - start o.row_starts i
 
 -- the same call with the operators exchanged
 abbrev pub exchanged : CovarianceCall → CovarianceCall
-exchanged x = record { factor = x.factor; a = x.b; b = x.a; a_rows = x.b_rows; b_rows = x.a_rows; limit = x.limit }
+exchanged x = record { factor = x.factor; a = x.b; b = x.a; a_rows = x.b_rows; b_rows = x.a_rows }
 
 module _ (x : CovarianceCall) where
   -- the rows of row pair p
@@ -148,14 +148,14 @@ module _ (x : CovarianceCall) (lent : Lent) (output : List Float) {reply : Selec
   checks = covariance_steps x (room_of lent) (length output)
 
   all : Passed checks
-  all = told_passed checks (selected_answer (covariance_selection x)) (sym answer ∙ C.selected.replies)
+  all = told_passed checks (selected_answer (covariance_selection x)) (sym answer ∙ C.replies)
 
   -- demand 3, of the reply: d is the diagnosis, X is what reads back, and the output holds each row pair's vᵀXu
   pub covariance_exact_reply : (whole : ℕ → List (Entry ℤ)) → ExactCall (covariance_selection x) whole
       → (X : Matrix) → WholeInverse x.factor.n (factor ones whole) X → (d ≡ selected_answer (covariance_selection x)) × CovariancesExact x left out X
   covariance_exact_reply whole E X is = (
-    told_answer checks (selected_answer (covariance_selection x)) (sym answer ∙ C.selected.replies),
-    subst (λ (o : List Float). CovariancesExact x left o X) (sym C.selected.output_is) (covariance_exact x lent output all whole E X is C.selected.lists_are),
+    told_answer checks (selected_answer (covariance_selection x)) (sym answer ∙ C.replies),
+    subst (λ (o : List Float). CovariancesExact x left o X) (sym C.output_is) (covariance_exact x lent output all whole E X is C.lists_are),
   )
 
   -- beyond unit diagonals, of the reply: d is the diagnosis, and P / Q is what reads back
@@ -163,6 +163,6 @@ module _ (x : CovarianceCall) (lent : Lent) (output : List Float) {reply : Selec
       → (P : Matrix) (Q : ℕ) → Inverse x.factor.n (pos (2 ^ s)) (factor m l) P Q
       → (d ≡ selected_answer (covariance_selection x)) × ReadsMultiples (covariance_selection x) left s z P Q
   covariance_dyadic_reply s m l z E P Q is = (
-    told_answer checks (selected_answer (covariance_selection x)) (sym answer ∙ C.selected.replies),
-    covariance_dyadic x lent output all s m l z E P Q is C.selected.lists_are,
+    told_answer checks (selected_answer (covariance_selection x)) (sym answer ∙ C.replies),
+    covariance_dyadic x lent output all s m l z E P Q is C.lists_are,
   )

@@ -1,5 +1,5 @@
--- F2 of document 01, cell 0 with weight 3 and cell 1 with weight 2, and limit 2, the set's size: their covariance 3 * 2 * -2 is the output -12, exactly, and so
--- it is exchanged. Of the factor with the rows 2 0 and 6 4, the same operators and the default limit, the inverse reads back in sixteenths.
+-- F2 of document 01, cell 0 with weight 3 and cell 1 with weight 2: their covariance 3 * 2 * -2 is the output -12, exactly, and so it is exchanged. Of the
+-- factor with the rows 2 0 and 6 4 and the same operators, the inverse reads back in sixteenths.
 -- Assumes nothing.
 use Rattle.std.specs.Prelude.{ℕ, zero, suc, ◌+◌, ◌<◌, ◌≡◌, refl, true, false, List, [], ◌∷◌, get_or, pos, negsuc, ◌*ℤ◌, Float}
 use Rattle.std.proofs.Common.{arith, sym, lit<, lit≤}
@@ -27,10 +27,10 @@ use Rattle.exact.specs.Examples.{f2_entries, f2_matrix, f2-inverse, sixteenths-d
 use Rattle.closed_set.specs.ClosedSet.{reach, member, request}
 use Rattle.entries.specs.Entries.{float_table}
 use Rattle.diagnostics.specs.Diagnosis.{diagnosis}
-use Rattle.diagnostics.specs.declared.SelectedInverseStatus.TheVariants.{Complete, ClosureTooLarge}
+use Rattle.diagnostics.specs.declared.SelectedInverseStatus.TheVariants.{Complete}
 use Rattle.diagnostics.specs.declared.Selected.TheVariants.{Answered}
 use Rattle.selection.specs.Diagnosis.{diagnosis_of}
-use Rattle.selection.specs.Selection.{room_of, room_steps, default_limit, selected_answer, lists_passed, filling_of, Lent, lists}
+use Rattle.selection.specs.Selection.{room_of, room_steps, selected_answer, lists_passed, filling_of, Lent, lists}
 use Rattle.exact_entries.specs.Recurrence.{found}
 use Rattle.exact_entries.specs.DyadicEntries.{DyadicCall, ReadsMultiples}
 use Rattle.exact_entries.specs.ExactEntries.{ExactCall}
@@ -45,7 +45,7 @@ use Rattle.covariances.specs.ExactCovariances.{exchanged, exact_covariance, Exac
 
 abbrev f2_pair : CovarianceCall
 f2_pair =
-    covariance_call 2 f2_starts f2_rows f2_values (operator 2 (0 ∷ 1 ∷ []) (0 ∷ []) (whole 3 ∷ [])) (operator 2 (0 ∷ 1 ∷ []) (1 ∷ []) (whole 2 ∷ [])) (0 ∷ []) (0 ∷ []) 2
+    covariance_call 2 f2_starts f2_rows f2_values (operator 2 (0 ∷ 1 ∷ []) (0 ∷ []) (whole 3 ∷ [])) (operator 2 (0 ∷ 1 ∷ []) (1 ∷ []) (whole 2 ∷ [])) (0 ∷ []) (0 ∷ [])
 
 f2_pair_passed : Passed (covariance_steps f2_pair (room_of f2_lent) 1)
 unfolding any any_in of_int of_bits ne le first pair_total bit_words scratch_words bound_steps broken_steps starts_steps rows_steps column_steps finite_steps stored_steps operator_steps
@@ -56,7 +56,7 @@ f2_pair_passed = refl
 -- the same operators with a factor of these values and row pairs of these lists
 abbrev f2-verdict : List Float → List ℕ → List ℕ → Reply (Unit {0})
 f2-verdict values a_rows b_rows =
-    verdict (covariance_steps (covariance_call 2 f2_starts f2_rows values f2_pair.a f2_pair.b a_rows b_rows 2) (room_of f2_lent) 1)
+    verdict (covariance_steps (covariance_call 2 f2_starts f2_rows values f2_pair.a f2_pair.b a_rows b_rows) (room_of f2_lent) 1)
 
 -- 18 before 4: an entry that is not finite, and lists of unequal length
 not_finite_first : f2-verdict (whole 1 ∷ nan ∷ whole 1 ∷ []) (0 ∷ []) [] ≡ refused 18
@@ -76,7 +76,7 @@ outside_before_diagonal = refl
 -- its hypotheses are met, of the call and of its row pair
 f2_pair_call : ExactCall (covariance_selection f2_pair) f2_entries
 f2_pair_call =
-    f2_exact cholesky (cross_requested (0 ∷ 1 ∷ []) (0 ∷ []) (0 ∷ 1 ∷ []) (1 ∷ []) (0 ∷ []) (0 ∷ [])) 2 (room_of f2_lent)
+    f2_exact cholesky (cross_requested (0 ∷ 1 ∷ []) (0 ∷ []) (0 ∷ 1 ∷ []) (1 ∷ []) (0 ∷ []) (0 ∷ [])) 30 (room_of f2_lent)
     (covariance_accepted f2_pair (room_of f2_lent) 1 f2_pair_passed).accepted f2_diagonals
 
 -- a fact of one place, and of one place of each row
@@ -102,16 +102,14 @@ f2_pair_exact = record {
 abbrev pair_lists : Lent
 pair_lists = lists (0 ∷ 1 ∷ 2 ∷ []) (1 ∷ 1 ∷ 9 ∷ []) (neg (whole 2) ∷ whole 1 ∷ whole 9 ∷ []) f2_cleared
 
-f2_pair_left : Covariances f2_pair f2_lent (whole 9 ∷ []) (Answered (diagnosis 1 2 3 2 Complete)) pair_lists (neg (whole 12) ∷ [])
+f2_pair_left : Covariances f2_pair f2_lent (whole 9 ∷ []) (Answered (diagnosis 1 2 3 30 Complete)) pair_lists (neg (whole 12) ∷ [])
 unfolding any any_in sum_to picked select cells cell_count tabulate filled overwrite of_int of_bits ne le add sub mul div neg first after pair_total bit_words scratch_words
     bound_steps broken_steps starts_steps rows_steps column_steps finite_steps stored_steps operator_steps diagonal_steps room_steps covariance_steps
     reach member factor_pairs diagnosis_of cross_requested row_pair_values add_terms add_places float_table
 f2_pair_left = record {
-  selected = record {
-    replies = refl;
-    lists_are = lists_passed (covariance_steps f2_pair (room_of f2_lent) 1) (filling_of (covariance_selection f2_pair)) f2_lent f2_pair_passed refl refl refl refl;
-    output_is = refl;
-  };
+  replies = refl;
+  lists_are = lists_passed (covariance_steps f2_pair (room_of f2_lent) 1) (filling_of (covariance_selection f2_pair)) f2_lent f2_pair_passed refl refl refl refl;
+  output_is = refl;
 }
 
 -- `covariance_exact_reply`: the output is vᵀXu
@@ -129,31 +127,9 @@ f2_pair_covariance = f2_pair_covariances.covariances f2_pair_complete 0 (lit< tt
 f2_pair_exchanged : exact_covariance (exchanged f2_pair) (λ p. pos 2) (λ p. pos 3) f2_matrix 0 ≡ negsuc 11
 f2_pair_exchanged = sym (covariance_exchanged f2_pair f2_lent (whole 9 ∷ []) f2_pair_passed f2_entries f2_pair_call f2_matrix f2-inverse (λ p. pos 3) (λ p. pos 2) 0 (lit< tt))
 
--- ---- with a limit one below the set's size the call is answered with ClosureTooLarge: its result lists and its output are as they were
-abbrev f2_limited : CovarianceCall
-f2_limited = covariance_call 2 f2_starts f2_rows f2_values f2_pair.a f2_pair.b (0 ∷ []) (0 ∷ []) 1
-
-f2_limited_passed : Passed (covariance_steps f2_limited (room_of f2_lent) 1)
-unfolding any any_in of_int of_bits ne le first pair_total bit_words scratch_words bound_steps broken_steps starts_steps rows_steps column_steps finite_steps stored_steps operator_steps
-    diagonal_steps room_steps covariance_steps
-f2_limited_passed = refl
-
-f2_limited_left : Covariances f2_limited f2_lent (whole 9 ∷ []) (Answered (diagnosis 1 2 3 1 ClosureTooLarge))
-    (lists f2_lent.result_starts f2_lent.result_rows f2_lent.result_values f2_cleared) (whole 9 ∷ [])
-unfolding any any_in sum_to picked select cell_count tabulate filled overwrite of_int of_bits ne le first after pair_total bit_words scratch_words
-    bound_steps broken_steps starts_steps rows_steps column_steps finite_steps stored_steps operator_steps diagonal_steps room_steps covariance_steps
-    reach member factor_pairs diagnosis_of cross_requested
-f2_limited_left = record {
-  selected = record {
-    replies = refl;
-    lists_are = lists_passed (covariance_steps f2_limited (room_of f2_lent) 1) (filling_of (covariance_selection f2_limited)) f2_lent f2_limited_passed refl refl refl refl;
-    output_is = refl;
-  };
-}
-
 -- ---- the factor with the rows 2 0 and 6 4 and the same operators: 3 * 2 * -3 / 16 is -9 / 8
 abbrev pair : CovarianceCall
-pair = covariance_call 2 f2_starts f2_rows sixteenths_values f2_pair.a f2_pair.b (0 ∷ []) (0 ∷ []) (default_limit f2_rows)
+pair = covariance_call 2 f2_starts f2_rows sixteenths_values f2_pair.a f2_pair.b (0 ∷ []) (0 ∷ [])
 
 pair_passed : Passed (covariance_steps pair (room_of f2_lent) 1)
 unfolding any any_in of_int of_bits ne le first pair_total bit_words scratch_words bound_steps broken_steps starts_steps rows_steps column_steps finite_steps stored_steps operator_steps
@@ -174,11 +150,9 @@ unfolding any any_in sum_to picked select cells cell_count tabulate filled overw
     bound_steps broken_steps starts_steps rows_steps column_steps finite_steps stored_steps operator_steps diagonal_steps room_steps covariance_steps
     reach member factor_pairs diagnosis_of cross_requested row_pair_values add_terms add_places float_table
 pair_left = record {
-  selected = record {
-    replies = refl;
-    lists_are = lists_passed (covariance_steps pair (room_of f2_lent) 1) (filling_of (covariance_selection pair)) f2_lent pair_passed refl refl refl refl;
-    output_is = refl;
-  };
+  replies = refl;
+  lists_are = lists_passed (covariance_steps pair (room_of f2_lent) 1) (filling_of (covariance_selection pair)) f2_lent pair_passed refl refl refl refl;
+  output_is = refl;
 }
 
 -- `covariance_dyadic_reply`: the inverse over 16 is what reads back, so at (1, 0), which the row pair asks for, a number equal to -3 / 16

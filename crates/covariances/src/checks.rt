@@ -12,7 +12,7 @@ use factor_check::bounds::check_bounds;
 use factor_check::check_stored;
 use operator_check::{check_operator, check_operator_bounds, operator_rows};
 use refusal::{Checked, MAX_ENTRIES, Refusal};
-use selected_checks::check_fill;
+use selected_checks::{check_fill, default_limit};
 use verdicts::{check_output, first_of};
 use words::index::index_outside;
 
@@ -118,7 +118,6 @@ pub fn check_covariances(
     b_weights: &[f64],
     a_rows: &[u32],
     b_rows: &[u32],
-    limit: usize,
     result_starts: usize,
     result_rows: usize,
     result_values: usize,
@@ -129,7 +128,7 @@ pub fn check_covariances(
         (covariance_call n starts.now rows.now values.now
         (operator a_ncols a_row_starts.now a_columns.now a_weights.now)
         (operator b_ncols b_row_starts.now b_columns.now b_weights.now)
-        a_rows.now b_rows.now limit)
+        a_rows.now b_rows.now)
         (room result_starts result_rows result_values scratch) output) }
 {
     match check_all_bounds(
@@ -162,7 +161,7 @@ pub fn check_covariances(
                     starts,
                     rows,
                     values,
-                    limit,
+                    default_limit(rows.len()),
                     result_starts,
                     result_rows,
                     result_values,

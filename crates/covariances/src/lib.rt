@@ -1,12 +1,11 @@
 // The covariances of row pairs of two operators.
 pub mod checks;
 
-ghost use Rattle.selection.specs.Selection.{lists, default_limit};
+ghost use Rattle.selection.specs.Selection.{lists};
 ghost use Rattle.covariances.specs.Covariances.{operator, covariance_call, Covariances};
 
 use checks::check_covariances;
 use diagnostics::{Selected, SelectedInverseStatus};
-use factor_check::bounds::check_bounds;
 use fill::fill_lists;
 use operator_values::row_pair_values;
 use pair_places::scratch::clear_scratch;
@@ -14,8 +13,8 @@ use refusal::Checked;
 use request_marks::cross::mark_cross_pairs;
 use selected_checks::default_limit;
 
-// The value of each row pair, if the closed set of all their columns' pairs has at most `limit` pairs. The result lists are filled as by selected entries.
-pub fn selected_inverse_transformed_covariances_with_limit(
+// The value of each row pair, if the closed set of all their columns' pairs is within the default limit. The result lists are filled as by selected entries.
+pub fn selected_inverse_transformed_covariances(
     n: usize,
     starts: &[u32],
     rows: &[u32],
@@ -30,7 +29,6 @@ pub fn selected_inverse_transformed_covariances_with_limit(
     b_weights: &[f64],
     a_rows: &[u32],
     b_rows: &[u32],
-    limit: usize,
     result_starts: &mut [u32],
     result_rows: &mut [u32],
     result_values: &mut [f64],
@@ -41,7 +39,7 @@ pub fn selected_inverse_transformed_covariances_with_limit(
         (covariance_call n starts.now rows.now values.now
         (operator a_ncols a_row_starts.now a_columns.now a_weights.now)
         (operator b_ncols b_row_starts.now b_columns.now b_weights.now)
-        a_rows.now b_rows.now limit)
+        a_rows.now b_rows.now)
         (lists result_starts.old result_rows.old result_values.old scratch.old) output.old result
         (lists result_starts.new result_rows.new result_values.new scratch.new) output.new }
 {
@@ -60,7 +58,6 @@ pub fn selected_inverse_transformed_covariances_with_limit(
         b_weights,
         a_rows,
         b_rows,
-        limit,
         result_starts.len(),
         result_rows.len(),
         result_values.len(),
@@ -79,6 +76,7 @@ pub fn selected_inverse_transformed_covariances_with_limit(
                 b_rows,
                 scratch,
             );
+            let limit = default_limit(rows.len());
             let diagnosis = fill_lists(
                 n,
                 starts,
@@ -117,62 +115,5 @@ pub fn selected_inverse_transformed_covariances_with_limit(
                 }
             }
         }
-    }
-}
-
-// The same with the default limit: 10 times the stored entries, dropped ones counted. Above the bounds there is no limit to compute.
-pub fn selected_inverse_transformed_covariances(
-    n: usize,
-    starts: &[u32],
-    rows: &[u32],
-    values: &[f64],
-    a_ncols: usize,
-    a_row_starts: &[u32],
-    a_columns: &[u32],
-    a_weights: &[f64],
-    b_ncols: usize,
-    b_row_starts: &[u32],
-    b_columns: &[u32],
-    b_weights: &[f64],
-    a_rows: &[u32],
-    b_rows: &[u32],
-    result_starts: &mut [u32],
-    result_rows: &mut [u32],
-    result_values: &mut [f64],
-    scratch: &mut [u32],
-    output: &mut [f64],
-) -> Selected
-    ensures { Covariances
-        (covariance_call n starts.now rows.now values.now
-        (operator a_ncols a_row_starts.now a_columns.now a_weights.now)
-        (operator b_ncols b_row_starts.now b_columns.now b_weights.now)
-        a_rows.now b_rows.now (default_limit rows.now))
-        (lists result_starts.old result_rows.old result_values.old scratch.old) output.old result
-        (lists result_starts.new result_rows.new result_values.new scratch.new) output.new }
-{
-    match check_bounds(n, rows.len()) {
-        Checked::Refused(why) => Selected::Refused(why),
-        Checked::Accepted => selected_inverse_transformed_covariances_with_limit(
-            n,
-            starts,
-            rows,
-            values,
-            a_ncols,
-            a_row_starts,
-            a_columns,
-            a_weights,
-            b_ncols,
-            b_row_starts,
-            b_columns,
-            b_weights,
-            a_rows,
-            b_rows,
-            default_limit(rows.len()),
-            result_starts,
-            result_rows,
-            result_values,
-            scratch,
-            output,
-        ),
     }
 }

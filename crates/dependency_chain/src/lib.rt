@@ -29,7 +29,7 @@ use words::order::{larger, smaller};
 use words::{at, clear};
 
 // How many pairs the chain has, 0 where the pair is not in the set; `chainReply` of specs/Reply.antt gives a refusal's number.
-#[derive(Drop)]
+#[derive(Clone, Copy)]
 pub enum ChainPairs {
     Pairs(usize),
     Refused(Refusal),

@@ -5,13 +5,13 @@ ghost use Rattle.diagnostics.specs.Diagnosis.{complete_of, max_count, ratio_of, 
 use refusal::Refusal;
 
 // Whether the closed set is within the limit.
-#[derive(Drop)]
+#[derive(Clone, Copy)]
 pub enum SelectedInverseStatus {
     Complete,
     ClosureTooLarge,
 }
 
-#[derive(Drop)]
+#[derive(Clone, Copy)]
 pub struct SelectedInverseDiagnostics {
     pub requested_pairs: usize,
     pub closure_pairs: usize,
@@ -34,7 +34,7 @@ impl SelectedInverseDiagnostics {
 }
 
 // What a call that fills result lists answers; `selectedReplyOf` of specs/Selected.antt gives the number of a refusal.
-#[derive(Drop)]
+#[derive(Clone, Copy)]
 pub enum Selected {
     Answered(SelectedInverseDiagnostics),
     Refused(Refusal),

@@ -2,4 +2,3 @@ pub mod ScanLaws
 pub mod FieldLaws
 pub mod PlaceLaws
 pub mod PlainLaws
-pub mod KnownLaws

@@ -7,14 +7,11 @@ use mathlib.Core.Bool.{Bool, true, false, not, false≢true}
 use mathlib.Core.List.{List, []}
 use mathlib.Core.Logic.{◌⊎◌, inl, inr}
 use lib.ListN.{length, get_or, drop}
-use lib.Dec.{leb}
-use lib.Seq.{get_or-drop}
-use borrow.Author.Tests.{lt-ltb, leb-true}
-use Rattle.lists.specs.Test.{and_left, and_right}
+use borrow.Author.Tests.{lt-ltb}
 use Rattle.matrix_market.specs.Text.{empty, is_blank, is_digit}
 use Rattle.file_lines.specs.Scan.{digits_of, cut}
-use Rattle.file_lines.specs.Places.{Skipped, NumberAt, DigitsRead, FewAt, FieldAt, digits_end, plain_end, PlainLine, PlainAt}
-use Rattle.file_lines.proofs.ScanLaws.{drop_next, front_stop, front_at}
+use Rattle.file_lines.specs.Places.{Skipped, NumberAt, DigitsRead, FewAt, FieldAt, PlainAt}
+use Rattle.file_lines.proofs.ScanLaws.{drop_next, front_stop}
 use Rattle.file_lines.proofs.FieldLaws.{digit_inked}
 use Rattle.file_lines.proofs.PlaceLaws.{skip_start, skip_more, skip_stop, number_start, number_more, number_stop, field_at, end_here, pair_whole}
 
@@ -31,21 +28,6 @@ module _ (text : List ℕ) (p : ℕ) where
         above = omega (arith, f.above);
         most = omega arith;
       }
-
--- ---- the digits from a place on
-pub digit_range : (b : ℕ) → is_digit b ≡ true → (48 ≤ b) × (b ≤ 57)
-unfolding is_digit
-digit_range b h = (leb-true 48 b (and_left (leb 48 b) (leb b 57) h), leb-true b 57 (and_right (leb 48 b) (leb b 57) h))
-
--- each byte from p to behind its digits is a digit
-pub digit_at : (text : List ℕ) (p i : ℕ) → p ≤ i → i < digits_end text p → is_digit (get_or text i 0) ≡ true
-digit_at text p i h l =
-    let at : p + (i - p) ≡ i = omega (arith, h) in
-    ap (λ (k : ℕ). is_digit (get_or text k 0)) (sym at) ∙ ap is_digit (sym (get_or-drop p text (i - p) 0))
-    ∙ front_at is_digit (drop p text) (i - p) (omega (arith, h, l))
-
-pub range_at : (text : List ℕ) (p i : ℕ) → p ≤ i → i < digits_end text p → (48 ≤ get_or text i 0) × (get_or text i 0 ≤ 57)
-range_at text p i h l = digit_range _ (digit_at text p i h l)
 
 -- ---- the line
 -- the byte is one digit: no blank, and the first of a number
@@ -67,21 +49,9 @@ module _ (text : List ℕ) (p value next : ℕ) (few : FewAt text p value next) 
       let above : p < next = omega (arith, few.above, more) in
       digit_byte (is_digit (get_or text p 0)) text p (omega (arith, l)) refl (few_number.there ∙ lt-ltb p next above)
 
-  pub few_end : next ≡ digits_end text p
-  few_end =
-      let none : digits_of (drop next text) ≡ [] = ap digits_of (drop_next text next l) ∙ front_stop is_digit _ _ other in
-      omega (arith, few.read.counted, ap length none)
-
 pub plain-not : (text : List ℕ) (p : ℕ) (formed : Bool) (first second next : ℕ) → formed ≡ false → PlainAt text p formed first second next
 plain-not text p formed first second next h =
-    let none : formed ≡ true → ⊥ = λ e. false≢true (sym h ∙ e) in
-    record {
-      inside = λ e. absurd (none e);
-      digit = λ e. absurd (none e);
-      pair = λ e. absurd (none e);
-      line = λ e. absurd (none e);
-      next_is = λ e. absurd (none e);
-    }
+    record { inside = λ e. absurd (false≢true (sym h ∙ e)); digit = λ e. absurd (false≢true (sym h ∙ e)); pair = λ e. absurd (false≢true (sym h ∙ e)) }
 
 not_digit : (b : ℕ) → (b ≡ 32) ⊎ (b ≡ 10) → is_digit b ≡ false
 unfolding is_digit
@@ -130,25 +100,6 @@ module _ (text : List ℕ) (p a mid b last : ℕ) (room : p + 10 ≤ length text
       field_at text mid (mid + 1) b last true one_blank (few_number text (mid + 1) b last y later last_in (not_digit _ (inr end)))
       (sym (lt-ltb (mid + 1) last above))
 
-  mid_is : mid ≡ digits_end text p
-  mid_is = few_end text p a mid x some mid_in (not_digit _ (inl gap))
-
-  last_is : last ≡ plain_end text p
-  last_is =
-      few_end text (mid + 1) b last y later last_in (not_digit _ (inr end)) ∙ ap (λ (m : ℕ). digits_end text (m + 1)) mid_is
-
-  plain_here : PlainLine text p
-  plain_here =
-      record {
-        room = room;
-        some = omega (arith, x.above, some, mid_is);
-        few = omega (arith, x.most, mid_is);
-        gap = ap (λ (k : ℕ). get_or text k 0) (sym mid_is) ∙ gap;
-        later_some = omega (arith, y.above, later, mid_is, last_is);
-        later_few = omega (arith, y.most, mid_is, last_is);
-        end = ap (λ (k : ℕ). get_or text k 0) (sym last_is) ∙ end;
-      }
-
   pub plain_line : PlainAt text p true a b (last + 1)
   plain_line =
       record {
@@ -156,6 +107,4 @@ module _ (text : List ℕ) (p a mid b last : ℕ) (room : p + 10 ≤ length text
         digit = λ _. first_digit;
         pair = λ _.
             pair_whole text p a mid true first_field refl b last (last + 1) true true second_field refl (end_here text last last none_behind last_in end);
-        line = λ _. plain_here;
-        next_is = λ _. omega (arith, last_is);
       }

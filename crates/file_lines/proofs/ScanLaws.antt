@@ -97,18 +97,6 @@ module _ (test : ℕ → Bool) where
   unfolding front
   front_end = refl
 
-  -- each byte of the run passes the test
-  front_at_of : (e : Bool) (b : ℕ) (t : List ℕ) (i : ℕ) → test b ≡ e → ((j : ℕ) → j < length (front test t) → test (get_or t j 0) ≡ true)
-      → i < length (cond e (b ∷ front test t) []) → test (get_or (b ∷ t) i 0) ≡ true
-  front_at_of true b t zero d r h = d
-  front_at_of true b t (suc i) d r h = r i (omega (arith, h))
-  front_at_of false b t i d r h = absurd (omega (arith, h))
-
-  pub front_at : (t : List ℕ) (i : ℕ) → i < length (front test t) → test (get_or t i 0) ≡ true
-  unfolding front
-  front_at [] i h = absurd (omega (arith, h))
-  front_at (b ∷ t) i h = front_at_of (test b) b t i refl (front_at t) h
-
   -- twice is once
   past_twice-of : (e : Bool) (b : ℕ) (t : List ℕ) → test b ≡ e → past test (past test t) ≡ past test t
       → past test (cond e (past test t) (b ∷ t)) ≡ cond e (past test t) (b ∷ t)

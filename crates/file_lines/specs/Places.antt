@@ -1,6 +1,6 @@
 -- What the functions that read a text from a place on promise.
 -- Assumes nothing.
-use Rattle.std.specs.Prelude.{ℕ, zero, suc, ◌+◌, ◌≤◌, ◌<◌, ◌≡◌, Bool, true, false, not, List, ltb, length, get_or, drop}
+use Rattle.std.specs.Prelude.{ℕ, ◌+◌, ◌≤◌, ◌<◌, ◌≡◌, Bool, true, false, not, List, ltb, length, get_or, drop}
 use Rattle.matrix_market.specs.Text.{fields, empty, is_digit, numeral}
 use Rattle.matrix_market.specs.File.{are_numbers, number}
 use Rattle.file_lines.specs.Scan.{line_of, rest_of, past, unblank, digits_of, undigit, unfield, field_there, nth_number, cut}
@@ -75,50 +75,8 @@ pub record TripleAt (text : List ℕ) (p : ℕ) (formed : Bool) (first second th
   pub second_is : formed ≡ true → second ≡ cut (number 1 (fields_at text p))
   pub third_is : formed ≡ true → third ≡ cut (number 2 (fields_at text p))
 
--- the place behind the digits from p on
-abbrev pub digits_end : List ℕ → ℕ → ℕ
-digits_end text p = p + length (digits_of (drop p text))
-
--- the place of a plain line's end: behind the digits behind one byte behind the digits from p on
-abbrev pub plain_end : List ℕ → ℕ → ℕ
-plain_end text p = digits_end text (digits_end text p + 1)
-
--- a plain line stands at p: two numbers of at most four digits, one space between them and a line end right behind, ten bytes before the text's end
-pub record PlainLine (text : List ℕ) (p : ℕ) : Type 0 where
-  pub room : p + 10 ≤ length text
-  pub some : p < digits_end text p
-  pub few : digits_end text p ≤ p + 4
-  pub gap : get_or text (digits_end text p) 0 ≡ 32
-  pub later_some : digits_end text p + 1 < plain_end text p
-  pub later_few : plain_end text p ≤ digits_end text p + 5
-  pub end : get_or text (plain_end text p) 0 ≡ 10
-
--- the place of the plain line with k others before it
-unfoldable pub plain_place : List ℕ → ℕ → ℕ → ℕ
-plain_place text p zero = p
-plain_place text p (suc k) = plain_end text (plain_place text p k) + 1
-
--- k plain lines stand from p on
-pub record PlainLines (text : List ℕ) (p k : ℕ) : Type 0 where
-  pub line : (i : ℕ) → i < k → PlainLine text (plain_place text p i)
-
--- whether a plain line stands at p; then it is a line of two numbers, and a digit stands first
+-- whether a plain line stands at p, two short numbers with one space between them; then it is a line of two numbers, and a digit stands first
 pub record PlainAt (text : List ℕ) (p : ℕ) (formed : Bool) (first second next : ℕ) : Type 0 where
   pub inside : formed ≡ true → p < length text
   pub digit : formed ≡ true → is_digit (get_or text p 0) ≡ true
   pub pair : formed ≡ true → PairAt text p true first second next
-  pub line : formed ≡ true → PlainLine text p
-  pub next_is : formed ≡ true → next ≡ plain_end text p + 1
-
--- the number from p on has one to four digits, and of the four bytes behind its first digit the one behind its last alone is this
-pub record ShortNumber (text : List ℕ) (p end : ℕ) : Type 0 where
-  pub some : p < digits_end text p
-  pub few : digits_end text p ≤ p + 4
-  pub alone : (i : ℕ) → p < i → i ≤ p + 4 → get_or text i 0 ≡ end → i ≡ digits_end text p
-  pub ends : get_or text (digits_end text p) 0 ≡ end
-  pub room : p + 4 < length text
-
--- its value, and the place behind it
-pub record ShortAt (text : List ℕ) (p value next : ℕ) : Type 0 where
-  pub read : FewAt text p value next
-  pub is : next ≡ digits_end text p

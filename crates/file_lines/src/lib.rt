@@ -2,18 +2,17 @@
 ghost use Rattle.std.specs.Prelude.{◌≡◌, true, false, ◌+◌, ◌-◌, ◌*◌, ◌≤◌, ◌<◌, length};
 ghost use Rattle.matrix_market.specs.Text.{is_blank, is_digit};
 ghost use Rattle.file_lines.specs.Scan.{cut as Scan·cut};
-ghost use Rattle.file_lines.specs.Places.{Skipped, NumberAt, FieldAt, EndAt, FewAt, PairAt, TripleAt};
-ghost use Rattle.file_lines.specs.Places.{plain_end, PlainLine, PlainAt, ShortNumber, ShortAt};
+ghost use Rattle.file_lines.specs.Places.{Skipped, NumberAt, FieldAt, EndAt, FewAt, PairAt, PlainAt, TripleAt};
 
 // A number, cut off at 4294967295, and the place behind its digits.
-#[derive(Drop)]
+#[derive(Clone, Copy)]
 pub struct Number {
     pub value: usize,
     pub next: usize,
 }
 
 // Whether a number stands first, its value and the place behind it.
-#[derive(Drop)]
+#[derive(Clone, Copy)]
 struct Field {
     there: bool,
     value: usize,
@@ -21,22 +20,14 @@ struct Field {
 }
 
 // Whether a line ends, and the place behind it.
-#[derive(Drop)]
+#[derive(Clone, Copy)]
 pub struct LineEnd {
     pub ended: bool,
     pub next: usize,
 }
 
-// The two numbers of a line, and the place behind it.
-#[derive(Drop)]
-pub struct Pair {
-    pub first: usize,
-    pub second: usize,
-    pub next: usize,
-}
-
 // Whether a line has two numbers, these, and the place behind it.
-#[derive(Drop)]
+#[derive(Clone, Copy)]
 pub struct PairLine {
     pub formed: bool,
     pub first: usize,
@@ -45,7 +36,7 @@ pub struct PairLine {
 }
 
 // The same with three.
-#[derive(Drop)]
+#[derive(Clone, Copy)]
 pub struct TripleLine {
     pub formed: bool,
     pub first: usize,
@@ -289,78 +280,6 @@ fn not_plain() -> PairLine
         first: 0,
         second: 0,
         next: 0,
-    }
-}
-
-// What a digit, and two to four in a row, amount to.
-fn one_digit(a: u8) -> usize
-    requires { (48 ≤ a) × (a ≤ 57) }
-    ensures { result ≡ a - 48 }
-{
-    wide(a) - 48
-}
-
-fn two_digits(a: u8, b: u8) -> usize
-    requires { ((48 ≤ a) × (a ≤ 57)) × ((48 ≤ b) × (b ≤ 57)) }
-    ensures { result ≡ (a - 48) * 10 + (b - 48) }
-{
-    one_digit(a) * 10 + one_digit(b)
-}
-
-fn three_digits(a: u8, b: u8, c: u8) -> usize
-    requires { ((48 ≤ a) × (a ≤ 57)) × ((48 ≤ b) × (b ≤ 57)) × ((48 ≤ c) × (c ≤ 57)) }
-    ensures { result ≡ ((a - 48) * 10 + (b - 48)) * 10 + (c - 48) }
-{
-    two_digits(a, b) * 10 + one_digit(c)
-}
-
-fn four_digits(a: u8, b: u8, c: u8, d: u8) -> usize
-    requires { ((48 ≤ a) × (a ≤ 57)) × ((48 ≤ b) × (b ≤ 57)) × ((48 ≤ c) × (c ≤ 57)) × ((48 ≤ d) × (d ≤ 57)) }
-    ensures { result ≡ (((a - 48) * 10 + (b - 48)) * 10 + (c - 48)) * 10 + (d - 48) }
-{
-    three_digits(a, b, c) * 10 + one_digit(d)
-}
-
-// The number from p on, of one to four digits: where a byte ends it that stands at no other of the four places behind its first digit.
-fn short_number(text: &[u8], p: usize, end: u8) -> Number
-    requires { ShortNumber text.now p end }
-    ensures { ShortAt text.now p result.value result.next }
-{
-    if text[p + 4] == end {
-        return Number {
-            value: four_digits(text[p], text[p + 1], text[p + 2], text[p + 3]),
-            next: p + 4,
-        };
-    }
-    if text[p + 3] == end {
-        return Number {
-            value: three_digits(text[p], text[p + 1], text[p + 2]),
-            next: p + 3,
-        };
-    }
-    if text[p + 2] == end {
-        return Number {
-            value: two_digits(text[p], text[p + 1]),
-            next: p + 2,
-        };
-    }
-    Number {
-        value: one_digit(text[p]),
-        next: p + 1,
-    }
-}
-
-// The plain line at p, where one is known to stand and another behind it.
-pub fn known_plain(text: &[u8], p: usize) -> Pair
-    requires { PlainLine text.now p × PlainLine text.now (plain_end text.now p + 1) }
-    ensures { PlainAt text.now p true result.first result.second result.next }
-{
-    let a = short_number(text, p, 32);
-    let b = short_number(text, a.next + 1, 10);
-    Pair {
-        first: a.value,
-        second: b.value,
-        next: b.next + 1,
     }
 }
 

@@ -1,7 +1,7 @@
 -- Filling result lists from marked pairs: what it asks and leaves.
 -- Assumes nothing.
 use Rattle.std.specs.Prelude.{ℕ, ◌+◌, ◌≡◌, Bool, true, List, [], length, Float}
-use Rattle.std.proofs.Common.{arith, ◌∙◌}
+use Rattle.std.proofs.Common.{arith, ◌∙◌, subst}
 use Rattle.lists.specs.Overwrite.{cleared}
 use Rattle.diagnostics.specs.declared.SelectedInverseDiagnostics.{SelectedInverseDiagnostics}
 use Rattle.refusal.specs.Steps.{Step, Passed}
@@ -77,3 +77,12 @@ module _ {form : Form} {factor : FactorLists Float} {req : ℕ → ℕ → Bool}
         (passed_values [] f lent nothing-refused L)
         (passed_scratch [] f lent nothing-refused L
         ∙ cleared_same (queue_start factor.n + pair_total factor.n) (scratch_words factor.n) s₁ s₀ (scratch_words_queue factor.n) M.later)
+
+-- ---- the limit by another name
+
+module _ {form : Form} {factor : FactorLists Float} {limit other : ℕ} {lent : Lent} {d : SelectedInverseDiagnostics} {left : Lent} (same : limit ≡ other) where
+  pub fills_limit : Fills form factor limit lent d left → Fills form factor other lent d left
+  fills_limit F = subst (λ (k : ℕ). Fills form factor k lent d left) same F
+
+  pub fills_lists_limit : FillsLists form factor limit lent d left → FillsLists form factor other lent d left
+  fills_lists_limit F = subst (λ (k : ℕ). FillsLists form factor k lent d left) same F

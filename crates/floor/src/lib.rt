@@ -10,14 +10,14 @@ use refusal::{Checked, Refusal};
 use variance_floor::{VarianceFloor, check_floor, floor_of};
 
 // `StabilizedVariance` without its values, which go to the output.
-#[derive(Drop)]
+#[derive(Clone, Copy)]
 pub struct StabilizedVariance {
     pub floor: f64,
     pub floor_hits: usize,
 }
 
 // What the call answers; `stabilizedReply` of specs/Floor.antt gives document 01's number of a refusal.
-#[derive(Drop)]
+#[derive(Clone, Copy)]
 pub enum Stabilized {
     Answered(StabilizedVariance),
     Refused(Refusal),

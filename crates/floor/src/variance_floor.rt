@@ -10,7 +10,7 @@ use finite_check::{any_not_finite, is_finite};
 use refusal::{Checked, MAX_ENTRIES, Refusal};
 
 // The floor: 0.0, or max(|mean of positive values|, 1) * scale.
-#[derive(Drop)]
+#[derive(Clone, Copy)]
 pub enum VarianceFloor {
     Zero,
     PositiveMean { scale: f64 },

@@ -6,7 +6,7 @@ ghost use Rattle.std.specs.Float.Ieee.{lt};
 ghost use Rattle.least.specs.Least.{lesser, count_and_least};
 
 // The two fields of `VarianceEstimate` that the loop gives.
-#[derive(Drop)]
+#[derive(Clone, Copy)]
 pub struct CountAndLeast {
     pub num_negative: usize,
     pub min_value: f64,

@@ -14,7 +14,7 @@ use pair_places::column_place;
 use words::at;
 
 // A row and a column.
-#[derive(Drop)]
+#[derive(Clone, Copy)]
 pub struct Pair {
     pub row: usize,
     pub column: usize,

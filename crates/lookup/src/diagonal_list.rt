@@ -8,7 +8,7 @@ ghost use Rattle.result.specs.Lookup.{dimension, diagonal_of, mark_of, diagonals
 use column_search::{Place, find_in_column};
 
 // A diagonal, 0.0 where it is not covered, and its mark.
-#[derive(Drop)]
+#[derive(Clone, Copy)]
 struct MarkedDiagonal {
     value: f64,
     mark: u8,

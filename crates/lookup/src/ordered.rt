@@ -9,14 +9,14 @@ use column_search::pair_place::PairPlace;
 use refusal::Refusal;
 
 // What a lookup finds; `entryReply` of specs/Reply.antt gives document 01's number of a refusal.
-#[derive(Drop)]
+#[derive(Clone, Copy)]
 pub enum Entry {
     Value(f64),
     Refused(Refusal),
 }
 
 // What it finds, and how many places it looked at.
-#[derive(Drop)]
+#[derive(Clone, Copy)]
 pub struct CountedEntry {
     pub entry: Entry,
     pub looks: usize,

@@ -9,7 +9,7 @@ use refusal::Refusal;
 use whole_steps::whole_at;
 
 // What a lookup finds; `wholeReply` of specs/Reply.antt gives document 01's number of a refusal.
-#[derive(Drop)]
+#[derive(Clone, Copy)]
 pub enum WholeEntry {
     Value(i64),
     Refused(Refusal),

@@ -1,19 +1,17 @@
--- A call beyond the bounds. The lists of a call within the limit: they can be read, and the rows' values that stand in them are the table's.
+-- The lists of a call within the limit: they can be read, and the rows' values that stand in them are the table's.
 -- Assumes nothing.
 use Prim.Native.Nat.{ℕ, ◌≤◌}
 use native.Mathlib.Omega.{arith}
 use mathlib.Core.Path.{◌≡◌, ap, ◌∙◌}
 use mathlib.Core.Bool.{true}
-use mathlib.Core.List.{List, ◌++◌}
+use mathlib.Core.List.{List}
 use lib.ListN.{length}
 use lib.Ieee.{Float, nan}
 use borrow.Author.Tests.{leb-true}
 use Rattle.lists.specs.Overwrite.{overwrite, cleared}
-use Rattle.refusal.specs.Steps.{Step, refused, verdict, Passed, append-refused}
+use Rattle.refusal.specs.Steps.{Step, Passed}
 use Rattle.pairs.specs.Scratch.{scratch_words_room}
 use Rattle.pairs.specs.Positions.{inverse_at}
-use Rattle.columns.specs.Columns.{bound_steps}
-use Rattle.columns.specs.Operator.{operator_bound_steps}
 use Rattle.columns.specs.Kept.{nonzero, pattern}
 use Rattle.closed_set.specs.ClosedSet.{Holds, member_holds}
 use Rattle.closed_set.specs.Size.{closure_size_most}
@@ -34,14 +32,6 @@ module _ (x : TransformedCall) (lent : Lent) (output : List Float) where
 
   abbrev sel : Selection
   sel = transformed_selection x
-
-  -- ---- beyond the bounds, whatever the limit
-  pub out_of-bounds : {k : ℕ} → verdict (bound_steps x.factor.n (length x.factor.rows)) ≡ refused k → verdict steps ≡ refused k
-  unfolding transformed_steps
-  out_of-bounds e =
-      let bounds = bound_steps x.factor.n (length x.factor.rows) in
-      let later = operator_bound_steps x.row_starts x.columns in
-      append-refused (bounds ++ later) _ _ tt (append-refused bounds later _ tt e)
 
   -- ---- within the limit, with the scratch still to clear
   module _ (passed : Passed steps) {rs rr : List ℕ} {rv : List Float} (mid : List ℕ)

@@ -102,14 +102,14 @@ module _ (x : TransformedCall) (lent : Lent) (output : List Float) {reply : Sele
   checks = transformed_steps x (room_of lent) (length output)
 
   all : Passed checks
-  all = told_passed checks (selected_answer (transformed_selection x)) (sym answer ∙ C.selected.replies)
+  all = told_passed checks (selected_answer (transformed_selection x)) (sym answer ∙ C.replies)
 
   -- demand 3, of the reply: d is the diagnosis, X is what reads back, and the output holds each row's vᵀXv
   pub transformed_exact_reply : (whole : ℕ → List (Entry ℤ)) → ExactCall (transformed_selection x) whole
       → (X : Matrix) → WholeInverse x.factor.n (factor ones whole) X → (d ≡ selected_answer (transformed_selection x)) × TransformedExact x left out X
   transformed_exact_reply whole E X is = (
-    told_answer checks (selected_answer (transformed_selection x)) (sym answer ∙ C.selected.replies),
-    subst (λ (o : List Float). TransformedExact x left o X) (sym C.selected.output_is) (transformed_exact x lent output all whole E X is C.selected.lists_are),
+    told_answer checks (selected_answer (transformed_selection x)) (sym answer ∙ C.replies),
+    subst (λ (o : List Float). TransformedExact x left o X) (sym C.output_is) (transformed_exact x lent output all whole E X is C.lists_are),
   )
 
   -- beyond unit diagonals, of the reply: d is the diagnosis, and P / Q is what reads back
@@ -117,6 +117,6 @@ module _ (x : TransformedCall) (lent : Lent) (output : List Float) {reply : Sele
       → (P : Matrix) (Q : ℕ) → Inverse x.factor.n (pos (2 ^ s)) (factor m l) P Q
       → (d ≡ selected_answer (transformed_selection x)) × ReadsMultiples (transformed_selection x) left s z P Q
   transformed_dyadic_reply s m l z E P Q is = (
-    told_answer checks (selected_answer (transformed_selection x)) (sym answer ∙ C.selected.replies),
-    transformed_dyadic x lent output all s m l z E P Q is C.selected.lists_are,
+    told_answer checks (selected_answer (transformed_selection x)) (sym answer ∙ C.replies),
+    transformed_dyadic x lent output all s m l z E P Q is C.lists_are,
   )

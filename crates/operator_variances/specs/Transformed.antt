@@ -9,37 +9,37 @@ use Rattle.columns.specs.Columns.{FactorLists, factor_lists, bound_steps}
 use Rattle.columns.specs.Factor.{bound_steps-sound}
 use Rattle.columns.specs.Stored.{stored_steps}
 use Rattle.columns.specs.Operator.{operator_rows, operator_bound_steps, operator_steps, OperatorRows, operator_steps-sound}
-use Rattle.selection.specs.Selection.{Selection, selection, Lent, Room, room_of, fill_steps, selected_table, Accepted}
+use Rattle.selection.specs.Selection.{Selection, selection, Lent, Room, room_of, default_limit, fill_steps, selected_table, Accepted}
 use Rattle.selection.specs.Call.{fill_accepted}
 use Rattle.diagnostics.specs.declared.Selected.{Selected}
 use Rattle.request_marks.specs.OperatorRequests.{operator_requested, operator_requested_ranged}
 use Rattle.quadratic_form.specs.RowValue.{operator_values}
 use Rattle.operator_values.specs.Output.{SelectedOutput}
 
--- what a call is handed to read: a factor, an operator of `ncols` columns, in factor order, and a limit
+-- what a call is handed to read: a factor and an operator of `ncols` columns, in factor order
 pub record TransformedCall : Type 0 where
   pub factor : FactorLists Float
   pub ncols : ℕ
   pub row_starts : List ℕ
   pub columns : List ℕ
   pub weights : List Float
-  pub limit : ℕ
 
 -- a call, from a function's parameters in their order
-abbrev pub transformed_call : ℕ → List ℕ → List ℕ → List Float → ℕ → List ℕ → List ℕ → List Float → ℕ → TransformedCall
-transformed_call n starts rows values ncols row_starts columns weights limit = record {
+abbrev pub transformed_call : ℕ → List ℕ → List ℕ → List Float → ℕ → List ℕ → List ℕ → List Float → TransformedCall
+transformed_call n starts rows values ncols row_starts columns weights = record {
   factor = factor_lists n starts rows values;
   ncols = ncols;
   row_starts = row_starts;
   columns = columns;
   weights = weights;
-  limit = limit;
 }
 
 module _ (x : TransformedCall) where
-  -- the requests are all column pairs of each row
+  -- the requests are all column pairs of each row, the limit is the default one
   abbrev pub transformed_selection : Selection
-  transformed_selection = selection x.factor (operator_requested x.row_starts x.columns) x.limit
+  transformed_selection =
+      selection x.factor (operator_requested x.row_starts x.columns)
+      (default_limit x.factor.rows)
 
   -- 4: the operator's columns are not n
   abbrev pub column_count_steps : List Step
@@ -52,7 +52,7 @@ module _ (x : TransformedCall) where
       ∷ stored_steps x.factor
       ∷ column_count_steps
       ∷ operator_steps x.factor.n x.row_starts x.columns (length x.weights)
-      ∷ fill_steps x.factor x.limit lengths
+      ∷ fill_steps x.factor (default_limit x.factor.rows) lengths
       ∷ output_steps (operator_rows x.row_starts) output
       ∷ []
 
@@ -64,8 +64,8 @@ module _ (x : TransformedCall) where
   transformed_values = operator_values x.row_starts x.columns x.weights (selected_table transformed_selection)
 
 -- the reply and the lists of a call; either status carries the diagnosis
-pub record TransformedDiagonal (x : TransformedCall) (lent : Lent) (output : List Float) (reply : Selected) (left : Lent) (out : List Float) : Type 0 where
-  pub selected : SelectedOutput (transformed_steps x (room_of lent) (length output)) (transformed_selection x) (transformed_values x) lent output reply left out
+abbrev pub TransformedDiagonal : TransformedCall → Lent → List Float → Selected → Lent → List Float → Type 0
+TransformedDiagonal x lent output = SelectedOutput (transformed_steps x (room_of lent) (length output)) (transformed_selection x) (transformed_values x) lent output
 
 -- ---- a call that passed
 

@@ -1,5 +1,5 @@
--- F2 of document 01 with the operator row of weight 1 at both cells and limit 3, its set's size: its variance 5 - 2 - 2 + 1 is the output 2, exactly. Of the
--- factor with the rows 2 0 and 6 4, the same row and the default limit, the inverse reads back in sixteenths.
+-- F2 of document 01 with the operator row of weight 1 at both cells: its variance 5 - 2 - 2 + 1 is the output 2, exactly. Of the factor with the rows 2 0 and
+-- 6 4 and the same row, the inverse reads back in sixteenths.
 -- Assumes nothing.
 use Rattle.std.specs.Prelude.{◌+◌, ◌≡◌, refl, false, [], ◌∷◌, get_or, pos, negsuc, ◌*ℤ◌, Float}
 use Rattle.std.proofs.Common.{lit<, lit≤}
@@ -28,13 +28,13 @@ use Rattle.exact.specs.Examples.{columns₂, f2_entries, f2_matrix, f2-inverse, 
 use Rattle.closed_set.specs.ClosedSet.{reach, member, request}
 use Rattle.entries.specs.Entries.{float_table}
 use Rattle.diagnostics.specs.Diagnosis.{diagnosis}
-use Rattle.diagnostics.specs.declared.SelectedInverseStatus.TheVariants.{Complete, ClosureTooLarge}
+use Rattle.diagnostics.specs.declared.SelectedInverseStatus.TheVariants.{Complete}
 use Rattle.diagnostics.specs.declared.Selected.TheVariants.{Answered}
 use Rattle.selection.specs.Diagnosis.{diagnosis_of}
-use Rattle.selection.specs.Selection.{lists, room_of, room_steps, default_limit, selected_answer, lists_passed, filling_of}
+use Rattle.selection.specs.Selection.{room_of, room_steps, selected_answer, lists_passed, filling_of}
 use Rattle.exact_entries.specs.DyadicEntries.{DyadicCall}
 use Rattle.exact_entries.specs.ExactEntries.{ExactCall}
-use Rattle.exact_entries.specs.Worked.{f2_diagonals, f2_exact, f2_lent, f2_cleared, f2_lists}
+use Rattle.exact_entries.specs.Worked.{f2_diagonals, f2_exact, f2_lent, f2_lists}
 use Rattle.exact_entries.specs.DyadicWorked.{sixteenths_values, sixteenths_dyadic, sixteenths_lists, sixteenths_found, SixteenthsRead}
 use Rattle.request_marks.specs.OperatorRequests.{operator_requested}
 use Rattle.quadratic_form.specs.CrossValue.{add_terms, add_places}
@@ -44,7 +44,7 @@ use Rattle.operator_variances.specs.Transformed.{TransformedCall, transformed_ca
 use Rattle.operator_variances.specs.ExactVariances.{ExactRow, TransformedExact, transformed_exact_reply, transformed_dyadic_reply}
 
 abbrev f2_row : TransformedCall
-f2_row = transformed_call 2 f2_starts f2_rows f2_values 2 (0 ∷ 2 ∷ []) (0 ∷ 1 ∷ []) (whole 1 ∷ whole 1 ∷ []) 3
+f2_row = transformed_call 2 f2_starts f2_rows f2_values 2 (0 ∷ 2 ∷ []) (0 ∷ 1 ∷ []) (whole 1 ∷ whole 1 ∷ [])
 
 f2_row_passed : Passed (transformed_steps f2_row (room_of f2_lent) 1)
 unfolding any any_in of_int of_bits ne le first pair_total bit_words scratch_words bound_steps broken_steps starts_steps rows_steps column_steps finite_steps stored_steps operator_steps
@@ -54,7 +54,7 @@ f2_row_passed = refl
 -- the hypotheses of the exact case are met, of the call and of its row
 f2_row_call : ExactCall (transformed_selection f2_row) f2_entries
 f2_row_call =
-    f2_exact cholesky (operator_requested (0 ∷ 2 ∷ []) (0 ∷ 1 ∷ [])) 3 (room_of f2_lent)
+    f2_exact cholesky (operator_requested (0 ∷ 2 ∷ []) (0 ∷ 1 ∷ [])) 30 (room_of f2_lent)
     (transformed_accepted f2_row (room_of f2_lent) 1 f2_row_passed).accepted f2_diagonals
 
 f2_row_exact : ExactRow f2_row (λ p. pos 1) f2_matrix 0
@@ -62,16 +62,14 @@ unfolding of_int
 f2_row_exact = record { weights = columns₂ (λ p. Whole (value (whole 1 ∷ whole 1 ∷ []) (0 + p)) (pos 1)) refl refl; within = f2_row_within }
 
 -- the call is answered with three pairs, all of them requested, and leaves these lists
-f2_row_left : TransformedDiagonal f2_row f2_lent (whole 9 ∷ []) (Answered (diagnosis 3 3 3 3 Complete)) f2_lists (whole 2 ∷ [])
+f2_row_left : TransformedDiagonal f2_row f2_lent (whole 9 ∷ []) (Answered (diagnosis 3 3 3 30 Complete)) f2_lists (whole 2 ∷ [])
 unfolding any any_in sum_to picked select cells cell_count tabulate filled overwrite of_int of_bits ne le add sub mul div neg first after pair_total bit_words scratch_words
     bound_steps broken_steps starts_steps rows_steps column_steps finite_steps stored_steps operator_steps diagonal_steps room_steps transformed_steps
     reach member factor_pairs diagnosis_of operator_pair operator_values add_terms add_places float_table
 f2_row_left = record {
-  selected = record {
-    replies = refl;
-    lists_are = lists_passed (transformed_steps f2_row (room_of f2_lent) 1) (filling_of (transformed_selection f2_row)) f2_lent f2_row_passed refl refl refl refl;
-    output_is = refl;
-  };
+  replies = refl;
+  lists_are = lists_passed (transformed_steps f2_row (room_of f2_lent) 1) (filling_of (transformed_selection f2_row)) f2_lent f2_row_passed refl refl refl refl;
+  output_is = refl;
 }
 
 -- `transformed_exact_reply`: the output is vᵀXv
@@ -85,31 +83,9 @@ f2_row_complete = f2_row_variances.reads.complete.1 (lit≤ tt)
 f2_row_variance : Whole (get_or (whole 2 ∷ []) 0 nan) (pos 2)
 f2_row_variance = f2_row_variances.variances f2_row_complete 0 (lit< tt) (λ p. pos 1) f2_row_exact
 
--- ---- with a limit one below the set's size the call is answered with ClosureTooLarge: its result lists and its output are as they were
-abbrev f2_limited : TransformedCall
-f2_limited = transformed_call 2 f2_starts f2_rows f2_values 2 (0 ∷ 2 ∷ []) (0 ∷ 1 ∷ []) (whole 1 ∷ whole 1 ∷ []) 2
-
-f2_limited_passed : Passed (transformed_steps f2_limited (room_of f2_lent) 1)
-unfolding any any_in of_int of_bits ne le first pair_total bit_words scratch_words bound_steps broken_steps starts_steps rows_steps column_steps finite_steps stored_steps operator_steps
-    diagonal_steps room_steps transformed_steps
-f2_limited_passed = refl
-
-f2_limited_left : TransformedDiagonal f2_limited f2_lent (whole 9 ∷ []) (Answered (diagnosis 3 3 3 2 ClosureTooLarge))
-    (lists f2_lent.result_starts f2_lent.result_rows f2_lent.result_values f2_cleared) (whole 9 ∷ [])
-unfolding any any_in sum_to picked select cell_count tabulate filled overwrite of_int of_bits ne le first after pair_total bit_words scratch_words
-    bound_steps broken_steps starts_steps rows_steps column_steps finite_steps stored_steps operator_steps diagonal_steps room_steps transformed_steps
-    reach member factor_pairs diagnosis_of operator_pair
-f2_limited_left = record {
-  selected = record {
-    replies = refl;
-    lists_are = lists_passed (transformed_steps f2_limited (room_of f2_lent) 1) (filling_of (transformed_selection f2_limited)) f2_lent f2_limited_passed refl refl refl refl;
-    output_is = refl;
-  };
-}
-
 -- ---- the factor with the rows 2 0 and 6 4 and the same operator row: 13 / 16 - 3 / 16 - 3 / 16 + 1 / 16 is 1 / 2
 abbrev row : TransformedCall
-row = transformed_call 2 f2_starts f2_rows sixteenths_values 2 (0 ∷ 2 ∷ []) (0 ∷ 1 ∷ []) (whole 1 ∷ whole 1 ∷ []) (default_limit f2_rows)
+row = transformed_call 2 f2_starts f2_rows sixteenths_values 2 (0 ∷ 2 ∷ []) (0 ∷ 1 ∷ []) (whole 1 ∷ whole 1 ∷ [])
 
 row_passed : Passed (transformed_steps row (room_of f2_lent) 1)
 unfolding any any_in of_int of_bits ne le first pair_total bit_words scratch_words bound_steps broken_steps starts_steps rows_steps column_steps finite_steps stored_steps operator_steps
@@ -124,11 +100,9 @@ unfolding any any_in sum_to picked select cells cell_count tabulate filled overw
     bound_steps broken_steps starts_steps rows_steps column_steps finite_steps stored_steps operator_steps diagonal_steps room_steps transformed_steps
     reach member factor_pairs diagnosis_of operator_pair operator_values add_terms add_places float_table
 row_left = record {
-  selected = record {
-    replies = refl;
-    lists_are = lists_passed (transformed_steps row (room_of f2_lent) 1) (filling_of (transformed_selection row)) f2_lent row_passed refl refl refl refl;
-    output_is = refl;
-  };
+  replies = refl;
+  lists_are = lists_passed (transformed_steps row (room_of f2_lent) 1) (filling_of (transformed_selection row)) f2_lent row_passed refl refl refl refl;
+  output_is = refl;
 }
 
 -- `transformed_dyadic_reply`: the inverse over 16 is what reads back, so at (1, 0), which the row asks for, a number equal to -3 / 16

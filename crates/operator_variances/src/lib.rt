@@ -1,8 +1,8 @@
-// The variances of an operator's rows, after `selected_inverse_transformed_diag` of uncertainty.rs, the vector that its loop builds; and with a limit.
+// The variances of an operator's rows, after `selected_inverse_transformed_diag` of uncertainty.rs, the vector that its loop builds.
 ghost use Rattle.std.specs.Prelude.{◌≡◌, [], ◌∷◌, not, eqb};
 ghost use Rattle.refusal.specs.Steps.{verdict};
 ghost use Rattle.refusal.specs.Refusal.{reply_of};
-ghost use Rattle.selection.specs.Selection.{lists, room, default_limit};
+ghost use Rattle.selection.specs.Selection.{lists, room};
 ghost use Rattle.operator_variances.specs.Transformed.{transformed_call, transformed_steps, TransformedDiagonal};
 
 use diagnostics::{Selected, SelectedInverseStatus};
@@ -37,7 +37,6 @@ fn check_transformed(
     row_starts: &[u32],
     columns: &[u32],
     weights: &[f64],
-    limit: usize,
     result_starts: usize,
     result_rows: usize,
     result_values: usize,
@@ -45,7 +44,7 @@ fn check_transformed(
     output: usize,
 ) -> Checked
     ensures { reply_of result ≡ verdict (transformed_steps
-        (transformed_call n starts.now rows.now values.now ncols row_starts.now columns.now weights.now limit)
+        (transformed_call n starts.now rows.now values.now ncols row_starts.now columns.now weights.now)
         (room result_starts result_rows result_values scratch) output) }
 {
     let bounds = first_of(
@@ -64,7 +63,7 @@ fn check_transformed(
                     starts,
                     rows,
                     values,
-                    limit,
+                    default_limit(rows.len()),
                     result_starts,
                     result_rows,
                     result_values,
@@ -78,8 +77,8 @@ fn check_transformed(
     }
 }
 
-// The value of each row, if the closed set of all rows' pairs has at most `limit` pairs. The result lists are filled as by selected entries.
-pub fn selected_inverse_transformed_diag_with_limit(
+// The value of each row, if the closed set of all rows' pairs is within the default limit. The result lists are filled as by selected entries.
+pub fn selected_inverse_transformed_diag(
     n: usize,
     starts: &[u32],
     rows: &[u32],
@@ -88,7 +87,6 @@ pub fn selected_inverse_transformed_diag_with_limit(
     row_starts: &[u32],
     columns: &[u32],
     weights: &[f64],
-    limit: usize,
     result_starts: &mut [u32],
     result_rows: &mut [u32],
     result_values: &mut [f64],
@@ -96,7 +94,7 @@ pub fn selected_inverse_transformed_diag_with_limit(
     output: &mut [f64],
 ) -> Selected
     ensures { TransformedDiagonal
-        (transformed_call n starts.now rows.now values.now ncols row_starts.now columns.now weights.now limit)
+        (transformed_call n starts.now rows.now values.now ncols row_starts.now columns.now weights.now)
         (lists result_starts.old result_rows.old result_values.old scratch.old) output.old result
         (lists result_starts.new result_rows.new result_values.new scratch.new) output.new }
 {
@@ -109,7 +107,6 @@ pub fn selected_inverse_transformed_diag_with_limit(
         row_starts,
         columns,
         weights,
-        limit,
         result_starts.len(),
         result_rows.len(),
         result_values.len(),
@@ -119,6 +116,7 @@ pub fn selected_inverse_transformed_diag_with_limit(
         Checked::Refused(why) => Selected::Refused(why),
         Checked::Accepted => {
             let requested_pairs = mark_operator_pairs(n, row_starts, columns, scratch);
+            let limit = default_limit(rows.len());
             let diagnosis = fill_lists(
                 n,
                 starts,
@@ -152,48 +150,5 @@ pub fn selected_inverse_transformed_diag_with_limit(
                 }
             }
         }
-    }
-}
-
-// The same with the default limit: 10 times the stored entries, dropped ones counted. Above the bounds there is no limit to compute.
-pub fn selected_inverse_transformed_diag(
-    n: usize,
-    starts: &[u32],
-    rows: &[u32],
-    values: &[f64],
-    ncols: usize,
-    row_starts: &[u32],
-    columns: &[u32],
-    weights: &[f64],
-    result_starts: &mut [u32],
-    result_rows: &mut [u32],
-    result_values: &mut [f64],
-    scratch: &mut [u32],
-    output: &mut [f64],
-) -> Selected
-    ensures { TransformedDiagonal
-        (transformed_call n starts.now rows.now values.now ncols row_starts.now columns.now weights.now
-        (default_limit rows.now))
-        (lists result_starts.old result_rows.old result_values.old scratch.old) output.old result
-        (lists result_starts.new result_rows.new result_values.new scratch.new) output.new }
-{
-    match check_bounds(n, rows.len()) {
-        Checked::Refused(why) => Selected::Refused(why),
-        Checked::Accepted => selected_inverse_transformed_diag_with_limit(
-            n,
-            starts,
-            rows,
-            values,
-            ncols,
-            row_starts,
-            columns,
-            weights,
-            default_limit(rows.len()),
-            result_starts,
-            result_rows,
-            result_values,
-            scratch,
-            output,
-        ),
     }
 }

@@ -16,8 +16,6 @@ use Rattle.refusal.specs.Steps.{after_refused, after_passed}
 use Rattle.refusal.specs.Refusal.{refusal_number}
 use Rattle.refusal.specs.declared.Refusal.{Refusal}
 use Rattle.refusal.specs.declared.Refusal.TheVariants.{NotCovered}
-use Rattle.columns.specs.Columns.{bound_steps}
-use Rattle.columns.specs.Stored.{stored_steps, factor_steps}
 use Rattle.columns.specs.Kept.{nonzero}
 use Rattle.closed_set.specs.ClosedSet.{member_holds}
 use Rattle.closed_set.specs.Size.{closure_size_most}
@@ -51,12 +49,6 @@ module _ (x : OriginalCall) (lent : Lent) (output : List Float) where
     lists_are = lists_refused steps (filling_of sel) lent e;
     output_is = sym (after_refused (steps ++ eight) _ _ output (append-refused steps eight _ tt e));
   }
-
-  -- beyond the bounds, whatever the limit
-  pub out_of-bounds : {k : ℕ} → verdict (bound_steps x.factor.n (length x.factor.rows)) ≡ refused k → verdict steps ≡ refused k
-  unfolding original_steps factor_steps
-  out_of-bounds e =
-      append-refused (factor_steps x.factor) _ _ tt (append-refused (bound_steps x.factor.n (length x.factor.rows)) (stored_steps x.factor) _ tt e)
 
   module _ (passed : Passed steps) {left : Lent} (L : ResultLists steps (filling_of sel) lent left) where
     -- ---- the set is beyond the limit

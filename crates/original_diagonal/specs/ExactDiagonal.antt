@@ -21,7 +21,7 @@ use Rattle.diagnostics.specs.declared.SelectedInverseDiagnostics.{SelectedInvers
 use Rattle.diagnostics.specs.declared.SelectedInverseStatus.TheVariants.{Complete}
 use Rattle.diagnostics.specs.declared.Selected.{Selected}
 use Rattle.diagnostics.specs.Selected.{selected_reply_of}
-use Rattle.selection.specs.Selection.{Lent, room_of, selected_size, selected_complete, selected_answer, selected_table, ResultLists, filling_of}
+use Rattle.selection.specs.Selection.{Lent, room_of, default_limit, selected_size, selected_complete, selected_answer, selected_table, ResultLists, filling_of}
 use Rattle.selection.specs.Status.{selected_complete_lem}
 use Rattle.exact_entries.specs.Recurrence.{InClosedSet}
 use Rattle.exact_entries.specs.DyadicEntries.{DyadicCall, ReadsMultiples, dyadic_at, dyadic_entries}
@@ -98,24 +98,24 @@ module _ (x : OriginalCall) (lent : Lent) (output : List Float) {reply : Selecte
 
   module _ (passed : Passed checks) where
     -- past the checks, a set within the limit is answered with the diagnosis
-    pub within_reply : selected_size (original_selection x) ≤ x.limit → selected_reply_of reply ≡ answered (selected_answer (original_selection x))
+    pub within_reply : selected_size (original_selection x) ≤ default_limit x.factor.rows → selected_reply_of reply ≡ answered (selected_answer (original_selection x))
     within_reply h =
         C.replies
         ∙ first_passed (checks ++ eight) (selected_answer (original_selection x)) (passed_append checks eight passed (clear_passed eight (ap not (le-leb _ _ h), tt)))
 
     -- any other is refused with 8
-    pub beyond-reply : x.limit < selected_size (original_selection x) → selected_reply_of reply ≡ refused 8
+    pub beyond-reply : default_limit x.factor.rows < selected_size (original_selection x) → selected_reply_of reply ≡ refused 8
     beyond-reply h =
         C.replies
         ∙ append_passed checks eight (selected_answer (original_selection x)) passed
-        ∙ first_hit 8 [] (selected_answer (original_selection x)) (ap not (lt-leb (selected_size (original_selection x)) x.limit h))
+        ∙ first_hit 8 [] (selected_answer (original_selection x)) (ap not (lt-leb (selected_size (original_selection x)) (default_limit x.factor.rows) h))
 
   module _ {d : SelectedInverseDiagnostics} (answer : selected_reply_of reply ≡ answered d) where
     all : Passed (checks ++ eight)
     all = told_passed (checks ++ eight) (selected_answer (original_selection x)) (sym answer ∙ C.replies)
 
     -- an answer gives the diagnosis, of a set within the limit
-    diagnosed : (d ≡ selected_answer (original_selection x)) × (selected_size (original_selection x) ≤ x.limit)
+    diagnosed : (d ≡ selected_answer (original_selection x)) × (selected_size (original_selection x) ≤ default_limit x.factor.rows)
     diagnosed = (
       told_answer (checks ++ eight) (selected_answer (original_selection x)) (sym answer ∙ C.replies),
       leb-true _ _ (not-false _ (passed_clear eight (passed_back checks eight all)).0),
@@ -124,7 +124,7 @@ module _ (x : OriginalCall) (lent : Lent) (output : List Float) {reply : Selecte
     -- demand 3, of the reply: d is the diagnosis, Complete, X is what reads back, and its diagonal in original order is the output
     pub original_exact_reply : (whole : ℕ → List (Entry ℤ)) → ExactCall (original_selection x) whole
         → (X : Matrix) → WholeInverse x.factor.n (factor ones whole) X
-        → (d ≡ selected_answer (original_selection x)) × (selected_size (original_selection x) ≤ x.limit) × OriginalExact x left out X
+        → (d ≡ selected_answer (original_selection x)) × (selected_size (original_selection x) ≤ default_limit x.factor.rows) × OriginalExact x left out X
     original_exact_reply whole E X is = (
       diagnosed.0,
       diagnosed.1,
@@ -134,7 +134,7 @@ module _ (x : OriginalCall) (lent : Lent) (output : List Float) {reply : Selecte
     -- beyond unit diagonals, of the reply: the same, with P / Q by multipliers of 2 ^ -s
     pub original_dyadic_reply : (s : ℕ) (m : ℕ → ℤ) (l : ℕ → List (Entry ℤ)) (z : Matrix) → DyadicCall (original_selection x) s m l z
         → (P : Matrix) (Q : ℕ) → Inverse x.factor.n (pos (2 ^ s)) (factor m l) P Q
-        → (d ≡ selected_answer (original_selection x)) × (selected_size (original_selection x) ≤ x.limit) × OriginalMultiples x left out s z P Q
+        → (d ≡ selected_answer (original_selection x)) × (selected_size (original_selection x) ≤ default_limit x.factor.rows) × OriginalMultiples x left out s z P Q
     original_dyadic_reply s m l z E P Q is = (
       diagnosed.0,
       diagnosed.1,

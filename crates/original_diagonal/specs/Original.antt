@@ -14,41 +14,42 @@ use Rattle.columns.specs.Stored.{factor_steps, factor_steps_bounded, factor_step
 use Rattle.factor_order.specs.Permutation.{index, order_steps, permutation_steps, reordered, Permutation}
 use Rattle.factor_order.specs.Laws.{passed_distinct, distinct_permutation}
 use Rattle.diagnostics.specs.declared.SelectedInverseDiagnostics.{SelectedInverseDiagnostics}
-use Rattle.selection.specs.Selection.{Selection, selection, Lent, Room, room_of, fill_steps, selected_complete, selected_answer, selected_table, Accepted, filling_of}
+use Rattle.selection.specs.Selection.{Selection, selection, Lent, Room, room_of, default_limit, fill_steps, selected_complete, selected_answer, selected_table, Accepted, filling_of}
 use Rattle.selection.specs.Selection.{ResultLists}
 use Rattle.selection.specs.Call.{fill_accepted}
 use Rattle.diagnostics.specs.declared.Selected.{Selected}
 use Rattle.diagnostics.specs.Selected.{selected_reply_of}
 use Rattle.request_marks.specs.DiagonalMarks.{diagonal_pairs, diagonals_ranged}
 
--- what a call is handed to read: a factor, a permutation, orig_to_perm, and a limit
+-- what a call is handed to read: a factor and a permutation, orig_to_perm
 pub record OriginalCall : Type 0 where
   pub factor : FactorLists Float
   pub perm : List ℕ
-  pub limit : ℕ
 
 -- a call, from a function's parameters in their order
-abbrev pub original_call : ℕ → List ℕ → List ℕ → List Float → List ℕ → ℕ → OriginalCall
-original_call n starts rows values perm limit = record { factor = factor_lists n starts rows values; perm = perm; limit = limit }
+abbrev pub original_call : ℕ → List ℕ → List ℕ → List Float → List ℕ → OriginalCall
+original_call n starts rows values perm = record { factor = factor_lists n starts rows values; perm = perm }
 
 module _ (x : OriginalCall) where
-  -- the requests are all diagonals
+  -- the requests are all diagonals, the limit is the default one
   abbrev pub original_selection : Selection
-  original_selection = selection x.factor (diagonal_pairs x.factor.n) x.limit
+  original_selection =
+      selection x.factor (diagonal_pairs x.factor.n)
+      (default_limit x.factor.rows)
 
   -- refusals 1, 2, 3, 18; 4, 10, 11; 6, 7; 7 of an output of that length
   abbrev pub original_groups : Room → ℕ → List (List Step)
   original_groups lengths output =
       factor_steps x.factor
       ∷ order_steps x.factor.n x.perm
-      ∷ fill_steps x.factor x.limit lengths
+      ∷ fill_steps x.factor (default_limit x.factor.rows) lengths
       ∷ output_steps x.factor.n output
       ∷ []
 
   unfoldable pub original_steps : Room → ℕ → List Step
   original_steps lengths output = grouped (original_groups lengths output)
 
-  -- then 8: the limit is passed
+  -- then 8: the default limit is passed
   abbrev pub covered_steps : Room → ℕ → List Step
   covered_steps lengths output = original_steps lengths output ++ ((8, not (selected_complete original_selection)) ∷ [])
 

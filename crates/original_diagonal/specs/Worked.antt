@@ -1,5 +1,5 @@
--- F2 of document 01 with its two cells exchanged and limit 3, its set's size: the diagonal 5, 1 in factor order is the output 1, 5, exactly. The factor with the
--- rows 2 0 and 6 4 and the default limit likewise: its diagonal 13 / 16, 1 / 16 is the output 1 / 16, 13 / 16.
+-- F2 of document 01 with its two cells exchanged: the diagonal 5, 1 in factor order is the output 1, 5, exactly. The factor with the rows 2 0 and 6 4 likewise:
+-- its diagonal 13 / 16, 1 / 16 is the output 1 / 16, 13 / 16.
 -- Assumes nothing.
 use Rattle.std.specs.Prelude.{ℕ, zero, suc, ◌+◌, ◌≤◌, ◌<◌, ◌≡◌, refl, true, false, List, [], ◌∷◌, ◌++◌, length, get_or, pos, ◌*ℤ◌, Float}
 use Rattle.std.proofs.Common.{arith, ap, subst, subst₂, ◌∙◌, lit<, lit≤}
@@ -34,7 +34,7 @@ use Rattle.diagnostics.specs.declared.Selected.{Selected}
 use Rattle.diagnostics.specs.declared.Selected.TheVariants.{Answered}
 use Rattle.diagnostics.specs.Selected.{selected_reply_of}
 use Rattle.selection.specs.Diagnosis.{diagnosis_of}
-use Rattle.selection.specs.Selection.{Lent, lists, room, room_of, room_steps, default_limit, Accepted, selected_set, selected_size, selected_answer, lists_passed, filling_of}
+use Rattle.selection.specs.Selection.{Lent, lists, room, room_of, room_steps, Accepted, selected_set, selected_size, selected_answer, lists_passed, filling_of}
 use Rattle.exact_entries.specs.DyadicEntries.{DyadicCall}
 use Rattle.exact_entries.specs.ExactEntries.{ExactCall}
 use Rattle.exact_entries.specs.Worked.{f2_diagonals, f2_exact, f2_lent, f2_lists}
@@ -44,7 +44,7 @@ use Rattle.original_diagonal.specs.Original.{OriginalCall, original_call, origin
 use Rattle.original_diagonal.specs.ExactDiagonal.{OriginalExact, OriginalMultiples, within_reply, beyond-reply, original_exact_reply, original_dyadic_reply}
 
 abbrev f2-exchanged : OriginalCall
-f2-exchanged = original_call 2 f2_starts f2_rows f2_values (1 ∷ 0 ∷ []) 3
+f2-exchanged = original_call 2 f2_starts f2_rows f2_values (1 ∷ 0 ∷ [])
 
 abbrev output : List Float
 output = whole 9 ∷ whole 9 ∷ []
@@ -57,10 +57,10 @@ f2-exchanged_passed = refl
 -- the hypotheses of the exact case are met
 f2-exchanged_exact : ExactCall (original_selection f2-exchanged) f2_entries
 f2-exchanged_exact =
-    f2_exact cholesky (diagonal_pairs 2) 3 (room_of f2_lent) (original_accepted f2-exchanged (room_of f2_lent) 2 f2-exchanged_passed).accepted f2_diagonals
+    f2_exact cholesky (diagonal_pairs 2) 30 (room_of f2_lent) (original_accepted f2-exchanged (room_of f2_lent) 2 f2-exchanged_passed).accepted f2_diagonals
 
 -- the call is answered with three pairs, two of them requested, and leaves these lists
-f2-exchanged_left : OriginalDiagonal f2-exchanged f2_lent output (Answered (diagnosis 2 3 3 3 Complete)) f2_lists (whole 1 ∷ whole 5 ∷ [])
+f2-exchanged_left : OriginalDiagonal f2-exchanged f2_lent output (Answered (diagnosis 2 3 3 30 Complete)) f2_lists (whole 1 ∷ whole 5 ∷ [])
 unfolding any any_in sum_to picked select cells cell_count tabulate filled overwrite of_int of_bits ne le add sub mul div neg first after each pair_total bit_words scratch_words
     bound_steps broken_steps starts_steps rows_steps column_steps finite_steps stored_steps factor_steps diagonal_steps room_steps original_steps
     reach member factor_pairs diagnosis_of reordered float_table
@@ -90,22 +90,9 @@ f2-exchanged_first = f2-exchanged_variances.variances f2-exchanged_complete 0 (l
 f2-exchanged_second : Whole (get_or (whole 1 ∷ whole 5 ∷ []) 1 nan) (pos 5)
 f2-exchanged_second = f2-exchanged_variances.variances f2-exchanged_complete 1 (lit< tt)
 
--- `beyond-reply`: with a limit one below the set's size every reply is 8
-abbrev f2_limited : OriginalCall
-f2_limited = original_call 2 f2_starts f2_rows f2_values (1 ∷ 0 ∷ []) 2
-
-f2_limited_passed : Passed (original_steps f2_limited (room_of f2_lent) 2)
-unfolding any any_in of_int of_bits ne le first each pair_total bit_words scratch_words bound_steps broken_steps starts_steps rows_steps column_steps finite_steps stored_steps factor_steps
-    diagonal_steps room_steps original_steps
-f2_limited_passed = refl
-
-f2_limited_reply : {reply : Selected} {left : Lent} {out : List Float} → OriginalDiagonal f2_limited f2_lent output reply left out → selected_reply_of reply ≡ refused 8
-unfolding any sum_to picked select cell_count of_int of_bits ne reach member
-f2_limited_reply C = beyond-reply f2_limited f2_lent output C f2_limited_passed (lit< tt)
-
 -- ---- the factor with the rows 2 0 and 6 4
 abbrev exchanged : OriginalCall
-exchanged = original_call 2 f2_starts f2_rows sixteenths_values (1 ∷ 0 ∷ []) (default_limit f2_rows)
+exchanged = original_call 2 f2_starts f2_rows sixteenths_values (1 ∷ 0 ∷ [])
 
 abbrev exchanged-output : List Float
 exchanged-output = sixteenth false 1 ∷ sixteenth false 13 ∷ []
@@ -154,7 +141,7 @@ abbrev arrow_values : List Float
 arrow_values = tabulate (λ p. whole 1) 79
 
 abbrev arrow : OriginalCall
-arrow = original_call 40 arrow_starts arrow_rows arrow_values (tabulate (λ i. i) 40) (default_limit arrow_rows)
+arrow = original_call 40 arrow_starts arrow_rows arrow_values (tabulate (λ i. i) 40)
 
 abbrev nine : ℕ → ℕ
 nine i = 9

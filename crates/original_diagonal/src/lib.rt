@@ -1,13 +1,12 @@
-// The diagonal of the inverse in original order, after `selected_inverse_diag_with_diagnostics` of uncertainty.rs, before its finishing step; and with a limit.
+// The diagonal of the inverse in original order, after `selected_inverse_diag_with_diagnostics` of uncertainty.rs, before its finishing step.
 ghost use Rattle.std.specs.Prelude.{◌≡◌};
 ghost use Rattle.lists.specs.Overwrite.{overwrite};
 ghost use Rattle.refusal.specs.Steps.{verdict};
 ghost use Rattle.refusal.specs.Refusal.{reply_of};
-ghost use Rattle.selection.specs.Selection.{lists, room, default_limit};
+ghost use Rattle.selection.specs.Selection.{lists, room};
 ghost use Rattle.original_diagonal.specs.Original.{original_call, original_steps, OriginalDiagonal, WriteOriginalInput, first_entries};
 
 use diagnostics::{Selected, SelectedInverseStatus};
-use factor_check::bounds::check_bounds;
 use factor_check::check_factor;
 use fill::fill_entries;
 use permutation::order::check_order;
@@ -24,14 +23,13 @@ fn check_original(
     rows: &[u32],
     values: &[f64],
     orig_to_perm: &[u32],
-    limit: usize,
     result_starts: usize,
     result_rows: usize,
     result_values: usize,
     scratch: usize,
     output: usize,
 ) -> Checked
-    ensures { reply_of result ≡ verdict (original_steps (original_call n starts.now rows.now values.now orig_to_perm.now limit)
+    ensures { reply_of result ≡ verdict (original_steps (original_call n starts.now rows.now values.now orig_to_perm.now)
         (room result_starts result_rows result_values scratch) output) }
 {
     match check_factor(n, starts, rows, values) {
@@ -43,7 +41,7 @@ fn check_original(
                 starts,
                 rows,
                 values,
-                limit,
+                default_limit(rows.len()),
                 result_starts,
                 result_rows,
                 result_values,
@@ -76,14 +74,13 @@ fn write_original(
     }
 }
 
-// The diagonal in original order, if the closed set of all diagonals has at most `limit` pairs, else 8. The result lists are filled as by selected entries.
-pub fn selected_inverse_diag_with_limit(
+// The diagonal in original order, if the closed set of all diagonals is within the default limit, else 8. The result lists are filled as by selected entries.
+pub fn selected_inverse_diag_with_diagnostics(
     n: usize,
     starts: &[u32],
     rows: &[u32],
     values: &[f64],
     orig_to_perm: &[u32],
-    limit: usize,
     result_starts: &mut [u32],
     result_rows: &mut [u32],
     result_values: &mut [f64],
@@ -91,7 +88,7 @@ pub fn selected_inverse_diag_with_limit(
     output: &mut [f64],
 ) -> Selected
     ensures { OriginalDiagonal
-        (original_call n starts.now rows.now values.now orig_to_perm.now limit)
+        (original_call n starts.now rows.now values.now orig_to_perm.now)
         (lists result_starts.old result_rows.old result_values.old scratch.old) output.old result
         (lists result_starts.new result_rows.new result_values.new scratch.new) output.new }
 {
@@ -101,7 +98,6 @@ pub fn selected_inverse_diag_with_limit(
         rows,
         values,
         orig_to_perm,
-        limit,
         result_starts.len(),
         result_rows.len(),
         result_values.len(),
@@ -111,6 +107,7 @@ pub fn selected_inverse_diag_with_limit(
         Checked::Refused(why) => Selected::Refused(why),
         Checked::Accepted => {
             let requested_pairs = mark_diagonals(n, scratch);
+            let limit = default_limit(rows.len());
             let diagnosis = fill_entries(
                 n,
                 starts,
@@ -132,41 +129,5 @@ pub fn selected_inverse_diag_with_limit(
                 }
             }
         }
-    }
-}
-
-// The same with the default limit: 10 times the stored entries, dropped ones counted. Above the bounds there is no limit to compute.
-pub fn selected_inverse_diag_with_diagnostics(
-    n: usize,
-    starts: &[u32],
-    rows: &[u32],
-    values: &[f64],
-    orig_to_perm: &[u32],
-    result_starts: &mut [u32],
-    result_rows: &mut [u32],
-    result_values: &mut [f64],
-    scratch: &mut [u32],
-    output: &mut [f64],
-) -> Selected
-    ensures { OriginalDiagonal
-        (original_call n starts.now rows.now values.now orig_to_perm.now (default_limit rows.now))
-        (lists result_starts.old result_rows.old result_values.old scratch.old) output.old result
-        (lists result_starts.new result_rows.new result_values.new scratch.new) output.new }
-{
-    match check_bounds(n, rows.len()) {
-        Checked::Refused(why) => Selected::Refused(why),
-        Checked::Accepted => selected_inverse_diag_with_limit(
-            n,
-            starts,
-            rows,
-            values,
-            orig_to_perm,
-            default_limit(rows.len()),
-            result_starts,
-            result_rows,
-            result_values,
-            scratch,
-            output,
-        ),
     }
 }

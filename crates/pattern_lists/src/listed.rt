@@ -11,7 +11,7 @@ use refusal::Refusal;
 use words::clear;
 
 // How many pairs are listed, or why none is.
-#[derive(Drop)]
+#[derive(Clone, Copy)]
 pub enum PatternPairs {
     Listed(usize),
     Refused(Refusal),

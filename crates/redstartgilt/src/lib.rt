@@ -8,8 +8,6 @@ pub mod ldl;
 pub mod patterns;
 pub mod permutations;
 pub mod results;
-pub mod row_covariances;
 pub mod selected_entries;
-pub mod variances;
 pub mod whole_variances;
 pub mod wholes;

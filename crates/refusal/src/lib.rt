@@ -1,7 +1,7 @@
 // The refusals of documents 01 and 02, and the answer of a call that has nothing else to say.
 
 // Why a call is refused; `refusalNumber` of specs/Refusal.antt gives the documents' number of each.
-#[derive(Drop)]
+#[derive(Clone, Copy)]
 pub enum Refusal {
     TooLarge,
     BrokenStarts,
@@ -30,7 +30,7 @@ pub enum Refusal {
 }
 
 // Accepted, or why not.
-#[derive(Drop)]
+#[derive(Clone, Copy)]
 pub enum Checked {
     Accepted,
     Refused(Refusal),

@@ -11,7 +11,7 @@ use case_text::begins;
 use chains::chains;
 use pattern_lists::{from_cholesky_factor, from_transformed_operator};
 
-#[derive(Drop)]
+#[derive(Clone, Copy)]
 enum Of {
     Factor,
     Operator,

@@ -1,16 +1,22 @@
 // Cases of the calls that fill result lists and an output: the diagonal in original order, variances of an operator's rows, covariances of two operators' rows.
 use answer_text::answers::{put_answer, put_output, put_result};
 use case_lists::lent::{lent_output, lent_result_values, lent_rows, lent_scratch, lent_starts};
-use case_lists::limits::{Limit, limit_of};
 use case_lists::{
-    ROOM, a_dimension, b_dimension, columns_of, dimension, operator_dimension, permutation,
-    row_starts_of, rows, rows_of, starts, values, weights_of,
+    ROOM, columns_of, dimension, operator_dimension, permutation, row_starts_of, rows, rows_of,
+    starts, values, weights_of,
 };
 use case_text::begins;
+use case_text::fields::number_field;
 use covariances::selected_inverse_transformed_covariances;
 use operator_variances::selected_inverse_transformed_diag;
 use original_diagonal::selected_inverse_diag_with_diagnostics;
-use replay_limits::{Kind, call_limited};
+
+#[derive(Clone, Copy)]
+enum Kind {
+    OriginalDiagonal,
+    OperatorVariances,
+    Covariances,
+}
 
 fn original_diagonal(
     text: &[u8],
@@ -69,6 +75,14 @@ fn operator_variances(
     ));
 }
 
+fn ancols(text: &[u8]) -> usize {
+    number_field(text, b"\nancols ")
+}
+
+fn bncols(text: &[u8]) -> usize {
+    number_field(text, b"\nbncols ")
+}
+
 fn covariances(
     text: &[u8],
     result_starts: &mut [u32],
@@ -93,11 +107,11 @@ fn covariances(
         starts(text, &mut factor_starts),
         rows(text, &mut factor_rows),
         values(text, &mut factor_values),
-        a_dimension(text),
+        ancols(text),
         row_starts_of(text, b'a', &mut a_row_starts),
         columns_of(text, b'a', &mut a_columns),
         weights_of(text, b'a', &mut a_weights),
-        b_dimension(text),
+        bncols(text),
         row_starts_of(text, b'b', &mut b_row_starts),
         columns_of(text, b'b', &mut b_columns),
         weights_of(text, b'b', &mut b_weights),
@@ -111,8 +125,8 @@ fn covariances(
     ));
 }
 
-// The call of the kind with the default limit, and its reply.
-fn by_default(
+// The call of the kind and its reply.
+fn call(
     text: &[u8],
     kind: Kind,
     result_starts: &mut [u32],
@@ -140,39 +154,6 @@ fn by_default(
         ),
         Kind::Covariances => covariances(
             text,
-            result_starts,
-            result_rows,
-            result_values,
-            scratch,
-            output,
-        ),
-    }
-}
-
-// The call of the kind and its reply.
-fn call(
-    text: &[u8],
-    kind: Kind,
-    result_starts: &mut [u32],
-    result_rows: &mut [u32],
-    result_values: &mut [f64],
-    scratch: &mut [u32],
-    output: &mut [f64],
-) {
-    match limit_of(text) {
-        Limit::Default => by_default(
-            text,
-            kind,
-            result_starts,
-            result_rows,
-            result_values,
-            scratch,
-            output,
-        ),
-        Limit::Given(limit) => call_limited(
-            text,
-            kind,
-            limit,
             result_starts,
             result_rows,
             result_values,

@@ -20,7 +20,7 @@ use Rattle.file_lines.specs.Scan.{rest_of}
 use Rattle.file_lines.specs.Places.{fields_at}
 use Rattle.file_lines.proofs.ScanLaws.{first_line_is, later_lines_are}
 use Rattle.requests_reader.specs.HeaderLines.{LabelAt, SizeAt, SizeRead}
-use Rattle.requests_reader.specs.EntryLines.{entries_from, PlainFront, Scanned, StoreEntriesInput, RequestsStored}
+use Rattle.requests_reader.specs.EntryLines.{entries_from, Scanned, StoreEntriesInput, RequestsStored}
 use Rattle.requests_reader.specs.Reader.{read_reply, RequestsRead}
 use Rattle.requests_reader.specs.declared.ReadRequests.{ReadRequests}
 use Rattle.requests_reader.proofs.EntryLaws.{entries_of}
@@ -43,13 +43,12 @@ pub record SizePassed (text : List ℕ) (n count p : ℕ) : Type 0 where
   pub within : p ≤ length text
 
 -- so many entries are as many as counted, and none is refused
-pub record EntriesPassed (text : List ℕ) (n count p seen plain : ℕ) : Type 0 where
+pub record EntriesPassed (text : List ℕ) (n count p seen : ℕ) : Type 0 where
   pub size : SizePassed text n count p
   pub formed : some malformed (entries_from text p) ≡ false
   pub counted : length (entries_from text p) ≡ seen
   pub right : seen ≡ count
   pub inside : some (outside_entry n) (entries_from text p) ≡ false
-  pub front : PlainFront text p plain
 
 module _ (text : List ℕ) (found : Bool) (start p : ℕ) (h : LabelAt text header found start) (f : found ≡ true) (s : SizeAt text start p) where
   body_is : body text ≡ lines (drop p text)
@@ -78,13 +77,13 @@ size_passed text at accepted n count p h z a =
       within = z.within;
     }
 
-module _ (text : List ℕ) (n count p : ℕ) (formed : Bool) (seen plain : ℕ) (outside : Bool) (z : SizePassed text n count p)
-    (c : Scanned n text p formed seen plain outside) (f : formed ≡ true) where
-  pub entries_passed : seen ≡ count → outside ≡ false → EntriesPassed text n count p seen plain
-  entries_passed q o = record { size = z; formed = c.is ∙ ap not f; counted = c.counted f; right = q; inside = c.found f ∙ o; front = c.front }
+module _ (text : List ℕ) (n count p : ℕ) (formed : Bool) (seen : ℕ) (outside : Bool) (z : SizePassed text n count p)
+    (c : Scanned n text p formed seen outside) (f : formed ≡ true) where
+  pub entries_passed : seen ≡ count → outside ≡ false → EntriesPassed text n count p seen
+  entries_passed q o = record { size = z; formed = c.is ∙ ap not f; counted = c.counted f; right = q; inside = c.found f ∙ o }
 
-pub can_store : (text : List ℕ) (n count p seen plain : ℕ) → EntriesPassed text n count p seen plain → StoreEntriesInput text p seen
-can_store text n count p seen plain e =
+pub can_store : (text : List ℕ) (n count p seen : ℕ) → EntriesPassed text n count p seen → StoreEntriesInput text p seen
+can_store text n count p seen e =
     record {
       bound = n;
       small = omega (arith, e.size.small);
@@ -138,8 +137,7 @@ module _ (text rows₀ columns₀ : List ℕ) where
       ∙ ap₂ (λ (k : ℕ) (es : List (List (List ℕ))). verdict (later_steps n k es)) z.count_is z.entries_are
       ∙ e)
 
-  module _ (n count p : ℕ) (formed : Bool) (seen plain : ℕ) (outside : Bool) (z : SizePassed text n count p)
-      (c : Scanned n text p formed seen plain outside) where
+  module _ (n count p : ℕ) (formed : Bool) (seen : ℕ) (outside : Bool) (z : SizePassed text n count p) (c : Scanned n text p formed seen outside) where
     pub entry_malformed : formed ≡ false → Refuses 16
     unfolding file_entry_steps
     entry_malformed f = refuses 16 (later_decide n count p z _ (first_hit 16 _ tt (c.is ∙ ap not f)))
@@ -159,7 +157,7 @@ module _ (text rows₀ columns₀ : List ℕ) where
         (first_skip 16 _ tt (c.is ∙ ap not f)
         (first_skip 16 _ tt (ap not (eq-eqb _ _ (c.counted f ∙ q))) (first_hit 17 _ tt (c.found f ∙ o)))))
 
-  module _ (n count p seen plain requests : ℕ) (e : EntriesPassed text n count p seen plain) (t : requests ≡ request_count n seen) where
+  module _ (n count p seen requests : ℕ) (e : EntriesPassed text n count p seen) (t : requests ≡ request_count n seen) where
     requests_are : length (stand_for n (entries_from text p)) ≡ requests
     requests_are = requests_count n (entries_from text p) ∙ ap (request_count n) e.counted ∙ sym t
 

@@ -1,12 +1,11 @@
 -- What the functions that read entry lines promise.
 -- Assumes nothing.
-use Rattle.std.specs.Prelude.{ℕ, ◌+◌, ◌≤◌, ◌<◌, ◌≡◌, Bool, true, false, not, ◌||◌, List, [], ◌∷◌, map, eqb, length, drop}
+use Rattle.std.specs.Prelude.{ℕ, ◌≤◌, ◌<◌, ◌≡◌, Bool, true, false, not, ◌||◌, List, [], ◌∷◌, map, eqb, length, drop}
 use Rattle.lists.specs.Every.{some}
 use Rattle.lists.specs.Overwrite.{overwrite}
 use Rattle.matrix_market.specs.Text.{lines, fields, is_blank}
 use Rattle.matrix_market.specs.File.{line_entries, are_numbers, number, malformed, outside_entry, pair_of, request_rows, request_columns}
 use Rattle.file_lines.specs.Scan.{line_of, past, cut}
-use Rattle.file_lines.specs.Places.{PlainLines}
 
 -- a blank or a line end
 unfoldable pub space : ℕ → Bool
@@ -35,30 +34,11 @@ pub record EntryAt (text : List ℕ) (p : ℕ) (there formed : Bool) (first seco
   pub past_it : formed ≡ true → p < next
   pub within : next ≤ length text
 
--- the entry lines from p to i are two numbers each, so many of them, and whether some index is outside n
-pub record ScannedTo (n : ℕ) (text : List ℕ) (p i seen : ℕ) (outside : Bool) : Type 0 where
-  pub is : some malformed (entries_from text i) ≡ some malformed (entries_from text p)
-  pub counted : seen + length (entries_from text i) ≡ length (entries_from text p)
-  pub found : (outside || some (outside_entry n) (entries_from text i)) ≡ some (outside_entry n) (entries_from text p)
-  pub few : seen ≤ i
-  pub within : i ≤ length text
-
--- the same of the plain lines in front
-pub record PlainScanned (n : ℕ) (text : List ℕ) (p i seen : ℕ) (outside : Bool) : Type 0 where
-  pub scanned : ScannedTo n text p i seen outside
-  pub lines : PlainLines text p seen
-
--- so many of the entries from p on are plain lines in front
-pub record PlainFront (text : List ℕ) (p plain : ℕ) : Type 0 where
-  pub lines : PlainLines text p plain
-  pub most : plain ≤ length (entries_from text p)
-
--- whether every entry line is two numbers; then how many there are, and whether some index is outside n; so many plain lines in front
-pub record Scanned (n : ℕ) (text : List ℕ) (p : ℕ) (formed : Bool) (count plain : ℕ) (outside : Bool) : Type 0 where
+-- whether every entry line is two numbers; then how many there are, and whether some index is outside n
+pub record Scanned (n : ℕ) (text : List ℕ) (p : ℕ) (formed : Bool) (count : ℕ) (outside : Bool) : Type 0 where
   pub is : some malformed (entries_from text p) ≡ not formed
   pub counted : formed ≡ true → length (entries_from text p) ≡ count
   pub found : formed ≡ true → some (outside_entry n) (entries_from text p) ≡ outside
-  pub front : PlainFront text p plain
 
 -- ---- the pass that stores
 -- there is an entry from p on, and all of them are two numbers

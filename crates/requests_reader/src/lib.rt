@@ -14,14 +14,14 @@ pub mod front;
 pub mod requests;
 
 // The dimension and the number of requests, or why the file is refused.
-#[derive(Drop)]
+#[derive(Clone, Copy)]
 pub enum ReadRequests {
     Read(usize, usize),
     Refused(Refusal),
 }
 
 // Whether a size line is accepted; then the dimension, the entry count and the place behind it.
-#[derive(Drop)]
+#[derive(Clone, Copy)]
 struct Size {
     accepted: bool,
     n: usize,
@@ -97,8 +97,6 @@ pub fn read_requests(text: &[u8], rows: &mut [u32], columns: &mut [u32]) -> Read
     if columns.len() < requests {
         return ReadRequests::Refused(Refusal::TooShort);
     }
-    store_requests(
-        text, size.next, size.n, scan.count, scan.plain, rows, columns,
-    );
+    store_requests(text, size.next, size.n, scan.count, rows, columns);
     ReadRequests::Read(size.n, requests)
 }

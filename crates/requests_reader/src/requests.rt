@@ -2,7 +2,7 @@
 ghost use Rattle.std.specs.Prelude.{◌≤◌, ◌≡◌, length};
 ghost use Rattle.refusal.specs.Bounds.{max_dimension};
 ghost use Rattle.matrix_market.specs.File.{every_diagonal, stand_for, request_count};
-ghost use Rattle.requests_reader.specs.EntryLines.{entries_from, PlainFront, StoreEntriesInput, RequestsStored};
+ghost use Rattle.requests_reader.specs.EntryLines.{entries_from, StoreEntriesInput, RequestsStored};
 
 use super::entries::store_entries;
 
@@ -29,17 +29,16 @@ fn store_diagonals(n: usize, rows: &mut [u32], columns: &mut [u32])
     }
 }
 
-// Stores the requests that the entry lines from p on stand for, in a file of dimension n, to the front of the lists; so many plain lines stand first.
+// Stores the requests that the entry lines from p on stand for, in a file of dimension n, to the front of the lists.
 pub fn store_requests(
     text: &[u8],
     p: usize,
     n: usize,
     count: usize,
-    plain: usize,
     rows: &mut [u32],
     columns: &mut [u32],
 )
-    requires store_entries_input { StoreEntriesInput text.now p count × PlainFront text.now p plain × (n ≤ max_dimension) }
+    requires store_entries_input { StoreEntriesInput text.now p count × (n ≤ max_dimension) }
     requires count_in_bounds { (request_count n count ≤ length rows.old) × (request_count n count ≤ length columns.old) }
     ensures { RequestsStored (stand_for n (entries_from text.now p)) rows.old columns.old rows.new columns.new }
 {
@@ -47,5 +46,5 @@ pub fn store_requests(
         store_diagonals(n, rows, columns);
         return;
     }
-    store_entries(text, p, count, plain, rows, columns);
+    store_entries(text, p, count, rows, columns);
 }

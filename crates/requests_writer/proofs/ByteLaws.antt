@@ -18,7 +18,7 @@ use Rattle.matrix_market.specs.Text.{joined}
 use Rattle.matrix_market.specs.File.{header}
 use Rattle.matrix_market.specs.Decimal.{decimal, decimal_one, decimal_more, decimal_some, decimal_most, decimal_short, decimal_longer}
 use Rattle.matrix_market.specs.FileOf.{spaced, size_line, entry_line, file_of}
-use Rattle.requests_writer.specs.Lines.{Wrote, entry_bytes, rows_bytes, columns_bytes, head_bytes, head_most}
+use Rattle.requests_writer.specs.Lines.{Wrote, entry_bytes, rows_bytes, columns_bytes, head_bytes, line_most, head_most}
 
 -- no bytes yet
 pub wrote_none : (place : ℕ) (text : List ℕ) → Wrote [] place text text place
@@ -63,22 +63,22 @@ entry_length c r =
       length-append (decimal (r + 1)) (32 ∷ []),
     )
 
-module _ (c : ℕ) where
-  pub rows_empty : rows_bytes c [] ≡ []
-  unfolding rows_bytes joined
-  rows_empty = refl
+pub entry_most : (c r : ℕ) → c < max_dimension → r < max_dimension → length (entry_bytes c r) ≤ line_most
+entry_most c r h l = omega (arith, entry_length c r, decimal_most (r + 1), decimal_most (c + 1))
 
-  pub rows_snoc : (rows : List ℕ) (r : ℕ) → rows_bytes c (rows ++ (r ∷ [])) ≡ rows_bytes c rows ++ entry_bytes c r
-  unfolding rows_bytes entry_bytes
-  rows_snoc rows r =
-      ap (joined 10) (map_snoc (entry_line c) rows r)
-      ∙ joined-append 10 (map (entry_line c) rows) (entry_line c r ∷ [])
-      ∙ ap (λ (l : List ℕ). joined 10 (map (entry_line c) rows) ++ l) (joined_one 10 (entry_line c r))
+module _ (c : ℕ) where
+  pub rows_none : (rows : List ℕ) → rows_bytes c (take 0 rows) ≡ []
+  unfolding rows_bytes joined
+  rows_none rows = refl
 
   -- a row more
   pub rows_next : (rows : List ℕ) (k : ℕ) → k < length rows → rows_bytes c (take (k + 1) rows) ≡ rows_bytes c (take k rows) ++ entry_bytes c (get_or rows k 0)
+  unfolding rows_bytes entry_bytes
   rows_next rows k h =
-      ap (rows_bytes c) (ap (λ (i : ℕ). take i rows) (add-one k) ∙ take-suc rows k 0 h) ∙ rows_snoc (take k rows) (get_or rows k 0)
+      ap (λ (l : List ℕ). joined 10 (map (entry_line c) l)) (ap (λ (i : ℕ). take i rows) (add-one k) ∙ take-suc rows k 0 h)
+      ∙ ap (joined 10) (map_snoc (entry_line c) (take k rows) (get_or rows k 0))
+      ∙ joined-append 10 (map (entry_line c) (take k rows)) (entry_line c (get_or rows k 0) ∷ [])
+      ∙ ap (λ (l : List ℕ). joined 10 (map (entry_line c) (take k rows)) ++ l) (joined_one 10 (entry_line c (get_or rows k 0)))
 
 module _ (n : ℕ) (S : ℕ → ℕ → Bool) where
   pub columns_none : columns_bytes n S 0 ≡ []
@@ -200,11 +200,6 @@ pub record Writing (all : List ℕ) (place : ℕ) (text₀ text : List ℕ) (nex
   pub wrote : Wrote done place text₀ text next
   pub room : place + length all ≤ length text₀
 
-pub writing_rest : {all : List ℕ} {place : ℕ} {text₀ text : List ℕ} {next : ℕ} {done rest rest' : List ℕ} → rest ≡ rest'
-    → Writing all place text₀ text next done rest → Writing all place text₀ text next done rest'
-writing_rest {all} {place} {text₀} {text} {next} {done} e W =
-    record { parts = ap (λ (r : List ℕ). done ++ r) (sym e) ∙ W.parts; wrote = W.wrote; room = W.room }
-
 pub writing_start : {all rest : List ℕ} {place : ℕ} {text : List ℕ} → rest ≡ all → place + length all ≤ length text → Writing all place text text place [] rest
 writing_start {all} {rest} {place} {text} e h = record { parts = e; wrote = wrote_none place text; room = h }
 
@@ -231,6 +226,10 @@ module _ {all : List ℕ} {place : ℕ} {text₀ text : List ℕ} {next : ℕ} {
 
   pub writing_long : length text ≡ length text₀
   writing_long = wrote_length W.room writing_end
+
+pub entry_split : (c r : ℕ) → decimal (r + 1) ++ ((32 ∷ []) ++ (decimal (c + 1) ++ ((10 ∷ []) ++ []))) ≡ entry_bytes c r
+unfolding entry_bytes spaced
+entry_split c r = sym (append_assoc (decimal (r + 1)) (32 ∷ decimal (c + 1)) (10 ∷ []))
 
 pub head-split : (n count : ℕ) → header ++ ((10 ∷ []) ++ (decimal n ++ ((32 ∷ []) ++ (decimal n ++ ((32 ∷ []) ++ (decimal count ++ ((10 ∷ []) ++ []))))))) ≡ head_bytes n count
 unfolding head_bytes joined spaced

@@ -1,6 +1,6 @@
 -- Bytes written to a text, and those of a file's lines: what the functions that write them promise.
 -- Assumes nothing.
-use Rattle.std.specs.Prelude.{ℕ, zero, suc, ◌+◌, ◌*◌, ◌/◌, ◌%◌, ◌≤◌, ◌<◌, ◌≡◌, Bool, cond, List, [], ◌∷◌, ◌++◌, map, eqb, length, get_or}
+use Rattle.std.specs.Prelude.{ℕ, ◌+◌, ◌*◌, ◌≤◌, ◌<◌, ◌≡◌, Bool, List, [], ◌∷◌, ◌++◌, map, length, get_or}
 use Rattle.lists.specs.Overwrite.{splice}
 use Rattle.lists.specs.Cells.{cells}
 use Rattle.refusal.specs.Bounds.{max_dimension}
@@ -8,7 +8,6 @@ use Rattle.pairs.specs.Pair.{max_pairs}
 use Rattle.pairs.specs.ColumnOrder.{by_column, column_first, column_end}
 use Rattle.matrix_market.specs.Text.{joined}
 use Rattle.matrix_market.specs.File.{header}
-use Rattle.matrix_market.specs.Decimal.{decimal}
 use Rattle.matrix_market.specs.FileOf.{size_line, entry_line}
 
 -- bytes are written over a text from `place` on, and end before `next`
@@ -33,35 +32,16 @@ columns_bytes n S m = joined 10 (cells (by_column S) column_first (column_end n)
 unfoldable pub head_bytes : ℕ → ℕ → List ℕ
 head_bytes n count = joined 10 (header ∷ (size_line n count ∷ []))
 
--- an entry line has at most 10 bytes, the first two lines fewer than headMost
+-- more bytes than an entry line, or the first two lines, have
 abbrev pub line_most : ℕ
-line_most = 10
+line_most = 2 * max_dimension + 4
 
 abbrev pub head_most : ℕ
 head_most = 2 * max_dimension + max_pairs + 57
 
 -- rows of column c are listed, `count` of them
-pub record RowsInside (n c : ℕ) (rows : List ℕ) (count : ℕ) : Type 0 where
-  pub small : n ≤ max_dimension
-  pub column : c < n
+pub record RowsInside (c : ℕ) (rows : List ℕ) (count : ℕ) : Type 0 where
+  pub column : c < max_dimension
   pub listed : count ≤ length rows
-  pub inside : (k : ℕ) → k < count → get_or rows k 0 < n
-
--- ---- digits packed in words
--- the bytes of a word, the lowest first, to the last that is not 0; at most k
-unfoldable pub bytes_within : ℕ → ℕ → List ℕ
-bytes_within zero w = []
-bytes_within (suc k) w = cond (eqb w 0) [] ((w % 256) ∷ bytes_within k (w / 256))
-
--- all of them
-unfoldable pub word_bytes : ℕ → List ℕ
-word_bytes w = bytes_within w w
-
--- the line of a row and a column whose digits are words
-unfoldable pub words_line : ℕ → ℕ → List ℕ
-words_line row column = word_bytes row ++ ((32 ∷ []) ++ (word_bytes column ++ ((10 ∷ []) ++ [])))
-
--- words whose bytes are the digits of the numbers from 1 to n
-pub record DecimalWords (n : ℕ) (words : List ℕ) : Type 0 where
-  pub long : n ≤ length words
-  pub digits : (k : ℕ) → k < n → word_bytes (get_or words k 0) ≡ decimal (k + 1)
+  pub few : count ≤ max_dimension
+  pub inside : (k : ℕ) → k < count → get_or rows k 0 < max_dimension

@@ -6,15 +6,14 @@ use Rattle.lists.specs.Test.{any, same_truth}
 use Rattle.refusal.specs.Bounds.{max_dimension}
 use Rattle.pairs.specs.Pair.{ordered, ordered_is, is_ordered}
 use Rattle.pairs.specs.Scratch.{mark_words}
-use Rattle.pairs.specs.ColumnOrder.{column_place, column_marking, column_place_same, col_start}
+use Rattle.pairs.specs.ColumnOrder.{column_place, column_marking, column_place_same}
 use Rattle.closed_set.specs.Requests.{requested, Requests}
 
--- marks of all pairs of n columns, and where those of column c begin
-pub record ColumnMarks (n c place : ℕ) (marks : List ℕ) : Type 0 where
+-- marks of all pairs of n columns, and a list that takes a column's rows
+pub record MarksListed (n : ℕ) (marks list : List ℕ) : Type 0 where
   pub small : n ≤ max_dimension
   pub all : length marks ≡ mark_words n
-  pub at : place ≡ col_start n c
-  pub inside : c < n
+  pub room : n ≤ length list
 
 -- requests past their checks, and marks of all pairs
 pub record MarkInput (n : ℕ) (rows columns marks : List ℕ) : Type 0 where

@@ -1,6 +1,5 @@
 // Writing requests as a Matrix Market file.
 pub mod checks;
-pub mod digits;
 pub mod lines;
 pub mod marks;
 pub mod numbers;
@@ -23,12 +22,12 @@ use marks::mark_requests;
 use numbers::{number_length, write_byte, write_bytes, write_number};
 use pair_places::pair_total;
 use pair_places::scratch::mark_words;
-use refusal::{Checked, Refusal};
+use refusal::{Checked, MAX_DIMENSION, Refusal};
 use set_bits::count::count_bits;
 use words::clear;
 
 // How many bytes are written, or why none is.
-#[derive(Drop)]
+#[derive(Clone, Copy)]
 pub enum WrittenRequests {
     Written(usize),
     Refused(Refusal),
@@ -68,14 +67,15 @@ fn write_marked(n: usize, marks: &mut [u32], text: &mut [u8]) -> WrittenRequests
     requires { (n ≤ max_dimension) × (length marks.old ≡ mark_words n) }
     ensures { SetWritten n (column_marking n marks.old) result marks.old text.old marks.new text.new }
 {
+    let mut list = [0; MAX_DIMENSION];
     let count = count_bits(marks, 0, pair_total(n));
-    let length = head_length(n, count) + lines_length(n, marks);
+    let length = head_length(n, count) + lines_length(n, marks, &mut list);
     if text.len() < length {
         clear(marks, marks.len()); // also when the output is short
         return WrittenRequests::Refused(Refusal::TooShort);
     }
     let place = write_head(n, count, text);
-    write_lines(n, marks, place, text);
+    write_lines(n, marks, &mut list, place, text);
     clear(marks, marks.len());
     WrittenRequests::Written(length)
 }

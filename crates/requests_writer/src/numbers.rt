@@ -1,7 +1,8 @@
-// Bytes and numbers written to a text from a place on.
+// Bytes, numbers and an entry line written to a text from a place on.
 ghost use Rattle.std.specs.Prelude.{◌≡◌, [], ◌∷◌, ◌+◌, ◌≤◌, ◌<◌, length};
+ghost use Rattle.refusal.specs.Bounds.{max_dimension};
 ghost use Rattle.matrix_market.specs.Decimal.{decimal};
-ghost use Rattle.requests_writer.specs.Lines.{Wrote};
+ghost use Rattle.requests_writer.specs.Lines.{Wrote, entry_bytes};
 
 fn digit_byte(d: usize) -> u8
     requires { d < 10 }
@@ -60,4 +61,15 @@ pub fn write_number(x: usize, place: usize, text: &mut [u8]) -> usize
     }
     text[i] = digit_byte(y);
     next
+}
+
+// Writes the line of row r of column c; returns the place behind it.
+pub fn write_entry(c: usize, r: usize, place: usize, text: &mut [u8]) -> usize
+    requires { (c < max_dimension) × (r < max_dimension) × (place + length (entry_bytes c r) ≤ length text.old) }
+    ensures { Wrote (entry_bytes c r) place text.old text.new result }
+{
+    let row_end = write_number(r + 1, place, text);
+    let column_start = write_byte(32, row_end, text);
+    let column_end = write_number(c + 1, column_start, text);
+    write_byte(10, column_end, text)
 }

@@ -10,7 +10,7 @@ use refusal::Refusal;
 use selected::{selected_inverse_entries, selected_inverse_entries_with_limit};
 
 // What the lookup finds, or why there is no result; `answer_of` of specs/SelectedEntry.antt gives the number and value of each case.
-#[derive(Drop)]
+#[derive(Clone, Copy)]
 pub enum SelectedEntry {
     Found(Entry),
     ClosureTooLarge,

@@ -4,7 +4,7 @@ use Rattle.std.specs.Prelude.{ℕ, ◌≡◌, List, [], ◌∷◌}
 use Rattle.refusal.specs.Steps.{Reply, first}
 use Rattle.columns.specs.Examples.{whole, f2_starts, f2_rows, f2_values, f3_starts, f3_rows, f3_values}
 use Rattle.diagnostics.specs.declared.SelectedInverseDiagnostics.{SelectedInverseDiagnostics}
-use Rattle.selection.specs.Selection.{Room, room, default_limit, selected_answer}
+use Rattle.selection.specs.Selection.{Room, room, selected_answer}
 use Rattle.selection.specs.Call.{Call, call, selection_of, selected_steps}
 use Rattle.operator_variances.specs.Transformed.{TransformedCall, transformed_call}
 
@@ -25,7 +25,7 @@ NoColumns limit = call_reply (call 0 (0 ∷ []) [] [] 0 [] [] limit) (room 1 1 1
 
 -- F2 with the operator row 1 at 0, 1 at 1
 abbrev pub f2_operator : TransformedCall
-f2_operator = transformed_call 2 f2_starts f2_rows f2_values 2 (0 ∷ 2 ∷ []) (0 ∷ 1 ∷ []) (whole 1 ∷ whole 1 ∷ []) (default_limit f2_rows)
+f2_operator = transformed_call 2 f2_starts f2_rows f2_values 2 (0 ∷ 2 ∷ []) (0 ∷ 1 ∷ []) (whole 1 ∷ whole 1 ∷ [])
 
 -- ---- lengths that are the same
 

@@ -13,7 +13,7 @@ use refusal::{Checked, Refusal};
 use sums::row_bounds;
 
 // The bounds, or why there are none; `boundsReply` of specs/Ranges.antt gives the number of a refusal.
-#[derive(Drop)]
+#[derive(Clone, Copy)]
 pub enum VarianceBounds {
     Bounds(i64, i64),
     Refused(Refusal),

@@ -4,7 +4,7 @@ ghost use Rattle.integers.specs.Size.{SizeWithin};
 ghost use Rattle.integers.specs.MinMax.{minℤ, maxℤ};
 
 // The low end is not above the high end.
-#[derive(Drop)]
+#[derive(Clone, Copy)]
 pub struct Range {
     pub low: i64,
     pub high: i64,

@@ -14,7 +14,7 @@ use whole_steps::{is_beyond, is_nonzero, product, product_beyond, size, sum, who
 use words::at;
 
 // A whole number of at most 2^53 in size, or that there is none; `numberReply` of specs/Number.antt gives document 02's number for the latter.
-#[derive(Drop)]
+#[derive(Clone, Copy)]
 pub enum Number {
     Value(i64),
     Beyond,

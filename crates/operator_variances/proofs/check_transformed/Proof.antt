@@ -10,7 +10,7 @@ use Rattle.columns.specs.Columns.{bound_steps, factor_lists}
 use Rattle.columns.specs.Factor.{FactorBounded, bound_steps-sound}
 use Rattle.columns.specs.Stored.{stored_steps, stored_steps-sound}
 use Rattle.columns.specs.Operator.{operator_rows, operator_bound_steps, operator_steps}
-use Rattle.selection.specs.Selection.{room, fill_steps}
+use Rattle.selection.specs.Selection.{room, default_limit, fill_steps}
 use Rattle.operator_variances.specs.Transformed.{TransformedCall, transformed_call, column_count_steps, transformed_steps}
 use Rattle.operator_variances.proofs.check_transformed.Statement.{statement}
 use Rattle.operator_variances.proofs.check_transformed.Tie as tie
@@ -23,7 +23,7 @@ module _ (f : tie.After-first-of) where
   abbrev handed : TransformedCall
   handed =
       let a = (begin f).args in
-      transformed_call a.n a.starts.now a.rows.now a.values.now a.ncols a.row-starts.now a.columns.now a.weights.now a.limit
+      transformed_call a.n a.starts.now a.rows.now a.values.now a.ncols a.row-starts.now a.columns.now a.weights.now
 
   abbrev bounds : List Step
   bounds = let a = (begin f).args in bound_steps a.n (length a.rows.now) ++ operator_bound_steps a.row-starts.now a.columns.now
@@ -37,7 +37,7 @@ module _ (f : tie.After-first-of) where
   abbrev fill : List Step
   fill =
       let a = (begin f).args in
-      fill_steps (factor_lists a.n a.starts.now a.rows.now a.values.now) a.limit
+      fill_steps (factor_lists a.n a.starts.now a.rows.now a.values.now) (default_limit a.rows.now)
       (room a.result-starts a.result_rows a.result-values a.scratch)
 
   abbrev output : List Step
@@ -95,9 +95,12 @@ check-column-count-requires c κs = search rules
 check-operator-requires : tie.Need-check-operator-requires
 check-operator-requires c κs = search rules
 
+default-limit-requires : tie.Need-default-limit-requires
+default-limit-requires c κs = (bounded c.before.before.before.before.before).few
+
 check-fill-requires : tie.Need-check-fill-requires
 check-fill-requires c κs =
-    let t = c.before.before in
+    let t = c.before.before.before in
     ((bounded t.before.before.before).small, stored_steps-sound _ (entered t))
 
 operator-rows-requires : tie.Need-operator-rows-requires
@@ -139,14 +142,15 @@ returns-3 c =
     let o = h.before in
     let r = o.before in
     let k = r.before in
-    let p = k.before in
+    let d = k.before in
+    let p = d.before in
     let q = p.before in
     let t = q.before in
     let u = t.before.before.before in
     let f = u.before.before in
     verdicts (column_count_steps (handed f)) (operator f ++ (fill f ++ output f)) c.first-of4.ensures q.check-column-count.ensures
     (verdicts (operator f) (fill f ++ output f) g.first-of3.ensures p.check-operator.ensures
-    (verdicts (fill f) (output f) h.first-of2.ensures k.check-fill.ensures
+    (verdicts (fill f) (output f) h.first-of2.ensures (rw d.default-limit.ensures at k.check-fill.ensures)
     (rw r.operator-rows.ensures at o.check-output.ensures)))
     ∙ sym
     (append_passed (bounds f) (entries f ++ later f) tt (within u)
@@ -166,6 +170,7 @@ check-transformed-spec =
     enum-told-2
     check-column-count-requires
     check-operator-requires
+    default-limit-requires
     check-fill-requires
     operator-rows-requires
     check-output-requires

@@ -7,7 +7,7 @@ use Rattle.refusal.specs.Steps.{Step, Passed, append-refused, append_passed}
 use Rattle.refusal.specs.Refusal.{reply_of}
 use Rattle.columns.specs.Stored.{factor_steps, factor_steps_bounded, factor_steps-sound}
 use Rattle.factor_order.specs.Permutation.{order_steps}
-use Rattle.selection.specs.Selection.{room, fill_steps}
+use Rattle.selection.specs.Selection.{room, default_limit, fill_steps}
 use Rattle.refusal.specs.FirstOf.{verdicts}
 use Rattle.original_diagonal.specs.Original.{original_steps}
 use Rattle.original_diagonal.proofs.check_original.Statement.{statement}
@@ -26,7 +26,7 @@ two f = let a = (begin f).args in order_steps a.n a.orig-to-perm.now
 abbrev three : tie.After-check-factor → List Step
 three f =
     let a = (begin f).args in
-    fill_steps (factor_lists a.n a.starts.now a.rows.now a.values.now) a.limit
+    fill_steps (factor_lists a.n a.starts.now a.rows.now a.values.now) (default_limit a.rows.now)
     (room a.result-starts a.result_rows a.result-values a.scratch)
 
 abbrev four : tie.After-check-factor → List Step
@@ -48,9 +48,12 @@ check-order-requires : tie.Need-check-order-requires
 check-order-requires c κs =
     (factor_steps_bounded _ (passed c)).small
 
+default-limit-requires : tie.Need-default-limit-requires
+default-limit-requires c κs = (factor_steps_bounded _ (passed c.before)).few
+
 check-fill-requires : tie.Need-check-fill-requires
 check-fill-requires c κs =
-    let p = passed c.before in
+    let p = passed c.before.before in
     ((factor_steps_bounded _ p).small, factor_steps-sound _ p)
 
 check-output-requires : tie.Need-check-output-requires
@@ -74,11 +77,12 @@ returns-2 c =
     let l = c.before in
     let o = l.before in
     let k = o.before in
-    let p = k.before in
+    let d = k.before in
+    let p = d.before in
     let t = p.before in
     let f = t.before.before in
     verdicts (two f) (three f ++ four f) c.first-of2.ensures p.check-order.ensures
-    (verdicts (three f) (four f) l.first_of.ensures k.check-fill.ensures o.check-output.ensures)
+    (verdicts (three f) (four f) l.first_of.ensures (rw d.default-limit.ensures at k.check-fill.ensures) o.check-output.ensures)
     ∙ sym (append_passed (one f) (two f ++ (three f ++ four f)) tt (passed t))
 
 pub check-original-spec : {M : Type 1} → statement M
@@ -89,6 +93,7 @@ check-original-spec =
     enum-known-why
     enum_told
     check-order-requires
+    default-limit-requires
     check-fill-requires
     check-output-requires
     first-of-requires

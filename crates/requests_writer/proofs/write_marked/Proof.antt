@@ -1,12 +1,14 @@
 use borrow.Author.Rules.{rules}
 use native.Mathlib.Omega.{arith}
 use Prim.Native.Nat.{ℕ, ◌≤◌, ◌-◌, ◌+◌}
+use mathlib.Core.Path.{◌≡◌, ap, ◌∙◌}
+use lib.ListN.{length}
 use mathlib.Core.Bool.{Bool}
 use mathlib.Core.List.{◌++◌}
-use mathlib.Core.Path.{◌≡◌, ap, ◌∙◌}
-use lib.ListN.{length-append, length}
+use lib.ListN.{length-append, length-replicate}
 use Rattle.lists.specs.Select.{tally}
 use Rattle.bits.specs.Bits.{bit_at, bit_words}
+use Rattle.refusal.specs.Bounds.{max_dimension}
 use Rattle.pairs.specs.ColumnOrder.{column_marking, set_size}
 use Rattle.matrix_market.specs.FileOf.{file_of}
 use Rattle.requests_writer.specs.Lines.{head_bytes, columns_bytes}
@@ -29,21 +31,21 @@ counted b =
     b.count-bits.ensures ∙ ap (tally (bit_at a.marks.now) 0) b.before.pair-total.ensures.0 ∙ column_count_lem a.n a.marks.now
 
 -- the length is the file's
-sized : (l : tie.After-lines-length) → let h = l.before.before in h.head-length.result + l.lines-length.result ≡ length (file_of (begin h.before).args.n (set (begin h.before)))
+sized : (l : tie.After-lines-length) → let h = l.before.before.before in h.head-length.result + l.lines-length.result ≡ length (file_of (begin h.before).args.n (set (begin h.before)))
 sized l =
-    let h = l.before.before in
+    let h = l.before.before.before in
     let b = h.before in
     let s = begin b in
     let e = ap length (ap (λ (k : ℕ). head_bytes s.args.n k ++ columns_bytes s.args.n (set s) s.args.n) (counted b) ∙ file_parts s.args.n (set s)) in
     omega (arith, h.head-length.ensures.0, l.lines-length.ensures.0, e, length-append (head_bytes s.args.n b.count-bits.result) (columns_bytes s.args.n (set s) s.args.n))
 
 -- there is room for the lines behind the first two
-room : (w : tie.After-write-head) → let l = w.before.before.before in let s = begin l.before.before.before in
+room : (w : tie.After-write-head) → let l = w.before.before.before.before in let s = begin l.before.before.before.before in
     w.write-head.result + length (columns_bytes s.args.n (set s) s.args.n) ≤ length w.write-head.new.1.1.0
 room w =
     let t = w.before.before in
-    let l = t.before in
-    let h = l.before.before in
+    let l = t.before.before in
+    let h = l.before.before.before in
     let s = begin h.before in
     let g : 0 + length (head_bytes s.args.n h.before.count-bits.result) ≤ length s.args.text.now = omega (arith, t.if1.false, h.head-length.ensures.0) in
     omega (arith, w.write-head.ensures.next_is, wrote_length g w.write-head.ensures, t.if1.false, h.head-length.ensures.0, l.lines-length.ensures.0)
@@ -60,11 +62,16 @@ count-bits-requires c κs =
 head-length-requires : tie.Need-head-length-requires
 head-length-requires c κs = let s = begin c in (s.pre.0, omega (arith, counted c, size_small s.args.n (set s) s.pre.0))
 
+slice-aggregate-lines-length : tie.Need-slice-aggregate-lines-length
+slice-aggregate-lines-length c = search rules
+
 lines-length-requires : tie.Need-lines-length-requires
-lines-length-requires c κs = search rules
+lines-length-requires c κs =
+    let s = begin c.before.before.before in
+    record { small = s.pre.0; all = s.pre.1; room = omega (arith, s.pre.0, length-replicate {A = ℕ} max_dimension 0) }
 
 add-length : tie.Need-overflow-add-length
-add-length c = omega (arith, c.before.before.head-length.ensures.1, c.lines-length.ensures.1)
+add-length c = let l = c.before in omega (arith, l.before.before.before.head-length.ensures.1, l.lines-length.ensures.1)
 
 clear-requires : tie.Need-clear-requires
 clear-requires c κs = search rules
@@ -76,18 +83,23 @@ returns : tie.Need-returns
 returns c =
     let v = c.before.before in
     let t = v.before.before in
-    let l = t.before in
-    let s = begin l.before.before.before in
+    let l = t.before.before in
+    let s = begin l.before.before.before.before in
     set_short s.args.n (set s) s.args.marks.now s.args.text.now _ (sized l) v.clear.ensures t.if1.true
 
 write-head-requires : tie.Need-write-head-requires
-write-head-requires c κs = let t = c.before in let l = t.before in omega (arith, t.if1.false, l.before.before.head-length.ensures.0)
+write-head-requires c κs = let t = c.before in let l = t.before.before in omega (arith, t.if1.false, l.before.before.before.head-length.ensures.0)
+
+slice-aggregate-write-lines : tie.Need-slice-aggregate-write-lines
+slice-aggregate-write-lines c = search rules
 
 write-lines-requires : tie.Need-write-lines-requires
 write-lines-requires c κs =
-    let w = c.before.before.before.before in
-    let s = begin w.before.before.before.before.before.before in
-    (s.pre.0, s.pre.1, room w)
+    let w = c.before.before.before.before.before in
+    let t = w.before.before in
+    let l = t.before.before in
+    let s = begin l.before.before.before.before in
+    (record { small = s.pre.0; all = s.pre.1; room = omega (arith, s.pre.0, length-replicate {A = ℕ} max_dimension 0, l.lines-length.auto.1.1.0) }, room w)
 
 clear-requires-2 : tie.Need-clear-requires-2
 clear-requires-2 c κs = search rules
@@ -101,11 +113,11 @@ same-length-3 c = search rules
 returns-2 : tie.Need-returns-2
 returns-2 c =
     let v = c.before.before in
-    let x = v.before.before.before.before in
-    let w = x.before.before.before.before.before in
+    let x = v.before.before.before.before.before in
+    let w = x.before.before.before.before.before.before in
     let t = w.before.before in
-    let l = t.before in
-    let b = l.before.before.before in
+    let l = t.before.before in
+    let b = l.before.before.before.before in
     let s = begin b in
     let e = ap (λ (k : ℕ). head_bytes s.args.n k ++ columns_bytes s.args.n (set s) s.args.n) (counted b) ∙ file_parts s.args.n (set s) in
     let f = wrote_cong e (wrote_more (omega arith) w.write-head.ensures x.write-lines.ensures) in
@@ -118,12 +130,14 @@ write-marked-spec =
     pair-total-requires
     count-bits-requires
     head-length-requires
+    slice-aggregate-lines-length
     lines-length-requires
     add-length
     clear-requires
     same_length
     returns
     write-head-requires
+    slice-aggregate-write-lines
     write-lines-requires
     clear-requires-2
     same-length-2

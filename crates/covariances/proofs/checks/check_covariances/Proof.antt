@@ -9,7 +9,7 @@ use Rattle.refusal.specs.Refusal.{reply_of}
 use Rattle.columns.specs.Columns.{factor_lists}
 use Rattle.columns.specs.Factor.{FactorBounded, bound_steps-sound}
 use Rattle.columns.specs.Stored.{stored_steps, stored_steps-sound}
-use Rattle.selection.specs.Selection.{room, fill_steps}
+use Rattle.selection.specs.Selection.{room, default_limit, fill_steps}
 use Rattle.covariances.specs.Covariances.{CovarianceCall, operator, covariance_call, covariance_bounds, count_steps, operators_steps, covariance_steps}
 use Rattle.covariances.proofs.checks.check_covariances.Statement.{statement}
 use Rattle.covariances.proofs.checks.check_covariances.Tie as tie
@@ -25,7 +25,7 @@ module _ (f : tie.After-check-all-bounds) where
       covariance_call a.n a.starts.now a.rows.now a.values.now
       (operator a.a-ncols a.a-row-starts.now a.a-columns.now a.a-weights.now)
       (operator a.b-ncols a.b-row-starts.now a.b-columns.now a.b-weights.now)
-      a.a-rows.now a.b-rows.now a.limit
+      a.a-rows.now a.b-rows.now
 
   abbrev bounds : List Step
   bounds = covariance_bounds handed
@@ -36,7 +36,7 @@ module _ (f : tie.After-check-all-bounds) where
   abbrev fill : List Step
   fill =
       let a = (begin f).args in
-      fill_steps (factor_lists a.n a.starts.now a.rows.now a.values.now) a.limit
+      fill_steps (factor_lists a.n a.starts.now a.rows.now a.values.now) (default_limit a.rows.now)
       (room a.result-starts a.result_rows a.result-values a.scratch)
 
   abbrev output : List Step
@@ -82,9 +82,12 @@ check-counts-requires c κs = search rules
 check-operators-requires : tie.Need-check-operators-requires
 check-operators-requires c κs = search rules
 
+default-limit-requires : tie.Need-default-limit-requires
+default-limit-requires c κs = (bounded c.before.before.before.before.before).few
+
 check-fill-requires : tie.Need-check-fill-requires
 check-fill-requires c κs =
-    let t = c.before.before in
+    let t = c.before.before.before in
     ((bounded t.before.before.before).small, stored_steps-sound _ (entered t))
 
 check-output-requires : tie.Need-check-output-requires
@@ -122,14 +125,15 @@ returns-3 c =
     let h = g.before in
     let o = h.before in
     let k = o.before in
-    let p = k.before in
+    let d = k.before in
+    let p = d.before in
     let q = p.before in
     let t = q.before in
     let u = t.before.before.before in
     let f = u.before.before in
     verdicts (count_steps (handed f)) (operators_steps (handed f) ++ (fill f ++ output f)) c.first-of3.ensures q.check-counts.ensures
     (verdicts (operators_steps (handed f)) (fill f ++ output f) g.first-of2.ensures p.check-operators.ensures
-    (verdicts (fill f) (output f) h.first_of.ensures k.check-fill.ensures o.check-output.ensures))
+    (verdicts (fill f) (output f) h.first_of.ensures (rw d.default-limit.ensures at k.check-fill.ensures) o.check-output.ensures))
     ∙ sym
     (append_passed (bounds f) (entries f ++ later f) tt (within u)
     ∙ append_passed (entries f) (later f) tt (entered t))
@@ -146,6 +150,7 @@ check-covariances-spec =
     enum-told-2
     check-counts-requires
     check-operators-requires
+    default-limit-requires
     check-fill-requires
     check-output-requires
     first-of-requires

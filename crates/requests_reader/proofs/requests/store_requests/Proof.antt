@@ -15,7 +15,7 @@ store-diagonals-requires c κs =
     let t = c.before.before in
     let s = start t in
     let q = count_none s.args.n s.args.count t.if1.true in
-    (s.pre.0.2, omega (arith, s.pre.1.0, q), omega (arith, s.pre.1.1, q))
+    (s.pre.0.1, omega (arith, s.pre.1.0, q), omega (arith, s.pre.1.1, q))
 
 same_length : tie.Need-same-length
 same_length c = search rules
@@ -36,7 +36,7 @@ store-entries-requires c κs =
     let t = c.before.before in
     let s = begin t in
     let q = count_some s.args.n s.args.count t.if1.false in
-    ((s.pre.0.0, s.pre.0.1), (omega (arith, s.pre.1.0, q), omega (arith, s.pre.1.1, q)))
+    (s.pre.0.0, (omega (arith, s.pre.1.0, q), omega (arith, s.pre.1.1, q)))
 
 same-length-3 : tie.Need-same-length-3
 same-length-3 c = search rules

@@ -1,48 +1,27 @@
 use borrow.Author.Rules.{rules}
 use native.Mathlib.Omega.{arith}
 use Prim.Native.Nat.{ℕ, ◌≤◌, ◌<◌, ◌-◌, ◌+◌}
-use mathlib.Core.List.{List, ◌++◌}
 use mathlib.Core.Path.{◌≡◌, refl, ap, sym, ◌∙◌}
-use lib.ListN.{take, length-append, length, get_or}
-use Rattle.requests_writer.specs.Lines.{Wrote, entry_bytes, rows_bytes, words_line}
-use Rattle.requests_writer.proofs.ByteLaws.{wrote_none, wrote_more, wrote_cong, wrote_length, rows_empty, rows_next, rows_mono}
-use Rattle.requests_writer.proofs.DigitLaws.{line_words}
+use lib.ListN.{length, get_or}
+use mathlib.Core.List.{◌++◌}
+use lib.ListN.{take, length-append}
+use Rattle.requests_writer.specs.Lines.{Wrote, entry_bytes, rows_bytes}
+use Rattle.requests_writer.proofs.ByteLaws.{wrote_none, wrote_more, wrote_cong, wrote_length, rows_none, rows_next, rows_mono}
 use Rattle.requests_writer.proofs.rows.write_rows.Statement.{statement}
 use Rattle.requests_writer.proofs.rows.write_rows.Tie as tie
 
 abbrev invariant-loop : tie.invariant-loop
-invariant-loop n c decimals rows count place text₀ column next₀ k₀ text next k =
-    Wrote (rows_bytes c (take k rows)) place text₀ text next × (k ≤ count) × (length text ≡ length text₀)
+invariant-loop c rows count place text₀ next₀ k₀ text next k = Wrote (rows_bytes c (take k rows)) place text₀ text next × (k ≤ count) × (length text ≡ length text₀)
 
 abbrev decreases-loop : tie.decreases-loop
-decreases-loop n c decimals rows count place text₀ column next₀ k₀ text next k = count - k
+decreases-loop c rows count place text₀ next₀ k₀ text next k = count - k
 
 abbrev start : tie.At-loop invariant-loop decreases-loop → tie.Start invariant-loop decreases-loop
-start q = q.before.before.before.before.before
+start q = q.before.before.before
 
--- the row's digits are listed
-inside : (g : tie.After-at invariant-loop decreases-loop) → g.at.result < length (start g.before.before).args.decimals.now
-inside g =
-    let t = g.before in
-    let P = (start t.before).pre in
-    omega (arith, g.at.ensures, P.0.inside t.before.loop.k t.loop-test.true, P.1.long)
-
--- its line
-line : (g : tie.After-at invariant-loop decreases-loop) → let q = g.before.before in let a = (start q).args in
-    words_line (get_or a.decimals.now g.at.result 0) (get_or a.decimals.now a.c 0) ≡ entry_bytes a.c (get_or a.rows.now q.loop.k 0)
-line g =
-    let t = g.before in
-    let q = t.before in
-    let a = (start q).args in
-    let P = (start q).requires in
-    ap (λ (r : ℕ). words_line (get_or a.decimals.now r 0) (get_or a.decimals.now a.c 0)) g.at.ensures
-    ∙ line_words a.n a.decimals.now P.1 a.c (get_or a.rows.now q.loop.k 0) P.0.column (P.0.inside q.loop.k t.loop-test.true)
-
--- there is room for it
-room : (g : tie.After-at invariant-loop decreases-loop) → let q = g.before.before in let a = (start q).args in
-    q.loop.next + length (words_line (get_or a.decimals.now g.at.result 0) (get_or a.decimals.now a.c 0)) ≤ length q.loop.text
-room g =
-    let t = g.before in
+-- there is room for the next line
+room : (t : tie.In-loop invariant-loop decreases-loop) (r : ℕ) → let q = t.before in let a = (start q).args in r ≡ get_or a.rows.now q.loop.k 0 → q.loop.next + length (entry_bytes a.c r) ≤ length q.loop.text
+room t r e =
     let q = t.before in
     let l = q.loop in
     let a = (start q).args in
@@ -50,33 +29,23 @@ room g =
     let k< = t.loop-test.true in
     let n = ap length (rows_next a.c a.rows.now l.k (omega (arith, k<, P.0.listed))) ∙ length-append (rows_bytes a.c (take l.k a.rows.now)) (entry_bytes a.c (get_or a.rows.now l.k 0)) in
     let m = rows_mono a.c a.rows.now (l.k + 1) a.count (omega (arith, k<)) in
-    omega (arith, n, m, P.2, l.invariant.0.next_is, l.invariant.2, ap length (line g))
-
-mul-column : tie.Need-overflow-mul-column invariant-loop decreases-loop
-mul-column c = let s = c.before.before.before in omega (arith, s.requires.0.column, s.requires.0.small)
-
-shared-slice-read-column : tie.Need-shared-slice-read-column invariant-loop decreases-loop
-shared-slice-read-column c = let s = c.before.before.before.before in omega (arith, s.requires.0.column, s.requires.1.long)
+    omega (arith, n, m, P.1, l.invariant.0.next_is, l.invariant.2, ap (λ (x : ℕ). length (entry_bytes a.c x)) e)
 
 loop-holds : tie.Need-loop-init invariant-loop decreases-loop
 loop-holds c =
-    let a = c.before.before.before.before.args in
-    (wrote_cong (sym (rows_empty a.c)) (wrote_none a.place a.text.now), omega arith, refl)
+    let a = c.before.before.args in
+    (wrote_cong (sym (rows_none a.c a.rows.now)) (wrote_none a.place a.text.now), omega arith, refl)
 
 at-requires : tie.Need-at-requires invariant-loop decreases-loop
 at-requires c κs = let q = c.before in omega (arith, c.loop-test.true, (start q).requires.0.listed)
 
-mul-write-line : tie.Need-overflow-mul-write-line invariant-loop decreases-loop
-mul-write-line c =
-    let t = c.before in
-    let P = (start t.before).pre in
-    omega (arith, c.at.ensures, P.0.inside t.before.loop.k t.loop-test.true, P.0.small)
-
-shared-slice-read-write-line : tie.Need-shared-slice-read-write-line invariant-loop decreases-loop
-shared-slice-read-write-line c = inside c.before
-
-write-line-requires : tie.Need-write-line-requires invariant-loop decreases-loop
-write-line-requires c κs = room c.before.before
+write-entry-requires : tie.Need-write-entry-requires invariant-loop decreases-loop
+write-entry-requires c κs =
+    let t = c.before.before in
+    let q = t.before in
+    let P = (start q).requires.0 in
+    let h = P.inside q.loop.k t.loop-test.true in
+    (P.column, omega (arith, h, c.before.at.ensures), room t c.before.at.result c.before.at.ensures)
 
 add-k : tie.Need-overflow-add-k invariant-loop decreases-loop
 add-k c = search rules
@@ -87,15 +56,15 @@ loop-less c = search rules
 loop-again : tie.Need-loop-preserved invariant-loop decreases-loop
 loop-again c =
     let v = c.before.before in
-    let g = v.before.before.before in
+    let g = v.before.before in
     let t = g.before in
     let q = t.before in
     let l = q.loop in
     let a = (start q).args in
-    let P = (start q).requires in
-    let e = ap (λ (r : List ℕ). rows_bytes a.c (take l.k a.rows.now) ++ r) (line g) ∙ sym (rows_next a.c a.rows.now l.k (omega (arith, t.loop-test.true, P.0.listed))) in
-    let w = wrote_cong e (wrote_more (omega (arith, P.2)) l.invariant.0 v.write-line.ensures) in
-    (w, omega (arith, t.loop-test.true), wrote_length (room g) v.write-line.ensures ∙ l.invariant.2)
+    let e = ap (λ (r : ℕ). rows_bytes a.c (take l.k a.rows.now) ++ entry_bytes a.c r) g.at.ensures ∙ sym (rows_next a.c a.rows.now l.k (omega (arith, t.loop-test.true, (start q).requires.0.listed))) in
+    let w = wrote_cong e (wrote_more (omega (arith, (start q).requires.1)) l.invariant.0 v.write-entry.ensures) in
+    let n = wrote_length (room t g.at.result g.at.ensures) v.write-entry.ensures in
+    (w, omega (arith, t.loop-test.true), n ∙ l.invariant.2)
 
 same_length : tie.Need-same-length invariant-loop decreases-loop
 same_length c = c.before.loop.invariant.2
@@ -114,13 +83,9 @@ write-rows-spec =
     (tie.spec
     invariant-loop
     decreases-loop
-    mul-column
-    shared-slice-read-column
     loop-holds
     at-requires
-    mul-write-line
-    shared-slice-read-write-line
-    write-line-requires
+    write-entry-requires
     add-k
     loop-less
     loop-again

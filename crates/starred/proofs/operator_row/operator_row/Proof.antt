@@ -66,7 +66,7 @@ unfolding of_int of_bits
 expect-requires c κs =
     let d = c.before.before.before.before.before.before in
     c.counted.ensures
-    ∙ ap (λ (r : Reply SelectedInverseDiagnostics). counted_of r 3 3 3 true) (d.selected-inverse-transformed-diag.ensures.selected.replies ∙ operator_answered)
+    ∙ ap (λ (r : Reply SelectedInverseDiagnostics). counted_of r 3 3 3 true) (d.selected-inverse-transformed-diag.ensures.replies ∙ operator_answered)
     ∙ shows_complete 3 3 3 30
 
 array-read-expect : tie.Need-array-read-expect
@@ -76,7 +76,7 @@ expect-requires-2 : tie.Need-expect-requires-2
 unfolding eq of_int of_bits
 expect-requires-2 c κs =
     let d = c.before.before.before.before.before.before.before in
-    ap (λ (l : List Float). eq (get_or l 0 nan) (of_bits binary64 0x4000_0000_0000_0000)) (d.selected-inverse-transformed-diag.ensures.selected.output_is ∙ operator_written _)
+    ap (λ (l : List Float). eq (get_or l 0 nan) (of_bits binary64 0x4000_0000_0000_0000)) (d.selected-inverse-transformed-diag.ensures.output_is ∙ operator_written _)
 
 returns : tie.Need-returns
 returns c = search rules

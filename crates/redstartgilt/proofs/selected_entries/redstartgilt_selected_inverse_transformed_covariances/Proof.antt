@@ -1,6 +1,6 @@
 use borrow.Author.Rules.{rules}
-use Rattle.redstartgilt.proofs.row_covariances.redstartgilt_selected_inverse_transformed_covariances.Statement.{statement}
-use Rattle.redstartgilt.proofs.row_covariances.redstartgilt_selected_inverse_transformed_covariances.Tie as tie
+use Rattle.redstartgilt.proofs.selected_entries.redstartgilt_selected_inverse_transformed_covariances.Statement.{statement}
+use Rattle.redstartgilt.proofs.selected_entries.redstartgilt_selected_inverse_transformed_covariances.Tie as tie
 
 selected-inverse-transformed-covariances-requires : tie.Need-selected-inverse-transformed-covariances-requires
 selected-inverse-transformed-covariances-requires c κs = search rules
