@@ -160,6 +160,10 @@ module _ (s : ℕ) (sl : s ≤ low binary64) where
   -- ---- the product
   pub multiple_mul : (x y : Float) (a b m : ℤ) → Multiple s x a → Multiple s y b → a *ℤ b ≡ m *ℤ pos (2 ^ s) → Small m → Multiple s (mul binary64 x y) m
   unfolding mul
+  multiple_mul nan y a b m p q r h = elim p [ ]
+  multiple_mul (inf _) y a b m p q r h = elim p [ ]
+  multiple_mul (fin t k e) nan a b m p q r h = elim q [ ]
+  multiple_mul (fin t k e) (inf _) a b m p q r h = elim q [ ]
   multiple_mul (fin t k e) (fin u n d) a b m p q r h =
       multiple_round (unlike t u) (k * up e * (n * up d)) (down e * down d) m (mul-pos (down_pos e) (down_pos d))
       (ap (λ (z : ℤ). z *ℤ pos (2 ^ s)) (signed_* t u (k * up e) (n * up d))
@@ -175,6 +179,10 @@ module _ (s : ℕ) (sl : s ≤ low binary64) where
   -- ---- the sum
   pub multiple_add : (x y : Float) (a b : ℤ) → Multiple s x a → Multiple s y b → Small (a +ℤ b) → Multiple s (add binary64 x y) (a +ℤ b)
   unfolding add
+  multiple_add nan y a b p q h = elim p [ ]
+  multiple_add (inf _) y a b p q h = elim p [ ]
+  multiple_add (fin t k e) nan a b p q h = elim q [ ]
+  multiple_add (fin t k e) (inf _) a b p q h = elim q [ ]
   multiple_add (fin t k e) (fin u n d) a b p q h =
       let r = sum_is t u (k * up e * down d) (n * up d * down e) (down e * down d) in
       subst (λ (x : Float). Multiple s x (a +ℤ b)) (sym r.2)
@@ -190,6 +198,8 @@ module _ (s : ℕ) (sl : s ≤ low binary64) where
   -- ---- the negation and the difference
   pub multiple_neg : (x : Float) (a : ℤ) → Multiple s x a → Multiple s (neg x) (neg_ℤ a)
   unfolding neg
+  multiple_neg nan a p = elim p [ ]
+  multiple_neg (inf _) a p = elim p [ ]
   multiple_neg (fin t k e) a p =
       ap (λ (z : ℤ). z *ℤ pos (2 ^ s)) (signed-not t (k * up e)) ∙ negℤ_*ℤ (signed t (k * up e)) (pos (2 ^ s)) ∙ ap neg_ℤ p
       ∙ sym (negℤ_*ℤ a (pos (down e)))
@@ -202,6 +212,10 @@ module _ (s : ℕ) (sl : s ≤ low binary64) where
   pub multiple_div : (x y : Float) (a b m : ℤ) → Multiple s x a → Multiple s y b → b ≢ pos 0 → m *ℤ b ≡ a *ℤ pos (2 ^ s) → Small m
       → Multiple s (div binary64 x y) m
   unfolding div
+  multiple_div nan y a b m p q b0 r h = elim p [ ]
+  multiple_div (inf _) y a b m p q b0 r h = elim p [ ]
+  multiple_div (fin t k e) nan a b m p q b0 r h = elim q [ ]
+  multiple_div (fin t k e) (inf _) a b m p q b0 r h = elim q [ ]
   multiple_div (fin t k e) (fin u n d) a b m p q b0 r h = go (eqb n 0) (eqb→eq n 0)
     where
       zero_product : n ≡ 0 → signed u (n * up d) ≡ pos 0
@@ -253,6 +267,8 @@ module _ (s : ℕ) (sl : s ≤ low binary64) where
 
 -- ---- one multiplier, and `==`
 pub multiple_unique : (s : ℕ) (x : Float) (a b : ℤ) → Multiple s x a → Multiple s x b → a ≡ b
+multiple_unique s nan a b p q = elim p [ ]
+multiple_unique s (inf _) a b p q = elim p [ ]
 multiple_unique s (fin t k e) a b p q = *ℤ-cancel-r a b (pos (down e)) (down-nonzero e) (sym p ∙ q)
 
 size_same : (s t : Bool) (a b : ℕ) → signed s a ≡ signed t b → a ≡ b
@@ -284,6 +300,10 @@ level_signed true false a b h = zeros true false a b (eqb→eq a b (and_l (eqb a
 -- floats of one value are equal
 pub multiple_eq : (s : ℕ) (x y : Float) (m : ℤ) → Multiple s x m → Multiple s y m → T (eq x y)
 unfolding eq
+multiple_eq s nan y m p q = elim p [ ]
+multiple_eq s (inf _) y m p q = elim p [ ]
+multiple_eq s (fin t k e) nan m p q = elim q [ ]
+multiple_eq s (fin t k e) (inf _) m p q = elim q [ ]
 multiple_eq s (fin t k e) (fin u n d) m p q =
     signed_level t u (k * up e * down d) (n * up d * down e)
     (signed_scale t (k * up e) (down d)
@@ -293,6 +313,10 @@ multiple_eq s (fin t k e) (fin u n d) m p q =
 -- equal floats have one value
 pub eq_multiple : (s : ℕ) (x y : Float) (a b : ℤ) → Multiple s x a → Multiple s y b → T (eq x y) → a ≡ b
 unfolding eq
+eq_multiple s nan y a b p q h = elim p [ ]
+eq_multiple s (inf _) y a b p q h = elim p [ ]
+eq_multiple s (fin t k e) nan a b p q h = elim q [ ]
+eq_multiple s (fin t k e) (inf _) a b p q h = elim q [ ]
 eq_multiple s (fin t k e) (fin u n d) a b p q h =
     equal_common (signed t (k * up e)) (signed u (n * up d)) (pos (2 ^ s)) (pos (down e)) (pos (down d)) a b p q
     (*ℤ-nonzero (pos (down e)) (pos (down d)) (down-nonzero e) (down-nonzero d))

@@ -10,8 +10,7 @@ use mir.Val.{Fits, SFits, to_z, of_z}
 use mir.ValLaws.{to_z-of_z}
 use borrow.Author.Rules.{rules}
 use Rattle.integers.specs.Size.{below_zero, not_below_zero}
-use Rattle.whole_steps.proofs.size.Statement.{statement}
-use Rattle.whole_steps.proofs.size.Tie as tie
+use Rattle.whole_steps.proofs.size.Goals as goal
 
 -- -1 - x for x below 0
 is : (x : ℤ) → SFits w64 x → lt_z (to_z w64 (of_z w64 x)) (pos 0) ≡ true → (negsuc 0 -ℤ to_z w64 (of_z w64 x) ≡ pos (mag x)) × (nat_abs x ≡ mag x + 1)
@@ -26,39 +25,25 @@ fits x f t = subst (SFits w64) (sym (is x f t).0) (record { sfits = f.sfits })
 back : (x : ℤ) → SFits w64 x → lt_z (to_z w64 (of_z w64 x)) (pos 0) ≡ true → to_z w64 (of_z w64 (negsuc 0 -ℤ to_z w64 (of_z w64 x))) ≡ pos (mag x)
 back x f t = to_z-of_z w64 _ (fits x f t) ∙ (is x f t).0
 
-sub-y : tie.Need-overflow-sub-y
-sub-y c = let s = c.before in fits s.args.z s.ranges.z c.if1.true
+pub overflow_sub-y : goal.overflow_sub-y
+overflow_sub-y c = fits c.args.z c.ranges.z c.if-z-lt0.true
 
-cast-result : tie.Need-overflow-cast-result
-cast-result c =
-    let s = c.before in
-    let b = back s.args.z s.ranges.z c.if1.true in
-    let f : mag s.args.z < 2 ^ 63 = s.ranges.z.sfits in
+pub overflow_cast-result : goal.overflow_cast-result
+overflow_cast-result c = let b = back c.args.z c.ranges.z c.if-z-lt0.true in
+    let f : mag c.args.z < 2 ^ 63 = c.ranges.z.sfits in
     (subst (λ (z : ℤ). T (non_neg z)) (sym b) tt, subst (λ (z : ℤ). Fits w64 (nat_abs z)) (sym b) (record { fits = omega arith }))
 
-add-result : tie.Need-overflow-add-result
-add-result c =
-    let s = c.before in
-    let b = back s.args.z s.ranges.z c.if1.true in
-    let f : mag s.args.z < 2 ^ 63 = s.ranges.z.sfits in
+pub overflow_add-result : goal.overflow_add-result
+overflow_add-result c = let b = back c.args.z c.ranges.z c.if-z-lt0.true in
+    let f : mag c.args.z < 2 ^ 63 = c.ranges.z.sfits in
     subst (λ (z : ℤ). Fits w64 (nat_abs z + 1)) (sym b) (record { fits = omega arith })
 
-returns : tie.Need-returns
-returns c =
-    let s = c.before in
-    ap (λ (z : ℤ). nat_abs z + 1) (back s.args.z s.ranges.z c.if1.true) ∙ sym (is s.args.z s.ranges.z c.if1.true).1
+pub returns-then-z-lt0 : goal.returns-then-z-lt0
+returns-then-z-lt0 c = ap (λ (z : ℤ). nat_abs z + 1) (back c.args.z c.ranges.z c.if-z-lt0.true) ∙ sym (is c.args.z c.ranges.z c.if-z-lt0.true).1
 
-cast-result-2 : tie.Need-overflow-cast-result-2
-cast-result-2 c =
-    let s = c.before in
-    let b = to_z-of_z w64 s.args.z s.ranges.z in
-    let e = b ∙ not_below_zero s.args.z (sym (ap (λ (y : ℤ). lt_z y (pos 0)) b) ∙ c.if1.false) in
-    let f : mag (to_z w64 (of_z w64 s.args.z)) < 2 ^ 63 = subst (λ (z : ℤ). mag z < 2 ^ 63) (sym b) s.ranges.z.sfits in
-    let g : nat_abs s.args.z < 2 ^ 63 = subst (λ (z : ℤ). mag z < 2 ^ 63) e f in
+pub overflow_cast-result-2 : goal.overflow_cast-result-2
+overflow_cast-result-2 c = let b = to_z-of_z w64 c.args.z c.ranges.z in
+    let e = b ∙ not_below_zero c.args.z (sym (ap (λ (y : ℤ). lt_z y (pos 0)) b) ∙ c.if-z-lt0.false) in
+    let f : mag (to_z w64 (of_z w64 c.args.z)) < 2 ^ 63 = subst (λ (z : ℤ). mag z < 2 ^ 63) (sym b) c.ranges.z.sfits in
+    let g : nat_abs c.args.z < 2 ^ 63 = subst (λ (z : ℤ). mag z < 2 ^ 63) e f in
     (subst (λ (z : ℤ). T (non_neg z)) (sym e) tt, subst (λ (z : ℤ). Fits w64 (nat_abs z)) (sym e) (record { fits = omega arith }))
-
-returns-2 : tie.Need-returns-2
-returns-2 c = search rules
-
-pub size-spec : {M : Type 1} → statement M
-size-spec = tie.close (tie.spec sub-y cast-result add-result returns cast-result-2 returns-2)

@@ -4,8 +4,7 @@ use lib.Ieee.Scale.{finite}
 use lib.Ieee.{nan_bits}
 use borrow.Author.Rules.{rules}
 use mathlib.Core.Path.{◌≡◌, refl, sym}
-use Rattle.finite_check.proofs.is_finite.Statement.{statement}
-use Rattle.finite_check.proofs.is_finite.Tie as tie
+use Rattle.finite_check.proofs.is_finite.Goals as goal
 
 -- below infinity, and above its negative
 between : (x : Float) → lt x (inf false) ≡ true → lt (inf true) x ≡ finite x
@@ -22,21 +21,18 @@ not_below_lem nan h = refl
 not_below_lem (inf s) h = refl
 not_below_lem (fin s m e) h = absurd (true≢false h)
 
-float-from-bits-if1 : tie.Need-float-from-bits-if1
+pub float_from_bits-t-2 : goal.float_from_bits-t-2
 unfolding nan_bits
-float-from-bits-if1 c = search rules
+float_from_bits-t-2 c = search rules
 
-float-from-bits-result : tie.Need-float-from-bits-result
+pub float_from_bits-result : goal.float_from_bits-result
 unfolding nan_bits
-float-from-bits-result c = search rules
+float_from_bits-result c = search rules
 
-returns : tie.Need-returns
+pub returns-then-x : goal.returns-then-x
 unfolding of_bits
-returns c = between _ c.if1.true
+returns-then-x c = between _ c.if-x.true
 
-returns-2 : tie.Need-returns-2
+pub returns : goal.returns
 unfolding of_bits
-returns-2 c = not_below_lem _ c.if1.false
-
-pub is-finite-spec : {M : Type 1} → statement M
-is-finite-spec = tie.close (tie.spec float-from-bits-if1 float-from-bits-result returns returns-2)
+returns c = not_below_lem _ c.if-x.false

@@ -1,0 +1,8 @@
+use Prim.Native.Nat.{◌-◌}
+use Rattle.least.proofs.negative_bit.Goals as goal
+
+pub returns-then-x : goal.returns-then-x
+returns-then-x c = rw c.if-x.true
+
+pub returns : goal.returns
+returns c = rw c.if-x.false

@@ -1,0 +1,23 @@
+use mathlib.Core.Bool.{Bool, ◌||◌, or-true, or-false}
+use mathlib.Core.List.{List}
+use mathlib.Core.Logic.{⊎_elim}
+use mathlib.Core.Path.{◌≡◌, ap, sym, ◌∙◌}
+use native.Mathlib.Omega.{arith}
+use Prim.Native.Nat.{ℕ, ◌≤◌, ◌-◌}
+use lib.IntN.{ℤ}
+use mir.Syntax.{w64}
+use mir.ValLaws.{to_z-of_z}
+use borrow.Author.Rules.{rules}
+use Rattle.lists.specs.Test.{any_in, any_in_none, any_in_next}
+use Rattle.columns.specs.WholeFactor.{whole_value}
+use Rattle.exact.specs.Checked.{beyond}
+use Rattle.whole_steps.proofs.whole_lists.beyond_between.Given as goal
+
+abbrev pub test : List ℤ → ℕ → Bool
+test wholes p = beyond (whole_value wholes p)
+
+abbrev pub invariant-loop-p : goal.invariant-loop-p
+invariant-loop-p l = (l.s ≤ l.p) × (l.p ≤ l.e) × (l.found ≡ any_in (test l.wholes) l.s l.p)
+
+abbrev pub decreases-loop-p : goal.decreases-loop-p
+decreases-loop-p l = l.e - l.p
