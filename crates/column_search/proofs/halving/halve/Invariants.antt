@@ -1,0 +1,20 @@
+use borrow.Author.Rules.{rules}
+use native.Mathlib.Omega.{arith}
+use Prim.Native.Nat.{ℕ, ◌≤◌, ◌<◌, ◌-◌, ◌+◌, ◌/◌}
+use mathlib.Core.Path.{◌≡◌, ap, sym, ◌∙◌}
+use mathlib.Core.List.{List}
+use mathlib.Core.Logic.{⊎_elim}
+use Rattle.columns.specs.Columns.{row}
+use Rattle.result.specs.Halving.{halving, halving_one, halving_up, halving-down}
+use Rattle.column_search.proofs.halving.halve.Given as goal
+
+-- the places left: some, within the ends, and halving them ends where halving all does
+abbrev pub Left : List ℕ → ℕ → ℕ → ℕ → ℕ → ℕ → ℕ → Type 0
+Left rows r s e base there size =
+    (s ≤ base) × (0 < size) × (base + size ≤ e) × (there ≡ row rows base) × (halving rows r base size ≡ halving rows r s (e - s))
+
+abbrev pub invariant-loop-size : goal.invariant-loop-size
+invariant-loop-size l = Left l.rows l.r l.s l.e l.base l.there l.size
+
+abbrev pub decreases-loop-size : goal.decreases-loop-size
+decreases-loop-size l = l.size

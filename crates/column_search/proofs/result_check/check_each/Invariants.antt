@@ -1,0 +1,14 @@
+use Prim.Native.Nat.{◌≤◌, ◌-◌}
+use native.Mathlib.Omega.{arith}
+use mathlib.Core.Path.{◌≡◌, ap, sym, ◌∙◌}
+use borrow.Author.Rules.{rules}
+use Rattle.refusal.specs.Steps.{each, Passed, each_none, each_more, each_refused}
+use Rattle.refusal.specs.Refusal.{reply_of}
+use Rattle.result.specs.Lookup.{dimension, column_faults}
+use Rattle.column_search.proofs.result_check.check_each.Given as goal
+
+abbrev pub invariant-loop-c : goal.invariant-loop-c
+invariant-loop-c l = (l.c ≤ l.n) × Passed (each (column_faults l.starts l.rows l.values) l.c)
+
+abbrev pub decreases-loop-c : goal.decreases-loop-c
+decreases-loop-c l = l.n - l.c

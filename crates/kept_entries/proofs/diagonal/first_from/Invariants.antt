@@ -1,0 +1,15 @@
+use borrow.Author.Tests.{lt-leb}
+use mathlib.Core.Bool.{false}
+use Rattle.columns.specs.Columns.{outside_at}
+use Rattle.lists.specs.Test.{any_in, any_in_none, any_in_more}
+use borrow.Author.Rules.{rules}
+use native.Mathlib.Omega.{arith}
+use Prim.Native.Nat.{◌≤◌, ◌-◌}
+use mathlib.Core.Path.{◌≡◌}
+use Rattle.kept_entries.proofs.diagonal.first_from.Given as goal
+
+abbrev pub invariant-loop-p : goal.invariant-loop-p
+invariant-loop-p l = (l.s ≤ l.p) × (l.p ≤ l.e) × (any_in (outside_at l.c l.rows) l.s l.p ≡ false)
+
+abbrev pub decreases-loop-p : goal.decreases-loop-p
+decreases-loop-p l = l.e - l.p

@@ -1,0 +1,22 @@
+use borrow.Author.Tests.{le-leb}
+use mathlib.Core.Bool.{Bool}
+use mathlib.Core.List.{List, []}
+use mathlib.Core.Path.{◌≡◌, sym, ◌∙◌}
+use native.Mathlib.Omega.{arith}
+use Prim.Native.Nat.{ℕ}
+use borrow.Author.Rules.{rules}
+use Rattle.lists.specs.Select.{select, select_none, select_join, select_gap, select_cong, tally}
+use Rattle.columns.specs.Kept.{kept}
+use Rattle.columns.specs.Factor.{Column, FirstFrom}
+use Rattle.columns.specs.Diagonal.{first_from_from, first_from_dropped}
+use Rattle.kept_entries.specs.KeptBy.{kept_at}
+use Rattle.kept_entries.proofs.kept_between.Goals as goal
+
+pub nonzero_between-requires : goal.nonzero_between-requires
+nonzero_between-requires c = let given = c.requires.1 in
+    let C = c.requires.0 in
+    let F = c.first_from-first.ensures in
+    (F.upto, record { by_floats = λ e. omega (arith, C.stored, given.by_floats e); by_wholes = λ h. omega (arith, C.stored, given.by_wholes h) })
+
+pub returns : goal.returns
+returns c = c.nonzero_between.ensures ∙ sym (kept_from c.requires.0 c.first_from-first.ensures (kept_at c.args.floats.now c.args.wholes.now))

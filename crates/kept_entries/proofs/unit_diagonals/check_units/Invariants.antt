@@ -1,0 +1,33 @@
+use Prim.Native.Nat.{ℕ, ◌+◌, ◌-◌, ◌≤◌}
+use native.Mathlib.Omega.{arith}
+use mathlib.Core.Path.{◌≡◌, sym, ap, subst, ◌∙◌}
+use mathlib.Core.Bool.{Bool, false, not, ◌||◌, or-true, or-false}
+use mathlib.Core.Logic.{⊎_elim}
+use mathlib.Core.List.{List}
+use lib.IntN.{ℤ}
+use mir.Syntax.{w64}
+use mir.Val.{to_z, of_z}
+use mir.ValLaws.{to_z-of_z}
+use borrow.Author.Rules.{rules}
+use Rattle.lists.specs.Test.{any, any_none, any_next, any_more, any-hit}
+use Rattle.refusal.specs.Steps.{first_hit, first_skip, first_end}
+use Rattle.columns.specs.Columns.{start}
+use Rattle.columns.specs.Factor.{factor_column}
+use Rattle.columns.specs.Diagonal.{no_diagonal}
+use Rattle.columns.specs.WholeFactor.{whole_nonzero, whole_one}
+use Rattle.columns.specs.UnitDiagonals.{other_diagonal, unit_steps, missing_steps}
+use Rattle.kept_entries.specs.DiagonalIs.{DiagonalIs}
+use Rattle.kept_entries.proofs.unit_diagonals.check_units.Given as goal
+
+-- column c has a kept diagonal other than 1, and has none
+abbrev pub other : List ℕ → List ℕ → List ℤ → ℕ → Bool
+other starts rows values = other_diagonal rows (whole_nonzero values) (whole_one values) starts
+
+abbrev pub none : List ℕ → List ℕ → List ℤ → ℕ → Bool
+none starts rows values = no_diagonal starts rows (whole_nonzero values)
+
+abbrev pub invariant-loop-c : goal.invariant-loop-c
+invariant-loop-c l = (l.c ≤ l.n) × (any (other l.starts l.rows l.values) l.c ≡ false) × (l.missing ≡ any (none l.starts l.rows l.values) l.c)
+
+abbrev pub decreases-loop-c : goal.decreases-loop-c
+decreases-loop-c l = l.n - l.c

@@ -1,0 +1,14 @@
+use Prim.Native.Nat.{◌-◌, ◌*◌, ◌≤◌}
+use native.Mathlib.Omega.{arith}
+use mathlib.Core.Path.{◌≡◌, sym}
+use borrow.Author.Rules.{rules}
+use Rattle.lists.specs.Select.{tally, tally_none}
+use Rattle.bits.specs.Bits.{bit_at}
+use Rattle.set_bits.proofs.CountLaws.{ones_more}
+use Rattle.set_bits.proofs.count.ones_between.Given as goal
+
+abbrev pub invariant-loop-w : goal.invariant-loop-w
+invariant-loop-w l = (l.first ≤ l.w) × (l.w ≤ l.end) × (l.count ≤ 32 * l.w) × (l.count ≡ tally (bit_at l.words) (l.first * 32) (l.w * 32))
+
+abbrev pub decreases-loop-w : goal.decreases-loop-w
+decreases-loop-w l = l.end - l.w

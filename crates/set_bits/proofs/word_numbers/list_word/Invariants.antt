@@ -1,0 +1,13 @@
+use Prim.Native.Nat.{◌<◌, ◌-◌}
+use native.Mathlib.Omega.{arith}
+use mathlib.Core.Path.{◌≡◌, refl, ◌∙◌}
+use lib.ListN.{length, length-set}
+use borrow.Author.Rules.{rules}
+use Rattle.set_bits.proofs.WordLaws.{WordPart, word_none, word_end, word_stop, word_room, word_more}
+use Rattle.set_bits.proofs.word_numbers.list_word.Given as goal
+
+abbrev pub invariant-loop-w : goal.invariant-loop-w
+invariant-loop-w l = (length l.list ≡ length l.initial.list) × WordPart l.word l.low l.end l.first l.initial.list l.w l.r l.list l.count
+
+abbrev pub decreases-loop-w : goal.decreases-loop-w
+decreases-loop-w l = l.end - l.r
