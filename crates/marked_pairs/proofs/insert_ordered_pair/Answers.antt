@@ -25,7 +25,7 @@ in_words-After-set_bit-arg-1 c =
 left : (c : goal.After-queue_start) → c.args.count < pair_total c.args.n
 left c =
     end_room c.args.n c.args.r c.args.c (omega arith) (omega arith) c.requires.1.small c.requires.0 c.requires.1.first c.requires.1.marked c.column_place-p.ensures
-    (sym c.bit.ensures ∙ c.if-bit.left)
+    (sym c.bit.ensures ∙ c.if-bit.false)
 
 -- src/lib.rt:41:8
 pub bit-requires : goal.bit-requires
@@ -62,4 +62,4 @@ returns c = let a = c.args in
     subst₂ (λ (w : List ℕ) (t : ℕ). Inserted a.n a.r a.c a.scratch.now a.count (set w (t + a.count) (packed a.r a.c)) (a.count + 1))
     (sym c.set_bit.ensures) (sym c.queue_start.ensures.0)
     (insert_new a.n a.r a.c (omega arith) (omega arith) c.requires.1.small c.requires.0 c.requires.1.first c.requires.1.marked c.column_place-p.ensures
-    (sym c.bit.ensures ∙ c.if-bit.left))
+    (sym c.bit.ensures ∙ c.if-bit.false))
