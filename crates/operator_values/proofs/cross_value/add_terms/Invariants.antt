@@ -1,0 +1,19 @@
+use Prim.Native.Nat.{ℕ, ◌≤◌, ◌<◌, ◌-◌}
+use native.Mathlib.Omega.{arith}
+use mathlib.Core.Path.{◌≡◌, ap, ap₂, sym, subst₂, ◌∙◌}
+use lib.ListN.{length, get_or}
+use lib.Ieee.{Float, binary64, nan, add, mul}
+use borrow.Author.Rules.{rules}
+use Rattle.pairs.specs.Positions.{inverse_at, inverse_at_ordered}
+use Rattle.columns.specs.Columns.{value}
+use Rattle.exact.specs.Exact.{floats}
+use Rattle.pair_places.specs.Position.{PairEntryInput, shift_fits}
+use Rattle.quadratic_form.specs.CrossValue.{with_terms, with_terms_none, with_terms_next}
+use Rattle.quadratic_form.specs.RowValue.{term_column}
+use Rattle.operator_values.proofs.cross_value.add_terms.Given as goal
+
+abbrev pub invariant-loop-b : goal.invariant-loop-b
+invariant-loop-b l = (l.t ≤ l.b) × (l.b ≤ l.f) × (l.sum ≡ with_terms floats (term_column l.a_columns) (term_column l.b_columns) (value l.a_weights) (value l.b_weights) (inverse_at nan l.n l.scratch l.result_values) l.t l.b l.a l.first)
+
+abbrev pub decreases-loop-b : goal.decreases-loop-b
+decreases-loop-b l = l.f - l.b

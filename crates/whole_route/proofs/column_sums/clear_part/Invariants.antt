@@ -1,0 +1,14 @@
+use Prim.Native.Nat.{ℕ, ◌≤◌, ◌-◌}
+use native.Mathlib.Omega.{arith}
+use mathlib.Core.Path.{◌≡◌, refl, subst}
+use lib.ListN.{length}
+use borrow.Author.Rules.{rules}
+use Rattle.whole_route.specs.ColumnSums.{PartCleared}
+use Rattle.whole_route.proofs.ColumnSumLaws.{part_none, part_more}
+use Rattle.whole_route.proofs.column_sums.clear_part.Given as goal
+
+abbrev pub invariant-loop-q : goal.invariant-loop-q
+invariant-loop-q l = (length l.work ≡ length l.initial.work) × (l.first ≤ l.q) × (l.q ≤ l.last) × PartCleared l.first l.q l.initial.work l.work
+
+abbrev pub decreases-loop-q : goal.decreases-loop-q
+decreases-loop-q l = l.last - l.q
