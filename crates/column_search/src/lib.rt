@@ -1,4 +1,6 @@
 // The place of a row in a column of a result and of a pair in the result, and how many places a search looks at.
+#![tactic(auto)]
+
 pub mod halving;
 pub mod order;
 pub mod pair_place;

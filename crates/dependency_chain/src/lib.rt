@@ -1,4 +1,6 @@
 // The chain from a requested pair to a pair of the closed set, each pair a dependency of the one before.
+#![tactic(auto)]
+
 ghost use Rattle.std.specs.Prelude.{◌≡◌, ◌≤◌, length};
 ghost use Rattle.refusal.specs.Bounds.{max_dimension};
 ghost use Rattle.refusal.specs.Steps.{verdict};

@@ -1,4 +1,6 @@
 // A floor under variances, after `stabilize_variances` of uncertainty.rs.
+#![tactic(auto)]
+
 pub mod floored;
 pub mod positive_mean;
 pub mod variance_floor;

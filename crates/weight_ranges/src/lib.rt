@@ -1,4 +1,6 @@
 // Bounds on the variance of a row whose weights are known within ranges, over a selected-inverse result of whole numbers.
+#![tactic(auto)]
+
 pub mod checks;
 pub mod range;
 pub mod sums;
