@@ -30,7 +30,7 @@ use verdicts::first_of;
 use words::order::{larger, smaller};
 use words::{at, clear};
 
-// How many pairs the chain has, 0 where the pair is not in the set; `chainReply` of specs/Reply.antt gives a refusal's number.
+// How many pairs the chain has, 0 where the pair is not in the set; `chain_reply` of specs/Reply.antt gives a refusal's number.
 #[derive(Clone, Copy)]
 pub enum ChainPairs {
     Pairs(usize),

@@ -33,7 +33,7 @@ impl SelectedInverseDiagnostics {
     }
 }
 
-// What a call that fills result lists answers; `selectedReplyOf` of specs/Selected.antt gives the number of a refusal.
+// What a call that fills result lists answers; `selected_reply_of` of specs/Selected.antt gives the number of a refusal.
 #[derive(Clone, Copy)]
 pub enum Selected {
     Answered(SelectedInverseDiagnostics),
