@@ -61,10 +61,10 @@ abbrev number-After-work-1 : goal.After-work-1 → ℤ
 number-After-work-1 t = t.in-Value.x
 
 fits-number-After-store_entry-arg-1 : (t : goal.After-store_entry-arg-1) → SFits w64 (number-After-store_entry-arg-1 t)
-fits-number-After-store_entry-arg-1 t = record { sfits = t.known_told-1.given.0.1 }
+fits-number-After-store_entry-arg-1 t = search rules
 
 fits-number-After-work-1 : (t : goal.After-work-1) → SFits w64 (number-After-work-1 t)
-fits-number-After-work-1 t = record { sfits = t.known_told-1.given.0.1 }
+fits-number-After-work-1 t = search rules
 
 number_small : (t : goal.After-store_entry-arg-1) → Small (number-After-store_entry-arg-1 t)
 number_small t =

@@ -112,12 +112,12 @@ product_is-After-plus_product c = (λ i. value-is-After-plus_product c i *ℤ en
 total_is-After-whole_at-then-is_nonzero-2 : (c : goal.After-whole_at-then-is_nonzero-2) →
     to_z w64 (of_z w64 c.args.total) +ℤ to_z w64 (of_z w64 c.whole_at-then-is_nonzero.result) *ℤ to_z w64 (of_z w64 c.whole_at-then-is_nonzero-2.result) ≡ c.args.total +ℤ product-After-whole_at-then-is_nonzero-2 c
 total_is-After-whole_at-then-is_nonzero-2 c =
-    (λ i. to_z-of_z w64 c.args.total c.fits.total i +ℤ product_is-After-whole_at-then-is_nonzero-2 c i)
+    (λ i. to_z-of_z w64 c.args.total c.ranges.total i +ℤ product_is-After-whole_at-then-is_nonzero-2 c i)
 
 total_is-After-plus_product : (c : goal.After-plus_product) →
     to_z w64 (of_z w64 c.args.total) +ℤ to_z w64 (of_z w64 c.whole_at-then-is_nonzero.result) *ℤ to_z w64 (of_z w64 c.whole_at-then-is_nonzero-2.result) ≡ c.args.total +ℤ product-After-plus_product c
 total_is-After-plus_product c =
-    (λ i. to_z-of_z w64 c.args.total c.fits.total i +ℤ product_is-After-plus_product c i)
+    (λ i. to_z-of_z w64 c.args.total c.ranges.total i +ℤ product_is-After-plus_product c i)
 
 pub whole_at-requires : goal.whole_at-requires
 whole_at-requires c = c.requires.weighed
@@ -145,5 +145,5 @@ returns-then-is_nonzero c = to_z-of_z w64 c.plus_product.result (record { sfits 
 
 pub returns : goal.returns
 returns c = let a = c.args in
-    to_z-of_z w64 a.total c.fits.total
+    to_z-of_z w64 a.total c.ranges.total
     ∙ zero_term a.base a.rows.now a.values.now a.scratch.now a.work.now a.p a.total (tells-Else-is_nonzero c ∙ c.if-is_nonzero.false)

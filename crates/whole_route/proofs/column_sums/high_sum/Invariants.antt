@@ -10,7 +10,7 @@ use Rattle.whole_route.proofs.ColumnSumLaws.{sum_from_none, high_term_input, hig
 use Rattle.whole_route.proofs.column_sums.high_sum.Given as goal
 
 abbrev pub invariant-loop-p : goal.invariant-loop-p
-invariant-loop-p l = (l.f ≤ l.p) × (l.p ≤ l.e) × (to_z w64 l.total ≡ sum_from (word_term l.base l.rows l.values l.scratch l.work) l.f l.p)
+invariant-loop-p l = (l.f ≤ l.p) × (l.p ≤ l.e) × (l.total ≡ sum_from (word_term l.base l.rows l.values l.scratch l.work) l.f l.p)
 
 abbrev pub decreases-loop-p : goal.decreases-loop-p
 decreases-loop-p l = l.e - l.p

@@ -19,7 +19,7 @@ pub returns-then-sums_fit : goal.returns-then-sums_fit
 returns-then-sums_fit c = summed c.requires.rows_input c.requires.most_from (fit-After-work-1 c) c.store_sums.ensures
 
 pub shape_of-work-then-sums_fit : goal.shape_of-work-then-sums_fit
-shape_of-work-then-sums_fit c = (returns c).long
+shape_of-work-then-sums_fit c = (returns-then-sums_fit c).long
 
 pub returns : goal.returns
 returns c = unsummed c.requires.rows_input

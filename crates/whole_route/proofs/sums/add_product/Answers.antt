@@ -19,10 +19,10 @@ use Rattle.whole_route.specs.Number.{number_reply, SmallNumber, sum_reply}
 use Rattle.whole_route.proofs.sums.add_product.Goals as goal
 
 fits_sum-After-product : (b : goal.After-product) → SFits w64 b.in-Value.s
-fits_sum-After-product b = record { sfits = b.known_told-1.given.0.1 }
+fits_sum-After-product b = search rules
 
 fits_sum-After-add_within : (b : goal.After-add_within) → SFits w64 b.in-Value.s
-fits_sum-After-add_within b = record { sfits = b.known_told-1.given.0.1 }
+fits_sum-After-add_within b = search rules
 
 sum_is-Then-product_beyond : (b : goal.Then-product_beyond) → number_reply b.args.sum ≡ answered b.in-Value.s
 sum_is-Then-product_beyond b = ap number_reply b.in-Value.is
@@ -37,16 +37,16 @@ sum_is-After-add_within b = ap number_reply b.in-Value.is
 told-Then-product_beyond : (b : goal.Then-product_beyond) → beyond (b.args.l *ℤ b.args.z) ≡ b.product_beyond.result
 told-Then-product_beyond b =
     ap (ltb (2 ^ 53)) (nat_abs_* b.args.l b.args.z
-    ∙ sym (ap₂ ◌*◌ (b.size.ensures ∙ ap nat_abs (to_z-of_z w64 b.args.l b.fits.l))
-    (b.size-in-Value.ensures ∙ ap nat_abs (to_z-of_z w64 b.args.z b.fits.z))))
+    ∙ sym (ap₂ ◌*◌ (b.size.ensures ∙ ap nat_abs (to_z-of_z w64 b.args.l b.ranges.l))
+    (b.size-in-Value.ensures ∙ ap nat_abs (to_z-of_z w64 b.args.z b.ranges.z))))
     ∙ sym b.product_beyond.ensures
 
 -- whether the product is beyond
 told-After-add_within : (b : goal.After-add_within) → beyond (b.args.l *ℤ b.args.z) ≡ b.product_beyond.result
 told-After-add_within b =
     ap (ltb (2 ^ 53)) (nat_abs_* b.args.l b.args.z
-    ∙ sym (ap₂ ◌*◌ (b.size.ensures ∙ ap nat_abs (to_z-of_z w64 b.args.l b.fits.l))
-    (b.size-in-Value.ensures ∙ ap nat_abs (to_z-of_z w64 b.args.z b.fits.z))))
+    ∙ sym (ap₂ ◌*◌ (b.size.ensures ∙ ap nat_abs (to_z-of_z w64 b.args.l b.ranges.l))
+    (b.size-in-Value.ensures ∙ ap nat_abs (to_z-of_z w64 b.args.z b.ranges.z))))
     ∙ sym b.product_beyond.ensures
 
 -- the sum's reply, by that
@@ -82,7 +82,7 @@ within-After-product c =
 product_is : (p : goal.After-add_within) → to_z w64 (of_z w64 p.product.result) ≡ p.args.l *ℤ p.args.z
 product_is p =
     to_z-of_z w64 p.product.result (record { sfits = p.product.type_inv }) ∙ p.product.ensures
-    ∙ (λ i. to_z-of_z w64 p.args.l p.fits.l i *ℤ to_z-of_z w64 p.args.z p.fits.z i)
+    ∙ (λ i. to_z-of_z w64 p.args.l p.ranges.l i *ℤ to_z-of_z w64 p.args.z p.ranges.z i)
 
 pub returns-then-product_beyond : goal.returns-then-product_beyond
 returns-then-product_beyond c = sym (by-Then-product_beyond c _ c.if-product_beyond.true)
