@@ -1,6 +1,6 @@
 use borrow.Author.Rules.{rules}
-use Rattle.redstartgilt.proofs.chains.redstartgilt_dependency_chain.Statement.{statement}
-use Rattle.redstartgilt.proofs.chains.redstartgilt_dependency_chain.Tie as tie
+use Rattle.redstartgilt.proofs.dependency_chains.redstartgilt_dependency_chain.Statement.{statement}
+use Rattle.redstartgilt.proofs.dependency_chains.redstartgilt_dependency_chain.Tie as tie
 
 dependency-chain-requires : tie.Need-dependency-chain-requires
 dependency-chain-requires c κs = search rules
