@@ -20,7 +20,8 @@ pub returns-then-leads : goal.returns-then-leads
 returns-then-leads c = let a = c.args in
     let desc = pattern a.starts.now a.rows.now (nonzero a.values.now) in
     let W = level_word a.n a.scratch.now in
-    back_above desc W a.level a.r a.c c.loop-j.j c.loop-j.invariant.0 c.loop-j.invariant.1 (sym c.leads.ensures ∙ c.if-leads.true)
+    let told = back_above desc W a.level a.r a.c c.loop-j.j c.loop-j.invariant.0 c.loop-j.invariant.1 (sym c.leads.ensures ∙ c.if-leads.true) in
+    record { row_value = told.0; column_value = told.1 }
 
 pub leads-requires-in-loop-j : goal.leads-requires-in-loop-j
 leads-requires-in-loop-j c = let B = c.requires in
@@ -30,7 +31,8 @@ pub returns-then-leads-2 : goal.returns-then-leads-2
 returns-then-leads-2 c = let a = c.args in
     let desc = pattern a.starts.now a.rows.now (nonzero a.values.now) in
     let W = level_word a.n a.scratch.now in
-    back_beside desc W a.level a.r a.c c.loop-j.j c.loop-j.invariant.0 c.loop-j.invariant.1 (sym c.leads.ensures ∙ c.if-leads.false) (sym c.leads-in-loop-j.ensures ∙ c.if-leads-2.true)
+    let told = back_beside desc W a.level a.r a.c c.loop-j.j c.loop-j.invariant.0 c.loop-j.invariant.1 (sym c.leads.ensures ∙ c.if-leads.false) (sym c.leads-in-loop-j.ensures ∙ c.if-leads-2.true) in
+    record { row_value = told.0; column_value = told.1 }
 
 pub loop-j-preserved : goal.loop-j-preserved
 loop-j-preserved c = let a = c.args in
@@ -48,11 +50,13 @@ returns-then-leads-3 c = let a = c.args in
     let desc = pattern a.starts.now a.rows.now (nonzero a.values.now) in
     let W = level_word a.n a.scratch.now in
     let e : c.loop-j.j ≡ a.c = omega (arith, c.loop-j-test.false, c.loop-j.invariant.0) in
-    back_above desc W a.level a.r a.c a.c (omega arith) (subst (λ (k : ℕ). any (either desc W a.level a.r a.c) k ≡ false) e c.loop-j.invariant.1) (sym c.leads-2.ensures ∙ c.if-leads-3.true)
+    let told = back_above desc W a.level a.r a.c a.c (omega arith) (subst (λ (k : ℕ). any (either desc W a.level a.r a.c) k ≡ false) e c.loop-j.invariant.1) (sym c.leads-2.ensures ∙ c.if-leads-3.true) in
+    record { row_value = told.0; column_value = told.1 }
 
 pub returns : goal.returns
 returns c = let a = c.args in
     let desc = pattern a.starts.now a.rows.now (nonzero a.values.now) in
     let W = level_word a.n a.scratch.now in
     let e : c.loop-j.j ≡ a.c = omega (arith, c.loop-j-test.false, c.loop-j.invariant.0) in
-    back_none desc W a.level a.r a.c (subst (λ (k : ℕ). any (either desc W a.level a.r a.c) k ≡ false) e c.loop-j.invariant.1) (sym c.leads-2.ensures ∙ c.if-leads-3.false)
+    let told = back_none desc W a.level a.r a.c (subst (λ (k : ℕ). any (either desc W a.level a.r a.c) k ≡ false) e c.loop-j.invariant.1) (sym c.leads-2.ensures ∙ c.if-leads-3.false) in
+    record { row_value = told.0; column_value = told.1 }
