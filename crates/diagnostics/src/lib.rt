@@ -1,4 +1,6 @@
 // The diagnosis of a selected inverse, after `SelectedInverseDiagnostics` of uncertainty.rs.
+#![tactic(auto)]
+
 ghost use Rattle.std.specs.Prelude.{◌≡◌, ◌≤◌};
 ghost use Rattle.diagnostics.specs.Diagnosis.{complete_of, max_count, ratio_of, diagnosis};
 

@@ -1,18 +1,11 @@
-use Prim.Native.Nat.{ℕ, ◌≤◌, ◌<◌, ◌-◌}
-use native.Mathlib.Omega.{arith}
-use mathlib.Core.Path.{◌≡◌, refl, ap, ap₂, sym, subst₂, ◌∙◌}
-use mathlib.Core.List.{List}
-use lib.ListN.{length, set, length-set}
-use lib.Ieee.{Float, nan}
-use borrow.Author.Rules.{rules}
-use Rattle.lists.specs.Overwrite.{filled, filled_none, filled_more}
+use Prim.Native.Nat.{◌≤◌, ◌-◌}
+use mathlib.Core.Path.{◌≡◌}
+use lib.ListN.{length}
+use lib.Ieee.{nan}
+use Rattle.lists.specs.Overwrite.{filled}
 use Rattle.pairs.specs.Positions.{inverse_at}
-use Rattle.columns.specs.Columns.{value}
 use Rattle.columns.specs.Operator.{operator_rows}
-use Rattle.exact.specs.Exact.{floats}
-use Rattle.quadratic_form.specs.RowValue.{row_value, term_column, operator_value, operator_values}
-use Rattle.operator_values.specs.Reading.{CrossValueInput}
-use Rattle.operator_values.proofs.ReadingLaws.{row_reading}
+use Rattle.quadratic_form.specs.RowValue.{operator_value}
 use Rattle.operator_values.proofs.operator_values.Given as goal
 
 abbrev pub invariant-loop-i : goal.invariant-loop-i

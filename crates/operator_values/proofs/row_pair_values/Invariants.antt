@@ -1,15 +1,11 @@
-use Prim.Native.Nat.{ℕ, ◌+◌, ◌≤◌, ◌<◌, ◌-◌}
-use native.Mathlib.Omega.{arith}
-use mathlib.Core.Path.{◌≡◌, refl, ap, ap₂, ◌∙◌}
+use Prim.Native.Nat.{ℕ, ◌≤◌, ◌-◌}
+use mathlib.Core.Path.{◌≡◌}
 use mathlib.Core.List.{List}
-use lib.ListN.{length, get_or, set, length-set}
+use lib.ListN.{length, get_or}
 use lib.Ieee.{Float, nan}
-use Rattle.lists.specs.Overwrite.{filled, filled_none, filled_more}
+use Rattle.lists.specs.Overwrite.{filled}
 use Rattle.pairs.specs.Positions.{inverse_at}
-use Rattle.columns.specs.Columns as columns
-use Rattle.quadratic_form.specs.RowValue.{row_pair_value, row_pair_values}
-use Rattle.operator_values.specs.Reading.{CrossValueInput}
-use Rattle.operator_values.proofs.ReadingLaws.{pair_reading}
+use Rattle.quadratic_form.specs.RowValue.{row_pair_value}
 use Rattle.operator_values.proofs.row_pair_values.Given as goal
 
 -- the value of row pair p

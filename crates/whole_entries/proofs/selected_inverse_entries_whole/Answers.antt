@@ -1,7 +1,6 @@
 use Rattle.selection.specs.Selection.{default_limit}
 use Rattle.whole_selection.specs.Call.{WholeCall, WholeLent, whole_call, whole_lent}
 use Rattle.whole_entries.proofs.ReplyLaws.{entries_refused, too_many}
-use borrow.Author.Rules.{rules}
 use Rattle.whole_entries.proofs.selected_inverse_entries_whole.Goals as goal
 
 -- the call and the lists that it is lent

@@ -3,7 +3,6 @@ use Rattle.refusal.specs.Steps.{Passed}
 use Rattle.refusal.specs.Refusal.{reply_of}
 use Rattle.whole_selection.specs.Call.{WholeCall, WholeLent, whole_call, whole_lent, whole_room_of, check_steps}
 use Rattle.whole_entries.proofs.ReplyLaws.{entries_refused}
-use borrow.Author.Rules.{rules}
 use Rattle.whole_entries.proofs.selected_inverse_entries_whole_with_limit.Goals as goal
 
 -- the call and the lists that it is lent

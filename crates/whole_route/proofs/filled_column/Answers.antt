@@ -1,5 +1,4 @@
 use native.Mathlib.Omega.{arith}
-use borrow.Author.Rules.{rules}
 use Rattle.whole_route.proofs.ColumnLaws.{column_empty}
 use Rattle.whole_route.proofs.filled_column.Goals as goal
 

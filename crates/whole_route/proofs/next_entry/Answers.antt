@@ -1,4 +1,3 @@
-use borrow.Author.Rules.{rules}
 use Rattle.whole_route.proofs.next_entry.Goals as goal
 
 pub summed_entry-requires : goal.summed_entry-requires

@@ -5,7 +5,6 @@ use lib.IntN.{ℤ, pos}
 use mir.Syntax.{w64}
 use mir.Val.{to_z, of_z}
 use mir.ValLaws.{to_z-of_z}
-use borrow.Author.Rules.{rules}
 use Rattle.exact.specs.Multiple.{Small}
 use Rattle.exact.specs.Checked.{beyond}
 use Rattle.entries.specs.WholeTable.{whole_table}

@@ -1,7 +1,6 @@
 use native.Mathlib.Omega.{arith}
 use mathlib.Core.Path.{ap, ◌∙◌}
 use lib.ListN.{length}
-use borrow.Author.Rules.{rules}
 use Rattle.lists.specs.Overwrite.{splice-length}
 use Rattle.pairs.specs.Pair.{pair_total_small}
 use Rattle.pairs.specs.ColumnOrder.{col_start_mono, col_start_total}

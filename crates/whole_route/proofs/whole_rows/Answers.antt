@@ -1,12 +1,11 @@
 use mathlib.Core.Path.{subst}
 use Rattle.whole_route.specs.Route.{EntryInput}
 use Rattle.whole_route.proofs.RowsLaws.{RowsLeft, rows_none, row_input, row_sum_lem, row_exceeds, row_stored, rows_done, done_same, place_small}
-use borrow.Author.Rules.{rules}
 use native.Mathlib.Omega.{arith}
-use Prim.Native.Nat.{ℕ, ◌≤◌, ◌<◌, ◌-◌, ◌+◌}
+use Prim.Native.Nat.{ℕ, ◌<◌, ◌-◌, ◌+◌}
 use mathlib.Core.Path.{◌≡◌, refl, sym}
 use mathlib.Core.Bool.{true}
-use lib.ListN.{length, get_or}
+use lib.ListN.{get_or}
 use lib.IntN.{pos}
 use Rattle.refusal.specs.Steps.{answered}
 use Rattle.whole_route.specs.Sums.{whole_inverse_at, whole_sum}

@@ -1,15 +1,9 @@
-use mathlib.Core.Path.{subst}
-use mathlib.Core.Bool.{true}
 use Rattle.pairs.specs.ColumnOrder.{column_marking, set_size}
 use Rattle.entries.specs.Entries.{column_count}
-use Rattle.entries.specs.Position.{column_count_mono}
 use Rattle.whole_route.specs.ColumnSums.{MostFrom}
-use Rattle.whole_route.specs.Route.{RouteDone}
-use Rattle.whole_route.proofs.ColumnLaws.{ColumnsLeft, columns_none, column_input, column_exceeds_lem, column_solved, most_more, columns_done, rows_same}
-use borrow.Author.Rules.{rules}
-use native.Mathlib.Omega.{arith}
-use Prim.Native.Nat.{ℕ, ◌≤◌, ◌<◌, ◌-◌, ◌+◌}
-use mathlib.Core.Path.{◌≡◌, refl, ap, ◌∙◌}
+use Rattle.whole_route.proofs.ColumnLaws.{ColumnsLeft}
+use Prim.Native.Nat.{◌≤◌, ◌-◌}
+use mathlib.Core.Path.{◌≡◌}
 use lib.ListN.{length}
 use Rattle.whole_route.proofs.whole_selected_inverse.Given as goal
 

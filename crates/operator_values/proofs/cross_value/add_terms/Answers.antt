@@ -1,9 +1,8 @@
-use Prim.Native.Nat.{ℕ, ◌≤◌, ◌<◌, ◌-◌}
+use Prim.Native.Nat.{ℕ, ◌<◌, ◌-◌}
 use native.Mathlib.Omega.{arith}
 use mathlib.Core.Path.{◌≡◌, ap, ap₂, sym, subst₂, ◌∙◌}
 use lib.ListN.{length, get_or}
 use lib.Ieee.{Float, binary64, nan, add, mul}
-use borrow.Author.Rules.{rules}
 use Rattle.pairs.specs.Positions.{inverse_at, inverse_at_ordered}
 use Rattle.columns.specs.Columns.{value}
 use Rattle.exact.specs.Exact.{floats}

@@ -1,14 +1,11 @@
-use Prim.Native.Nat.{ℕ, ◌≤◌, ◌-◌}
-use native.Mathlib.Omega.{arith}
-use mathlib.Core.Path.{◌≡◌, ap, sym, ◌∙◌}
-use lib.Ieee.{Float, nan}
-use borrow.Author.Rules.{rules}
+use Prim.Native.Nat.{◌≤◌, ◌-◌}
+use mathlib.Core.Path.{◌≡◌}
+use lib.Ieee.{nan}
 use Rattle.pairs.specs.Positions.{inverse_at}
 use Rattle.columns.specs.Columns.{value}
 use Rattle.exact.specs.Exact.{floats}
-use Rattle.quadratic_form.specs.CrossValue.{with_terms, sum_before, sum_before_start, sum_before_next}
+use Rattle.quadratic_form.specs.CrossValue.{sum_before}
 use Rattle.quadratic_form.specs.RowValue.{term_column}
-use Rattle.operator_values.proofs.ReadingLaws.{one_place}
 use Rattle.operator_values.proofs.cross_value.cross_value.Given as goal
 
 abbrev pub invariant-loop-a : goal.invariant-loop-a

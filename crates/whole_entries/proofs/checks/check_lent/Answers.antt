@@ -8,7 +8,6 @@ use Rattle.refusal.specs.Refusal.{reply_of}
 use Rattle.columns.specs.Columns.{factor_lists}
 use Rattle.selection.specs.Selection.{room, room_steps}
 use Rattle.whole_selection.specs.Call.{work_steps, diagonal_checks}
-use borrow.Author.Rules.{rules}
 use Rattle.whole_entries.proofs.checks.check_lent.Goals as goal
 
 -- the work list's step

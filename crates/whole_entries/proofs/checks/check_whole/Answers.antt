@@ -9,7 +9,6 @@ use Rattle.columns.specs.Factor.{bound_steps-sound, column_steps-sound}
 use Rattle.selection.specs.Selection.{room, room_steps}
 use Rattle.selection.specs.RequestSteps.{request_bound_steps, request_steps}
 use Rattle.whole_selection.specs.Call.{work_steps, diagonal_checks, check_steps}
-use borrow.Author.Rules.{rules}
 use Rattle.whole_entries.proofs.checks.check_whole.Goals as goal
 
 -- the groups of steps

@@ -1,6 +1,5 @@
 use Rattle.whole_selection.specs.Call.{WholeLent, whole_lent}
 use Rattle.whole_entries.proofs.SetLaws.{complete_exceeds, complete_layout, complete_reached, complete_count, complete_done}
-use borrow.Author.Rules.{rules}
 use Rattle.whole_entries.proofs.filling.fill_complete.Goals as goal
 
 -- the lists that it is lent

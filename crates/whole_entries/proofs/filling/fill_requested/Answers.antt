@@ -6,7 +6,6 @@ use Rattle.pairs.specs.Scratch.{scratch_words_room}
 use Rattle.closure.specs.Covered.{unlisted}
 use Rattle.whole_selection.specs.Call.{WholeCall, WholeLent, whole_call, whole_lent}
 use Rattle.whole_entries.proofs.ReplyLaws.{fill_closure, fill_kept, fill_set, fill_exceeds, fill_done, fill_large}
-use borrow.Author.Rules.{rules}
 use Rattle.whole_entries.proofs.filling.fill_requested.Goals as goal
 
 -- the call and the lists that it is lent

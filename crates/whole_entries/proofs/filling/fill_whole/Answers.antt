@@ -4,7 +4,6 @@ use mathlib.Core.Path.{◌≡◌, ap, ◌∙◌}
 use Rattle.whole_selection.specs.Call.{WholeCall, WholeLent, whole_call, whole_lent, whole_room_of, work_places}
 use Rattle.whole_selection.specs.Accepted.{WholeAccepted, whole_accepted}
 use Rattle.whole_entries.proofs.ReplyLaws.{uncleared_entries}
-use borrow.Author.Rules.{rules}
 use Rattle.whole_entries.proofs.filling.fill_whole.Goals as goal
 
 -- the call and the lists that it is lent

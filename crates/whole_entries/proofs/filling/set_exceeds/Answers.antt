@@ -7,7 +7,6 @@ use Rattle.lists.specs.Test.{any}
 use Rattle.refusal.specs.Bounds.{max_dimension}
 use Rattle.entries.specs.WholeTable.{kept_exceeds}
 use Rattle.whole_entries.proofs.SetLaws.{set_kept, set_firsts, set_count, set_route, set_done}
-use borrow.Author.Rules.{rules}
 use Rattle.whole_entries.proofs.filling.set_exceeds.Goals as goal
 
 -- no kept entry exceeds

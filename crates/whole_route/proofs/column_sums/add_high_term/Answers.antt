@@ -13,7 +13,6 @@ use Rattle.columns.specs.WholeFactor.{not_zero, whole_value, whole_nonzero}
 use Rattle.exact.specs.Multiple.{Small}
 use Rattle.whole_route.specs.ColumnSums.{word_term}
 use Rattle.whole_route.proofs.ColumnSumLaws.{zero_term}
-use Rattle.std.specs.Prelude.{not}
 use Rattle.whole_route.proofs.column_sums.add_high_term.Goals as goal
 
 abbrev product-After-whole_at-then-is_nonzero-2 : goal.After-whole_at-then-is_nonzero-2 → ℤ

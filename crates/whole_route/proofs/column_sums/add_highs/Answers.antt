@@ -1,10 +1,8 @@
-use Prim.Native.Nat.{ℕ, ◌≤◌, ◌-◌}
+use Prim.Native.Nat.{ℕ, ◌-◌}
 use native.Mathlib.Omega.{arith}
 use mathlib.Core.Path.{◌≡◌, refl, subst}
-use lib.ListN.{length}
-use borrow.Author.Rules.{rules}
 use Rattle.whole_route.specs.ColumnSums.{ColumnSums, column_sums, HighsAdded}
-use Rattle.whole_route.proofs.ColumnSumLaws.{RowsUpTo, highs_none, high_input, highs_more, up_to_more}
+use Rattle.whole_route.proofs.ColumnSumLaws.{highs_none, high_input, highs_more, up_to_more}
 use Rattle.whole_route.proofs.column_sums.add_highs.Goals as goal
 
 abbrev column-After-shared_slice_known-3-1 : goal.After-shared_slice_known-3-1 → ColumnSums

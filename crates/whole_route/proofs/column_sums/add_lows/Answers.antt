@@ -1,10 +1,8 @@
-use Prim.Native.Nat.{ℕ, ◌≤◌, ◌-◌}
+use Prim.Native.Nat.{ℕ, ◌-◌}
 use native.Mathlib.Omega.{arith}
 use mathlib.Core.Path.{◌≡◌, refl, subst}
-use lib.ListN.{length}
-use borrow.Author.Rules.{rules}
 use Rattle.whole_route.specs.ColumnSums.{ColumnSums, column_sums, LowAdded}
-use Rattle.whole_route.proofs.ColumnSumLaws.{RowsBefore, lows_none, stored_input, lows_more, before_more}
+use Rattle.whole_route.proofs.ColumnSumLaws.{lows_none, stored_input, lows_more, before_more}
 use Rattle.whole_route.proofs.column_sums.add_lows.Goals as goal
 
 abbrev column : goal.After-loop-p → ColumnSums

@@ -1,10 +1,8 @@
-use Prim.Native.Nat.{ℕ, ◌≤◌, ◌-◌}
-use native.Mathlib.Omega.{arith}
-use mathlib.Core.Path.{◌≡◌, refl, subst}
+use Prim.Native.Nat.{◌≤◌, ◌-◌}
+use mathlib.Core.Path.{◌≡◌}
 use lib.ListN.{length}
-use borrow.Author.Rules.{rules}
-use Rattle.whole_route.specs.ColumnSums.{ColumnSums, column_sums, LowAdded}
-use Rattle.whole_route.proofs.ColumnSumLaws.{RowsBefore, lows_none, stored_input, lows_more, before_more}
+use Rattle.whole_route.specs.ColumnSums.{column_sums, LowAdded}
+use Rattle.whole_route.proofs.ColumnSumLaws.{RowsBefore}
 use Rattle.whole_route.proofs.column_sums.add_lows.Given as goal
 
 abbrev pub invariant-loop-p : goal.invariant-loop-p

@@ -7,7 +7,6 @@ use lib.IntN.{ℤ}
 use mir.Syntax.{w64}
 use mir.Val.{to_z, of_z}
 use mir.ValLaws.{to_z-of_z}
-use borrow.Author.Rules.{rules}
 use borrow.Author.Tests.{lt-ltb}
 use Rattle.lists.specs.Test.{and_both}
 use Rattle.pairs.specs.Scratch.{queue_start}
@@ -17,7 +16,6 @@ use Rattle.columns.specs.Factor.{FirstFrom}
 use Rattle.columns.specs.WholeFactor.{not_zero, whole_value, whole_nonzero}
 use Rattle.whole_route.specs.ColumnSums.{ColumnSums, column_sums, entry_counts, AddWholeRowsInput}
 use Rattle.whole_route.proofs.ColumnSumLaws.{stored_none, above_none, zero_none, stored_rows, stored_added}
-use Rattle.std.specs.Prelude.{not}
 use Rattle.whole_route.proofs.column_sums.add_stored.Goals as goal
 
 abbrev column-After-add_rows-arg-1 : goal.After-add_rows-arg-1 → ColumnSums

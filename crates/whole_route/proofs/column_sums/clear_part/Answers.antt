@@ -1,7 +1,6 @@
-use Prim.Native.Nat.{ℕ, ◌≤◌, ◌-◌}
+use Prim.Native.Nat.{ℕ, ◌-◌}
 use native.Mathlib.Omega.{arith}
 use mathlib.Core.Path.{◌≡◌, refl, subst}
-use lib.ListN.{length}
 use borrow.Author.Rules.{rules}
 use Rattle.whole_route.specs.ColumnSums.{PartCleared}
 use Rattle.whole_route.proofs.ColumnSumLaws.{part_none, part_more}

@@ -1,10 +1,7 @@
-use Prim.Native.Nat.{ℕ, ◌≤◌, ◌-◌}
-use native.Mathlib.Omega.{arith}
-use mathlib.Core.Path.{◌≡◌, refl, subst}
+use Prim.Native.Nat.{◌≤◌, ◌-◌}
+use mathlib.Core.Path.{◌≡◌}
 use lib.ListN.{length}
-use borrow.Author.Rules.{rules}
 use Rattle.whole_route.specs.ColumnSums.{PartCleared}
-use Rattle.whole_route.proofs.ColumnSumLaws.{part_none, part_more}
 use Rattle.whole_route.proofs.column_sums.clear_part.Given as goal
 
 abbrev pub invariant-loop-q : goal.invariant-loop-q

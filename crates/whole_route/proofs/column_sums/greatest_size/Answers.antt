@@ -1,10 +1,9 @@
-use Prim.Native.Nat.{ℕ, ◌≤◌, ◌-◌}
+use Prim.Native.Nat.{ℕ, ◌-◌}
 use native.Mathlib.Omega.{arith}
 use mathlib.Core.Path.{◌≡◌, ap, subst, ◌∙◌}
 use lib.IntN.{nat_abs}
 use mir.Syntax.{w64}
 use mir.ValLaws.{to_z-of_z}
-use borrow.Author.Rules.{rules}
 use Rattle.whole_route.specs.ColumnSums.{SizesWithin}
 use Rattle.whole_route.proofs.FitLaws.{sizes_none, sizes_more}
 use Rattle.whole_route.proofs.column_sums.greatest_size.Goals as goal

@@ -1,12 +1,5 @@
-use Prim.Native.Nat.{ℕ, ◌≤◌, ◌-◌}
-use native.Mathlib.Omega.{arith}
-use mathlib.Core.Path.{◌≡◌, ap, subst, ◌∙◌}
-use lib.IntN.{nat_abs}
-use mir.Syntax.{w64}
-use mir.ValLaws.{to_z-of_z}
-use borrow.Author.Rules.{rules}
+use Prim.Native.Nat.{◌≤◌, ◌-◌}
 use Rattle.whole_route.specs.ColumnSums.{SizesWithin}
-use Rattle.whole_route.proofs.FitLaws.{sizes_none, sizes_more}
 use Rattle.whole_route.proofs.column_sums.greatest_size.Given as goal
 
 abbrev pub invariant-loop-p : goal.invariant-loop-p

@@ -8,7 +8,6 @@ use lib.IntN.{ℤ, pos}
 use mir.Syntax.{w64}
 use mir.Val.{to_z, of_z}
 use mir.ValLaws.{to_z-of_z}
-use borrow.Author.Rules.{rules}
 use borrow.Author.Tests.{lt-ltb}
 use Rattle.lists.specs.Test.{and_both}
 use Rattle.columns.specs.Columns.{row}
@@ -20,7 +19,6 @@ use Rattle.columns.specs.WholeFactor.{not_zero, whole_value, whole_nonzero}
 use Rattle.whole_route.specs.Number.{number_reply}
 use Rattle.whole_route.specs.Sums.{whole_inverse_at}
 use Rattle.whole_route.proofs.SumLaws.{entry_above, entry_zero, entry_kept}
-use Rattle.std.specs.Prelude.{not}
 use Rattle.whole_route.proofs.sums.add_entry.Goals as goal
 
 abbrev inverse-row-Then-k-j : goal.Then-k-j → ℕ → ℤ

@@ -6,7 +6,6 @@ use lib.IntN.{ℤ, ◌+ℤ◌}
 use mir.Syntax.{w64}
 use mir.Val.{to_z, of_z}
 use mir.ValLaws.{to_z-of_z}
-use borrow.Author.Rules.{rules}
 use Rattle.refusal.specs.Steps.{refused, answered}
 use Rattle.integers.specs.Size.{size_sum}
 use Rattle.exact.specs.Checked.{beyond}

@@ -1,8 +1,7 @@
-use Prim.Native.Nat.{◌≤◌, ◌-◌}
+use Prim.Native.Nat.{◌-◌}
 use native.Mathlib.Omega.{arith}
 use mathlib.Core.Path.{◌≡◌, sym, ap, subst, ◌∙◌}
 use lib.IntN.{ℤ}
-use borrow.Author.Rules.{rules}
 use Rattle.refusal.specs.Steps.{Reply}
 use Rattle.pair_places.specs.Position.{shift_fits}
 use Rattle.whole_route.specs.Number.{number_reply, SmallNumber}

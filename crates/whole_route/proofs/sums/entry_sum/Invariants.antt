@@ -1,13 +1,7 @@
 use Prim.Native.Nat.{◌≤◌, ◌-◌}
-use native.Mathlib.Omega.{arith}
-use mathlib.Core.Path.{◌≡◌, sym, ap, subst, ◌∙◌}
-use lib.IntN.{ℤ}
-use borrow.Author.Rules.{rules}
-use Rattle.refusal.specs.Steps.{Reply}
-use Rattle.pair_places.specs.Position.{shift_fits}
+use mathlib.Core.Path.{◌≡◌}
 use Rattle.whole_route.specs.Number.{number_reply, SmallNumber}
-use Rattle.whole_route.specs.Sums.{whole_inverse_at, with_entry, whole_sum}
-use Rattle.whole_route.proofs.SumLaws.{sum_none, sum_next, entry_small, term_input}
+use Rattle.whole_route.specs.Sums.{whole_inverse_at, whole_sum}
 use Rattle.whole_route.proofs.sums.entry_sum.Given as goal
 
 abbrev pub invariant-loop-p : goal.invariant-loop-p
