@@ -95,6 +95,12 @@ no_zero n (suc a) c e g p v w =
 
 -- values that fit, of one sign and one size, are the same
 unique : (x y : Float) (s : Bool) (a c : ℕ) → 0 < c → T (fits binary64 x) → T (fits binary64 y) → HasValue x s a c → HasValue y s a c → x ≡ y
+unique nan y s a c h p q v w = elim v [ ]
+unique (inf _) y s a c h p q v w = elim v [ ]
+unique (fin t zero e) nan s a c h p q v w = elim w [ ]
+unique (fin t zero e) (inf _) s a c h p q v w = elim w [ ]
+unique (fin t (suc m) e) nan s a c h p q v w = elim w [ ]
+unique (fin t (suc m) e) (inf _) s a c h p q v w = elim w [ ]
 unique (fin t zero e) (fin u zero g) s a c h p q v w = λ i. fin ((v.0 ∙ sym w.0) i) zero ((zero_exp t e p ∙ sym (zero_exp u g q)) i)
 unique (fin t zero e) (fin u (suc n) g) s a c h p q v w = absurd (no_zero n a c e g h v.1 w.1)
 unique (fin t (suc m) e) (fin u zero g) s a c h p q v w = absurd (no_zero m a c g e h w.1 v.1)
@@ -165,6 +171,12 @@ unlike_false false = refl
 -- a quotient of a value that fits by 1 is that value
 pub div-one : (x d : Float) → T (fits binary64 x) → Whole d (pos 1) → div binary64 x d ≡ x
 unfolding div
+div-one nan nan t w = elim w [ ]
+div-one nan (inf _) t w = elim w [ ]
+div-one (inf s) nan t w = elim w [ ]
+div-one (inf s) (inf _) t w = elim w [ ]
+div-one (fin s m e) nan t w = elim w [ ]
+div-one (fin s m e) (inf _) t w = elim w [ ]
 div-one nan (fin u n g) t w = refl
 div-one (inf s) (fin u n g) t w = ap inf (ap (unlike s) (one_parts u n g w).0 ∙ unlike_false s)
 div-one (fin s m e) (fin u n g) t w = go (eqb n 0) refl

@@ -1,6 +1,6 @@
 -- F2 of document 01 with pivots of 1, its diagonals kept and not, the request (0, 0) and limit 3: what the laws of a reply ask is met, and what they then give.
 -- Assumes nothing.
-use Rattle.std.specs.Prelude.{◌≡◌, refl, true, false, List, [], ◌∷◌, ℕ, ◌<◌, pos, negsuc, take, Float}
+use Rattle.std.specs.Prelude.{◌≡◌, refl, true, false, List, [], ◌∷◌, map, ℕ, ◌<◌, pos, negsuc, take, Float}
 use Rattle.std.proofs.Common.{sym, ap, ◌∙◌, lit≤, lit<}
 use Rattle.std.specs.Float.{binary64, fin}
 use Rattle.std.specs.Float.Ieee.{of_bits, of_int, ne, eq, le, add, sub, mul, div, neg, fits}
@@ -15,7 +15,7 @@ use Rattle.bits.specs.Bits.{bit_words}
 use Rattle.pairs.specs.Pair.{pair_total}
 use Rattle.pairs.specs.Scratch.{scratch_words}
 use Rattle.columns.specs.Columns.{value, bound_steps, broken_steps, starts_steps, rows_steps, column_steps}
-use Rattle.columns.specs.Kept.{nonzero, desc, pattern}
+use Rattle.columns.specs.Kept.{nonzero, entry, desc_places, desc, pattern}
 use Rattle.columns.specs.Stored.{finite_steps, stored_steps}
 use Rattle.columns.specs.Form.{pivoted, pattern_pairs}
 use Rattle.columns.specs.Pivots.{float_one, pivot_list_steps, pivot_steps}
@@ -190,13 +190,35 @@ either_family =
     (families_same 2 2 3 (0 ∷ []) (0 ∷ []) f2_starts f2_rows f2_values f2_pivots f2_starts f2_rows f2_values (λ c h. refl) f2_lent f2_lent
     ldl_is_passed f2_passed replied f2_left).starts_same complete
 
+-- the one descendant of column 0, which is stored at 0 and at 1
+bare_place : desc_places (0 ∷ 1 ∷ 1 ∷ []) (1 ∷ []) (nonzero (whole 2 ∷ [])) 0 ≡ 0 ∷ []
+unfolding select picked of_bits of_int ne
+bare_place = refl
+
+f2_place : desc_places f2_starts f2_rows (nonzero f2_values) 0 ≡ 1 ∷ []
+unfolding select picked of_bits of_int ne
+f2_place = refl
+
+bare_none : desc_places (0 ∷ 1 ∷ 1 ∷ []) (1 ∷ []) (nonzero (whole 2 ∷ [])) 1 ≡ []
+unfolding select picked of_bits of_int ne
+bare_none = refl
+
+f2_none : desc_places f2_starts f2_rows (nonzero f2_values) 1 ≡ []
+unfolding select picked of_bits of_int ne
+f2_none = refl
+
+bare_pivots : (j : ℕ) → j < 2 → Whole (value f2_pivots j) (pos 1)
+unfolding of_int
+bare_pivots = columns₂ (λ j. Whole (value f2_pivots j) (pos 1)) refl refl
+
 -- `ones_same`: with its diagonals not kept and pivots of 1, F2 has the bits that it has with L * Lᵀ
 bare-ones : OnesBeside 2 (0 ∷ 1 ∷ 1 ∷ []) (1 ∷ []) (whole 2 ∷ []) f2_pivots f2_starts f2_rows f2_values
-unfolding select picked of_bits of_int ne
 bare-ones = record {
-  pivots_one = columns₂ (λ j. Whole (value f2_pivots j) (pos 1)) refl refl;
+  pivots_one = bare_pivots;
   diagonals_one = f2_diagonals;
-  entries_same = columns₂ (λ j. desc (0 ∷ 1 ∷ 1 ∷ []) (1 ∷ []) (whole 2 ∷ []) j ≡ desc f2_starts f2_rows f2_values j) refl refl;
+  entries_same = columns₂ (λ j. desc (0 ∷ 1 ∷ 1 ∷ []) (1 ∷ []) (whole 2 ∷ []) j ≡ desc f2_starts f2_rows f2_values j)
+      (ap (map (entry (1 ∷ []) (whole 2 ∷ []))) bare_place ∙ sym (ap (map (entry f2_rows f2_values)) f2_place))
+      (ap (map (entry (1 ∷ []) (whole 2 ∷ []))) bare_none ∙ sym (ap (map (entry f2_rows f2_values)) f2_none));
 }
 
 bare-bits : pivot_table 2 (0 ∷ 1 ∷ 1 ∷ []) (1 ∷ []) (whole 2 ∷ []) f2_pivots 1 0 ≡ float_table 2 f2_starts f2_rows f2_values 1 0

@@ -69,21 +69,21 @@ passed-After-first_of : (t : goal.After-first_of) → Passed (one-After-first_of
 passed-After-first_of t = sym t.check_factor.ensures ∙ ap reply_of t.in-Accepted.is
 
 pub check_order-order-requires : goal.check_order-order-requires
-check_order-order-requires c =     (factor_steps_bounded _ (passed-In-Accepted c)).small
+check_order-order-requires c = (factor_steps_bounded _ (passed-In-Accepted c)).small
 
 pub default_limit-requires : goal.default_limit-requires
 default_limit-requires c = (factor_steps_bounded _ (passed-After-check_order-order c)).few
 
 pub check_fill-fill-requires : goal.check_fill-fill-requires
-check_fill-fill-requires c =     let p = passed-After-default_limit c in
+check_fill-fill-requires c = let p = passed-After-default_limit c in
     ((factor_steps_bounded _ p).small, factor_steps-sound _ p)
 
 pub returns-in-Refused : goal.returns-in-Refused
 unfolding original_steps
-returns-in-Refused c =     sym (append-refused (one-In-Refused c) (two-In-Refused c ++ (three-In-Refused c ++ four-In-Refused c)) _ tt (sym c.check_factor.ensures ∙ ap reply_of c.in-Refused.is))
+returns-in-Refused c = sym (append-refused (one-In-Refused c) (two-In-Refused c ++ (three-In-Refused c ++ four-In-Refused c)) _ tt (sym c.check_factor.ensures ∙ ap reply_of c.in-Refused.is))
 
 pub returns-in-Accepted : goal.returns-in-Accepted
 unfolding original_steps
-returns-in-Accepted c =     verdicts (two-After-first_of c) (three-After-first_of c ++ four-After-first_of c) c.first_of.ensures c.check_order-order.ensures
+returns-in-Accepted c = verdicts (two-After-first_of c) (three-After-first_of c ++ four-After-first_of c) c.first_of.ensures c.check_order-order.ensures
     (verdicts (three-After-first_of c) (four-After-first_of c) c.first_of-later.ensures (rw c.default_limit.ensures at c.check_fill-fill.ensures) c.check_output.ensures)
     ∙ sym (append_passed (one-After-first_of c) (two-After-first_of c ++ (three-After-first_of c ++ four-After-first_of c)) tt (passed-After-first_of c))

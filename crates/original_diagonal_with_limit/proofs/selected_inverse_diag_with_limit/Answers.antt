@@ -106,15 +106,15 @@ ready-After-slice_known-in-Complete-1 : (t : goal.After-slice_known-in-Complete-
 ready-After-slice_known-in-Complete-1 t = original_accepted (handed-After-slice_known-in-Complete-1 t) (room_of (lent-After-slice_known-in-Complete-1 t)) (length (out-After-slice_known-in-Complete-1 t)) (passed-After-slice_known-in-Complete-1 t)
 
 pub mark_diagonals-requested_pairs-requires : goal.mark_diagonals-requested_pairs-requires
-mark_diagonals-requested_pairs-requires c =     let A = (ready-After-mark_diagonals-arg-1 c).accepted in
+mark_diagonals-requested_pairs-requires c = let A = (ready-After-mark_diagonals-arg-1 c).accepted in
     record { small = A.small; room = scratch_words_room _ A.scratch_room }
 
 pub fill_entries-diagnosis-requires : goal.fill_entries-diagnosis-requires
-fill_entries-diagnosis-requires c =     let l = lent-After-fill_entries-arg-in-Accepted-3-1 c in
+fill_entries-diagnosis-requires c = let l = lent-After-fill_entries-arg-in-Accepted-3-1 c in
     marked_input l.result_starts l.result_rows l.result_values (ready-After-fill_entries-arg-in-Accepted-3-1 c).accepted c.mark_diagonals-requested_pairs.ensures
 
 pub write_original-requires : goal.write_original-requires
-write_original-requires c =     let l = lent-After-write_original-arg-1 c in
+write_original-requires c = let l = lent-After-write_original-arg-1 c in
     let A = (ready-After-write_original-arg-1 c).accepted in
     let M = c.mark_diagonals-requested_pairs.ensures in
     let filled = c.fill_entries-diagnosis.ensures in
@@ -126,10 +126,10 @@ write_original-requires c =     let l = lent-After-write_original-arg-1 c in
     ∙ c.in-Complete.is))
 
 pub returns-in-Refused : goal.returns-in-Refused
-returns-in-Refused c =     original_refused (handed-In-Refused c) (lent-In-Refused c) (out-In-Refused c) (sym c.check_original.ensures ∙ ap reply_of c.in-Refused.is)
+returns-in-Refused c = original_refused (handed-In-Refused c) (lent-In-Refused c) (out-In-Refused c) (sym c.check_original.ensures ∙ ap reply_of c.in-Refused.is)
 
 pub returns-in-ClosureTooLarge : goal.returns-in-ClosureTooLarge
-returns-in-ClosureTooLarge c =     let l = lent-In-ClosureTooLarge c in
+returns-in-ClosureTooLarge c = let l = lent-In-ClosureTooLarge c in
     let A = (ready-In-ClosureTooLarge c).accepted in
     let M = c.mark_diagonals-requested_pairs.ensures in
     let filled = c.fill_entries-diagnosis.ensures in
@@ -140,7 +140,7 @@ returns-in-ClosureTooLarge c =     let l = lent-In-ClosureTooLarge c in
     ∙ c.in-ClosureTooLarge.is))
 
 pub returns-in-Complete : goal.returns-in-Complete
-returns-in-Complete c =     let l = lent-After-slice_known-in-Complete-1 c in
+returns-in-Complete c = let l = lent-After-slice_known-in-Complete-1 c in
     let A = (ready-After-slice_known-in-Complete-1 c).accepted in
     let M = c.mark_diagonals-requested_pairs.ensures in
     let filled = c.fill_entries-diagnosis.ensures in

@@ -9,7 +9,7 @@ use Rattle.columns.specs.Operator.{operator_bound_steps}
 use Rattle.covariances.proofs.checks.check_all_bounds.Goals as goal
 
 pub returns : goal.returns
-returns c =     let a = c.args in
+returns c = let a = c.args in
     let firsts : List Step = operator_bound_steps a.a_row_starts.now a.a_columns.now in
     let seconds : List Step = operator_bound_steps a.b_row_starts.now a.b_columns.now in
     let counts : List Step = (1, ltb max_entries a.pairs) ∷ [] in

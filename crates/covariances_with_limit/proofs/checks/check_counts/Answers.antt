@@ -11,13 +11,13 @@ pub returns-then-b_ncols-n : goal.returns-then-b_ncols-n
 returns-then-b_ncols-n c = sym (first_skip _ _ _ (ap not (eq-eqb _ _ c.if-a_ncols-n.false)) (first_hit _ _ _ (ap not (ne_eqb _ _ c.if-b_ncols-n.true))))
 
 pub returns-then-a_rows-b_rows : goal.returns-then-a_rows-b_rows
-returns-then-a_rows-b_rows c =     sym
+returns-then-a_rows-b_rows c = sym
     (first_skip _ _ _ (ap not (eq-eqb _ _ c.if-a_ncols-n.false))
     (first_skip _ _ _ (ap not (eq-eqb _ _ c.if-b_ncols-n.false))
     (first_hit _ _ _ (ap not (ne_eqb _ _ c.if-a_rows-b_rows.true)))))
 
 pub returns : goal.returns
-returns c =     sym
+returns c = sym
     (first_skip _ _ _ (ap not (eq-eqb _ _ c.if-a_ncols-n.false))
     (first_skip _ _ _ (ap not (eq-eqb _ _ c.if-b_ncols-n.false))
     (first_skip _ _ _ (ap not (eq-eqb _ _ c.if-a_rows-b_rows.false))

@@ -136,21 +136,21 @@ entered-After-first_of : (t : goal.After-first_of) → Passed (entries-After-fir
 entered-After-first_of t = sym t.check_stored.ensures ∙ ap reply_of t.in-Accepted-check_stored.is
 
 pub check_fill-fill-requires : goal.check_fill-fill-requires
-check_fill-fill-requires c =     ((bounded c).small, stored_steps-sound _ (entered-After-check_operators-operators c))
+check_fill-fill-requires c = ((bounded c).small, stored_steps-sound _ (entered-After-check_operators-operators c))
 
 pub returns-in-Refused : goal.returns-in-Refused
 unfolding covariance_steps
-returns-in-Refused c =     sym (append-refused (bounds-In-Refused c) (entries-In-Refused c ++ later-In-Refused c) _ tt (sym c.check_all_bounds.ensures ∙ ap reply_of c.in-Refused.is))
+returns-in-Refused c = sym (append-refused (bounds-In-Refused c) (entries-In-Refused c ++ later-In-Refused c) _ tt (sym c.check_all_bounds.ensures ∙ ap reply_of c.in-Refused.is))
 
 pub returns-in-Refused-check_stored : goal.returns-in-Refused-check_stored
 unfolding covariance_steps
-returns-in-Refused-check_stored c =     sym
+returns-in-Refused-check_stored c = sym
     (append_passed (bounds-In-Refused-check_stored c) (entries-In-Refused-check_stored c ++ later-In-Refused-check_stored c) tt (within-In-Refused-check_stored c)
     ∙ append-refused (entries-In-Refused-check_stored c) (later-In-Refused-check_stored c) _ tt (sym c.check_stored.ensures ∙ ap reply_of c.in-Refused-check_stored.is))
 
 pub returns-in-Accepted-check_stored : goal.returns-in-Accepted-check_stored
 unfolding covariance_steps
-returns-in-Accepted-check_stored c =     verdicts (count_steps (handed-After-first_of c)) (operators_steps (handed-After-first_of c) ++ (fill-After-first_of c ++ output-After-first_of c)) c.first_of.ensures c.check_counts-counts.ensures
+returns-in-Accepted-check_stored c = verdicts (count_steps (handed-After-first_of c)) (operators_steps (handed-After-first_of c) ++ (fill-After-first_of c ++ output-After-first_of c)) c.first_of.ensures c.check_counts-counts.ensures
     (verdicts (operators_steps (handed-After-first_of c)) (fill-After-first_of c ++ output-After-first_of c) c.first_of-later.ensures c.check_operators-operators.ensures
     (verdicts (fill-After-first_of c) (output-After-first_of c) c.first_of-last.ensures c.check_fill-fill.ensures c.check_output.ensures))
     ∙ sym
