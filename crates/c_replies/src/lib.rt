@@ -1,4 +1,6 @@
 // Answers as structs of numbers, laid out as in C: the number of a refusal, 0 for none, beside what the call tells, 0 where it is refused.
+#![tactic(auto)]
+
 ghost use Rattle.std.specs.Prelude.{◌≡◌};
 ghost use Rattle.diagnostics.specs.Selected.{selected_reply_of};
 ghost use Rattle.lookup.specs.Reply.{entry_reply, whole_reply};

@@ -2,26 +2,12 @@ use native.Mathlib.Omega.{arith}
 use Prim.Native.Nat.{ℕ}
 use mathlib.Core.Path.{◌≡◌, refl, ap, ap₂, sym, ◌∙◌}
 use lib.ListN.{length}
-use lib.IntN.{ℤ, ◌+ℤ◌}
+use lib.IntN.{◌+ℤ◌}
 use Rattle.integers.specs.Size.{size_more, size_is}
 use Rattle.integers.specs.Sum.{Σℤ, sum_next}
 use Rattle.weight_ranges.specs.Ranges.{least_term_of, greatest_term_of}
 use Rattle.weight_ranges.specs.Sizes.{term_sizes, least_sum_size, greatest_sum_size}
 use Rattle.weight_ranges.proofs.sums.place_bounds.Goals as goal
-
--- the terms
-abbrev least-After-plus_range-total : goal.After-plus_range-total → ℕ → ℤ
-least-After-plus_range-total st = let s = st.args in least_term_of s.starts.now s.rows.now s.values.now s.columns.now s.lows.now s.highs.now s.a
-
--- the terms
-abbrev least-After-loop-b : goal.After-loop-b → ℕ → ℤ
-least-After-loop-b st = let s = st.args in least_term_of s.starts.now s.rows.now s.values.now s.columns.now s.lows.now s.highs.now s.a
-
-abbrev greatest-After-plus_range-total : goal.After-plus_range-total → ℕ → ℤ
-greatest-After-plus_range-total st = let s = st.args in greatest_term_of s.starts.now s.rows.now s.values.now s.columns.now s.lows.now s.highs.now s.a
-
-abbrev greatest-After-loop-b : goal.After-loop-b → ℕ → ℤ
-greatest-After-loop-b st = let s = st.args in greatest_term_of s.starts.now s.rows.now s.values.now s.columns.now s.lows.now s.highs.now s.a
 
 pub loop-b-init : goal.loop-b-init
 loop-b-init c = (omega arith, refl, refl)
@@ -43,13 +29,19 @@ plus_range-total-requires c = let l = c.loop-b in
     )
 
 pub loop-b-preserved : goal.loop-b-preserved
-loop-b-preserved c = let l = c.loop-b in (
-  omega (arith, c.loop-b-test.true),
-  c.plus_range-total.ensures.low_value ∙ ap₂ ◌+ℤ◌ l.invariant.1 c.term_range.ensures.low_value ∙ sym (sum_next (least-After-plus_range-total c) l.b),
-  c.plus_range-total.ensures.high_value ∙ ap₂ ◌+ℤ◌ l.invariant.2 c.term_range.ensures.high_value ∙ sym (sum_next (greatest-After-plus_range-total c) l.b),
-)
+loop-b-preserved c =
+    let least = least_term_of c.args.starts.now c.args.rows.now c.args.values.now c.args.columns.now c.args.lows.now c.args.highs.now c.args.a in
+    let greatest = greatest_term_of c.args.starts.now c.args.rows.now c.args.values.now c.args.columns.now c.args.lows.now c.args.highs.now c.args.a in
+    let l = c.loop-b in (
+      omega (arith, c.loop-b-test.true),
+      c.plus_range-total.ensures.low_value ∙ ap₂ ◌+ℤ◌ l.invariant.1 c.term_range.ensures.low_value ∙ sym (sum_next least l.b),
+      c.plus_range-total.ensures.high_value ∙ ap₂ ◌+ℤ◌ l.invariant.2 c.term_range.ensures.high_value ∙ sym (sum_next greatest l.b),
+    )
 
 pub returns : goal.returns
-returns c = let l = c.loop-b in
+returns c =
+    let least = least_term_of c.args.starts.now c.args.rows.now c.args.values.now c.args.columns.now c.args.lows.now c.args.highs.now c.args.a in
+    let greatest = greatest_term_of c.args.starts.now c.args.rows.now c.args.values.now c.args.columns.now c.args.lows.now c.args.highs.now c.args.a in
+    let l = c.loop-b in
     let e : l.b ≡ length c.args.columns.now = omega (arith, c.loop-b-test.false, l.invariant.0) in
-    record { low_value = l.invariant.1 ∙ ap (λ (k : ℕ). Σℤ k (least-After-loop-b c)) e; high_value = l.invariant.2 ∙ ap (λ (k : ℕ). Σℤ k (greatest-After-loop-b c)) e }
+    record { low_value = l.invariant.1 ∙ ap (λ (k : ℕ). Σℤ k least) e; high_value = l.invariant.2 ∙ ap (λ (k : ℕ). Σℤ k greatest) e }

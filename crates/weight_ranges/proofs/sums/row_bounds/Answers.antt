@@ -3,26 +3,12 @@ use native.Mathlib.Nat.{le_refl}
 use Prim.Native.Nat.{ℕ}
 use mathlib.Core.Path.{◌≡◌, refl, ap, ap₂, sym, ◌∙◌}
 use lib.ListN.{length}
-use lib.IntN.{ℤ, ◌+ℤ◌}
+use lib.IntN.{◌+ℤ◌}
 use Rattle.integers.specs.Size.{size_more, size_is}
 use Rattle.integers.specs.Sum.{Σℤ, sum_next}
 use Rattle.weight_ranges.specs.Ranges.{least_term_of, greatest_term_of}
 use Rattle.weight_ranges.specs.Sizes.{least_sum_size, greatest_sum_size, least_sums_size, greatest_sums_size}
 use Rattle.weight_ranges.proofs.sums.row_bounds.Goals as goal
-
--- the terms
-abbrev least-After-plus_range-total : goal.After-plus_range-total → ℕ → ℤ
-least-After-plus_range-total st = let s = st.args in λ i. Σℤ (length s.columns.now) (least_term_of s.starts.now s.rows.now s.values.now s.columns.now s.lows.now s.highs.now i)
-
--- the terms
-abbrev least-After-loop-a : goal.After-loop-a → ℕ → ℤ
-least-After-loop-a st = let s = st.args in λ i. Σℤ (length s.columns.now) (least_term_of s.starts.now s.rows.now s.values.now s.columns.now s.lows.now s.highs.now i)
-
-abbrev greatest-After-plus_range-total : goal.After-plus_range-total → ℕ → ℤ
-greatest-After-plus_range-total st = let s = st.args in λ i. Σℤ (length s.columns.now) (greatest_term_of s.starts.now s.rows.now s.values.now s.columns.now s.lows.now s.highs.now i)
-
-abbrev greatest-After-loop-a : goal.After-loop-a → ℕ → ℤ
-greatest-After-loop-a st = let s = st.args in λ i. Σℤ (length s.columns.now) (greatest_term_of s.starts.now s.rows.now s.values.now s.columns.now s.lows.now s.highs.now i)
 
 pub loop-a-init : goal.loop-a-init
 loop-a-init c = (omega arith, refl, refl)
@@ -43,13 +29,19 @@ plus_range-total-requires c = let l = c.loop-a in
     )
 
 pub loop-a-preserved : goal.loop-a-preserved
-loop-a-preserved c = let l = c.loop-a in (
-  omega (arith, c.loop-a-test.true),
-  c.plus_range-total.ensures.low_value ∙ ap₂ ◌+ℤ◌ l.invariant.1 c.place_bounds.ensures.low_value ∙ sym (sum_next (least-After-plus_range-total c) l.a),
-  c.plus_range-total.ensures.high_value ∙ ap₂ ◌+ℤ◌ l.invariant.2 c.place_bounds.ensures.high_value ∙ sym (sum_next (greatest-After-plus_range-total c) l.a),
-)
+loop-a-preserved c =
+    let least = λ (i : ℕ). Σℤ (length c.args.columns.now) (least_term_of c.args.starts.now c.args.rows.now c.args.values.now c.args.columns.now c.args.lows.now c.args.highs.now i) in
+    let greatest = λ (i : ℕ). Σℤ (length c.args.columns.now) (greatest_term_of c.args.starts.now c.args.rows.now c.args.values.now c.args.columns.now c.args.lows.now c.args.highs.now i) in
+    let l = c.loop-a in (
+      omega (arith, c.loop-a-test.true),
+      c.plus_range-total.ensures.low_value ∙ ap₂ ◌+ℤ◌ l.invariant.1 c.place_bounds.ensures.low_value ∙ sym (sum_next least l.a),
+      c.plus_range-total.ensures.high_value ∙ ap₂ ◌+ℤ◌ l.invariant.2 c.place_bounds.ensures.high_value ∙ sym (sum_next greatest l.a),
+    )
 
 pub returns : goal.returns
-returns c = let l = c.loop-a in
+returns c =
+    let least = λ (i : ℕ). Σℤ (length c.args.columns.now) (least_term_of c.args.starts.now c.args.rows.now c.args.values.now c.args.columns.now c.args.lows.now c.args.highs.now i) in
+    let greatest = λ (i : ℕ). Σℤ (length c.args.columns.now) (greatest_term_of c.args.starts.now c.args.rows.now c.args.values.now c.args.columns.now c.args.lows.now c.args.highs.now i) in
+    let l = c.loop-a in
     let e : l.a ≡ length c.args.columns.now = omega (arith, c.loop-a-test.false, l.invariant.0) in
-    record { low_value = l.invariant.1 ∙ ap (λ (k : ℕ). Σℤ k (least-After-loop-a c)) e; high_value = l.invariant.2 ∙ ap (λ (k : ℕ). Σℤ k (greatest-After-loop-a c)) e }
+    record { low_value = l.invariant.1 ∙ ap (λ (k : ℕ). Σℤ k least) e; high_value = l.invariant.2 ∙ ap (λ (k : ℕ). Σℤ k greatest) e }
