@@ -1,0 +1,34 @@
+use Prim.Native.Nat.{min, ℕ, ◌≤◌, ◌<◌, ◌-◌}
+use Rattle.case_text.specs.Items.{past_items, byte_at}
+use Rattle.case_text.proofs.ItemLaws.{past_items_none, past_items_more, filled-step}
+use Rattle.case_text.specs.Text.{past_blanks, past_word, number_at}
+use Rattle.lists.specs.Overwrite.{filled, filled_none}
+use borrow.Author.Rules.{rules}
+use lib.ListN.{length-set, length}
+use mathlib.Core.Bool.{cond}
+use mathlib.Core.Path.{◌≡◌, refl, ap, ◌∙◌}
+use native.Mathlib.Omega.{arith}
+use Rattle.case_text.proofs.items.put_bytes.Goals as goal
+
+pub loop-i-init : goal.loop-i-init
+loop-i-init c = (search rules, refl, past_items_none _ _, filled_none _ _)
+
+pub loop-i-preserved : goal.loop-i-preserved
+loop-i-preserved c = let a = c.args in
+    let at = c.loop-i in
+    let text = a.text.now in
+    let room : at.i < length a.list.now = omega arith in
+    let q = c.skip_blanks-q.ensures ∙ ap (past_blanks text) at.invariant.2 in
+    let x : c.narrow_byte.result ≡ byte_at a.hex text a.p at.i =
+    c.narrow_byte.ensures ∙ ap (λ (k : ℕ). min k 255) (c.number_of.ensures ∙ ap (number_at (cond a.hex 16 10) text) q) in (
+      omega arith,
+      length-set at.list at.i c.narrow_byte.result ∙ at.invariant.1,
+      c.skip_word-q.ensures ∙ ap (past_word text) q ∙ past_items_more _ _ _,
+      filled-step _ _ _ _ _ room x at.invariant.3,
+    )
+
+pub returns : goal.returns
+returns c = let a = c.args in
+    let at = c.loop-i in
+    let e : at.i ≡ a.count = omega arith in
+    at.invariant.3 ∙ ap (λ (k : ℕ). filled (byte_at a.hex a.text.now a.p) k a.list.now) e

@@ -1,0 +1,20 @@
+use Prim.Native.Nat.{◌-◌}
+use Rattle.case_text.specs.Text.{past_blanks}
+use Rattle.case_text.proofs.TextLaws.{past_run_end, past_run_stop, past_run_more}
+use borrow.Author.Rules.{rules}
+use borrow.Author.Tests.{le-leb, lt-leb}
+use lib.ListN.{length}
+use mathlib.Core.Path.{◌≡◌, refl, sym, ◌∙◌}
+use Rattle.case_text.proofs.skip_blanks.Goals as goal
+
+pub loop-i-init : goal.loop-i-init
+loop-i-init c = refl
+
+pub returns-then-text-i-gt32 : goal.returns-then-text-i-gt32
+returns-then-text-i-gt32 c = sym (c.loop-i.invariant ∙ past_run_stop _ _ _ (lt-leb _ _ c.if-text-i-gt32.true))
+
+pub loop-i-preserved : goal.loop-i-preserved
+loop-i-preserved c = c.loop-i.invariant ∙ past_run_more _ _ _ (search rules) (le-leb _ _ c.if-text-i-gt32.false)
+
+pub returns : goal.returns
+returns c = sym (c.loop-i.invariant ∙ past_run_end _ _ _ (search rules))
