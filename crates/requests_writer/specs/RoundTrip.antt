@@ -64,7 +64,7 @@ module _ (n : ℕ) (rows columns : List ℕ) (Q : Requests n rows columns) (belo
         ap (λ (j : ℕ). set_size n (requested_to rows columns j)) e,
         set_size_cong n (requested_to rows columns (k + 1)) (λ r c. requested_to rows columns k r c || step r c) (λ r c _ _. any_next _ k),
         size_either n (requested_to rows columns k) step,
-        size_ordered n (get_or rows k 0) (get_or columns k 0) (below k l) (Q.rows_Inside k l),
+        size_ordered n (get_or rows k 0) (get_or columns k 0) (below k l) (Q.rows_inside k l),
         few_to k (omega arith),
       )
 
@@ -82,7 +82,7 @@ module _ (n : ℕ) (rows columns : List ℕ) (Q : Requests n rows columns) (belo
       let w : min a b ≡ b = omega arith in
       omega (
         arith,
-        size_ordered n a b low (Q.rows_Inside 0 l),
+        size_ordered n a b low (Q.rows_inside 0 l),
         set_size_le n (ordered a b) (requested rows columns)
             (λ r c _ _ e. let o = ordered_is a b r c e in ap₂ (requested rows columns) o.0 o.1 ∙ requested_at rows columns 0 l),
       )

@@ -12,6 +12,15 @@ use Rattle.columns.specs.Diagonal.{first_from_from, first_from_dropped}
 use Rattle.kept_entries.specs.KeptBy.{kept_at}
 use Rattle.kept_entries.proofs.kept_between.Goals as goal
 
+module _ {c : ℕ} {rows : List ℕ} {count s e p : ℕ} (C : Column rows count s e) (F : FirstFrom c rows s e p) (nz : ℕ → Bool) where
+  -- the kept entries are those from the first place from row c on that are not 0
+  kept_from : tally (kept rows nz c) s e ≡ tally nz p e
+  kept_from =
+      let gap = select_gap (kept rows nz c) s s p (omega arith) F.from (first_from_dropped C F nz) in
+      let a : select (kept rows nz c) s p ≡ [] = gap ∙ select_none (kept rows nz c) s in
+      let b = select_cong (kept rows nz c) nz p e (λ k lo hi. rw (le-leb _ _ (first_from_from C F k lo hi))) in
+      rw (select_join (kept rows nz c) s p e F.from F.upto, a, b)
+
 pub nonzero_between-requires : goal.nonzero_between-requires
 nonzero_between-requires c = let given = c.requires.1 in
     let C = c.requires.0 in

@@ -57,7 +57,7 @@ overflow_add-count-in-loop-c c = omega (arith, bound c, end c, c.requires.starts
 
 pub loop-c-preserved : goal.loop-c-preserved
 loop-c-preserved c = let i = c.loop-c in
-    (search rules, bound c, rw pattern_pairs_next (ap₂ ◌+◌ i.inv.2 (ap (λ (k : ℕ). 1 + k) (counted c))))
+    (search rules, bound c, rw pattern_pairs_next (ap₂ ◌+◌ i.invariant.2 (ap (λ (k : ℕ). 1 + k) (counted c))))
 
 pub returns : goal.returns
 returns c = let i = c.loop-c in

@@ -70,7 +70,7 @@ loop-c-preserved c = let a = c.args in
     let told = ap not ((here-Joined-not-is_nonzero c).kept ∙ sym c.is_nonzero.ensures) in (
       search rules,
       any_more _ _ c.loop-c.invariant.1 ((here-Joined-not-is_nonzero c).other ∙ sym c.is_other.ensures ∙ c.if-is_other.false),
-      elim c.if-not-is_nonzero.branch [ then-not-is_nonzero w ↦ w.missing-is ∙ sym (n ∙ ap (λ (b : Bool). any t c.loop-c.c || b) (told ∙ w.if-not-is_nonzero.true) ∙ or-true (any t c.loop-c.c)) | else-not-is_nonzero w ↦ w.missing-is ∙ c.loop-c.invariant.2 ∙ sym (n ∙ ap (λ (b : Bool). any t c.loop-c.c || b) (told ∙ w.if-not-is_nonzero.false) ∙ or-false (any t c.loop-c.c)) ],
+      elim c.if-not-is_nonzero.branch [ then-not-is_nonzero w ↦ w.missing-is ∙ sym (n ∙ ap (λ (b : Bool). any t c.loop-c.c || b) (told ∙ ap not w.if-not-is_nonzero.true) ∙ or-true (any t c.loop-c.c)) | else-not-is_nonzero w ↦ w.missing-is ∙ c.loop-c.invariant.2 ∙ sym (n ∙ ap (λ (b : Bool). any t c.loop-c.c || b) (told ∙ ap not w.if-not-is_nonzero.false) ∙ or-false (any t c.loop-c.c)) ],
     )
 
 pub returns-then-missing : goal.returns-then-missing

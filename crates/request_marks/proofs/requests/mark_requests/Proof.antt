@@ -57,7 +57,7 @@ insert-closure-pair-requires c κs =
     let R = (start q).requires.requests in
     record {
       small = (start q).requires.small;
-      first = omega (arith, a.at.ensures, R.rows_Inside q.loop.i i.loop-test.true);
+      first = omega (arith, a.at.ensures, R.rows_inside q.loop.i i.loop-test.true);
       second = omega (arith, b.at2.ensures, R.columns_inside q.loop.i (omega (arith, i.loop-test.true, R.equal)));
       marked = q.loop.invariant.1.marked;
     }

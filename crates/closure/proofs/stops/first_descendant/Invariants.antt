@@ -1,0 +1,15 @@
+use mathlib.Core.Bool.{false}
+use Rattle.lists.specs.Test.{any_in, any_in_none, any_in_more}
+use Rattle.columns.specs.Kept.{kept_below}
+use Rattle.kept_entries.specs.KeptBy.{kept_at, lent_within}
+use borrow.Author.Rules.{rules}
+use native.Mathlib.Omega.{arith}
+use Prim.Native.Nat.{◌≤◌, ◌-◌}
+use mathlib.Core.Path.{◌≡◌, sym, ◌∙◌}
+use Rattle.closure.proofs.stops.first_descendant.Given as goal
+
+abbrev pub invariant-loop-q : goal.invariant-loop-q
+invariant-loop-q l = (l.s ≤ l.q) × (l.q ≤ l.e) × (any_in (kept_below l.rows (kept_at l.floats l.wholes) l.c) l.s l.q ≡ false)
+
+abbrev pub decreases-loop-q : goal.decreases-loop-q
+decreases-loop-q l = l.e - l.q

@@ -1,0 +1,15 @@
+use mathlib.Core.Bool.{false}
+use mathlib.Core.Path.{◌≡◌, sym, ◌∙◌}
+use native.Mathlib.Omega.{arith}
+use Prim.Native.Nat.{◌≤◌, ◌-◌}
+use borrow.Author.Rules.{rules}
+use Rattle.lists.specs.Test.{any, any_none, any_more, any-hit, any_less}
+use Rattle.columns.specs.Factor.{factor_column}
+use Rattle.columns.specs.Stored.{not_finite_column}
+use Rattle.factor_check.proofs.finite.kept_not_finite.Given as goal
+
+abbrev pub invariant-loop-c : goal.invariant-loop-c
+invariant-loop-c l = (l.c ≤ l.n) × (any (not_finite_column l.starts l.rows l.values) l.c ≡ false)
+
+abbrev pub decreases-loop-c : goal.decreases-loop-c
+decreases-loop-c l = l.n - l.c

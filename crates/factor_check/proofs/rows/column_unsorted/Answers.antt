@@ -1,0 +1,6 @@
+use borrow.Author.Rules.{rules}
+use mathlib.Core.Path.{sym}
+use Rattle.factor_check.proofs.rows.column_unsorted.Goals as goal
+
+pub returns : goal.returns
+returns c = rw c.descents.ensures (sym c.start_descents.ensures)

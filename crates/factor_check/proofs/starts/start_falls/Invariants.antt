@@ -1,0 +1,14 @@
+use Rattle.lists.specs.Test.{any, any_none, any_more, any-hit, any_less}
+use Rattle.columns.specs.Columns.{falls}
+use mathlib.Core.Bool.{false}
+use borrow.Author.Tests.{lt-ltb, le-ltb}
+use borrow.Author.Rules.{rules}
+use Prim.Native.Nat.{◌≤◌, ◌-◌}
+use mathlib.Core.Path.{◌≡◌, sym}
+use Rattle.factor_check.proofs.starts.start_falls.Given as goal
+
+abbrev pub invariant-loop-c : goal.invariant-loop-c
+invariant-loop-c l = (l.c ≤ l.n) × (any (falls l.starts) l.c ≡ false)
+
+abbrev pub decreases-loop-c : goal.decreases-loop-c
+decreases-loop-c l = l.n - l.c

@@ -1,0 +1,13 @@
+use Rattle.scatter.specs.Scatter.{unmarks, unmarks_none, unmarks_next}
+use Rattle.refusal.specs.Bounds.{max_dimension}
+use mathlib.Core.Path.{subst, ◌≡◌, ap, sym, ◌∙◌}
+use borrow.Author.Rules.{rules}
+use native.Mathlib.Omega.{arith}
+use Prim.Native.Nat.{ℕ, ◌≤◌, ◌<◌, ◌-◌}
+use Rattle.factor_route.proofs.column_marks.unmark_column.Given as goal
+
+abbrev pub invariant-loop-p : goal.invariant-loop-p
+invariant-loop-p l = (l.p ≤ l.m) × (l.marker ≡ unmarks l.rows l.a l.initial.marker l.p)
+
+abbrev pub decreases-loop-p : goal.decreases-loop-p
+decreases-loop-p l = l.m - l.p

@@ -1,0 +1,18 @@
+use lib.Ieee.{binary64, of_bits, nan}
+use Rattle.scatter.specs.Scatter.{steps, steps_none, steps_next, step_sum, step_sum_none, step_sum_next}
+use Rattle.exact.specs.Multiple.{zero_float}
+use Rattle.exact.specs.Exact.{floats}
+use Rattle.exact.specs.PivotCase.{step_below, step_on}
+use lib.ListN.{length-set, length}
+use borrow.Author.Rules.{rules}
+use native.Mathlib.Omega.{arith}
+use Prim.Native.Nat.{◌≤◌, ◌-◌}
+use mathlib.Core.Path.{◌≡◌, refl, ap, ◌∙◌}
+use Rattle.factor_route.proofs.step.column_below.Given as goal
+
+abbrev pub invariant-loop-p : goal.invariant-loop-p
+invariant-loop-p l = (l.p ≤ l.m) × (length l.part ≡ length l.initial.part) × (l.sum ≡ step_sum floats (step_below l.with_pivots) (step_on l.with_pivots) nan l.d l.weights l.sums l.p)
+    × (l.part ≡ steps floats (step_below l.with_pivots) (step_on l.with_pivots) nan l.d l.sums l.initial.part l.p)
+
+abbrev pub decreases-loop-p : goal.decreases-loop-p
+decreases-loop-p l = l.m - l.p

@@ -1,0 +1,20 @@
+use Rattle.scatter.specs.Values.{splice_lent}
+use Rattle.scatter.specs.Column.{stepped-length}
+use Rattle.exact.specs.Exact.{floats}
+use Rattle.exact.specs.PivotCase.{step_below, step_on}
+use lib.Ieee.{nan}
+use lib.Seq.{length-take-le}
+use lib.ListN.{take, drop, length-drop, length}
+use borrow.Author.Rules.{rules}
+use native.Mathlib.Omega.{arith}
+use Prim.Native.Nat.{◌-◌}
+use mathlib.Core.Path.{◌≡◌, ◌∙◌}
+use Rattle.factor_route.proofs.step.write_column.Goals as goal
+
+pub returns : goal.returns
+returns c = let a = c.args.a in
+    let k = c.args.e - c.args.a in
+    let v = c.args.values.now in
+    let wide : length (take k (drop a v)) ≡ k = length-take-le k (drop a v) (omega (arith, length-drop a v)) in
+    rw c.column_step.ensures
+    (splice_lent a k _ v (stepped-length floats (step_below c.args.with_pivots) (step_on c.args.with_pivots) nan _ _ _ (take k (drop a v)) _ ∙ wide))

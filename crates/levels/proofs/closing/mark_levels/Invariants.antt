@@ -1,0 +1,26 @@
+use borrow.Author.Rules.{rules}
+use native.Mathlib.Omega.{arith}
+use Prim.Native.Nat.{ℕ, ◌≤◌, ◌-◌}
+use mathlib.Core.Path.{◌≡◌, refl, ap, ◌∙◌}
+use lib.ListN.{length, get_or}
+use mathlib.Core.List.{List}
+use mathlib.Core.Bool.{Bool, cond}
+use mathlib.Core.Path.{ap₂}
+use lib.Dec.{ltb}
+use Rattle.lists.specs.Test.{any, any_none}
+use Rattle.lists.specs.Overwrite.{cleared}
+use Rattle.pairs.specs.Pair.{pair_total, ordered}
+use Rattle.closed_set.specs.Requests.{requested}
+use Rattle.levels.specs.Levels.{Raised, raised_none, raised_more, raised_cong}
+use Rattle.levels.proofs.InsertLaws.{levels_none}
+use Rattle.levels.proofs.closing.mark_levels.Given as goal
+
+-- the pairs of the first i requests
+abbrev pub before : List ℕ → List ℕ → ℕ → ℕ → ℕ → Bool
+before rs cs i r c = any (λ k. ordered (get_or rs k 0) (get_or cs k 0) r c) i
+
+abbrev pub invariant-loop-i : goal.invariant-loop-i
+invariant-loop-i l = (l.i ≤ length l.request_rows) × Raised l.n 1 (before l.request_rows l.request_columns l.i) l.initial.scratch 0 l.scratch l.count
+
+abbrev pub decreases-loop-i : goal.decreases-loop-i
+decreases-loop-i l = length l.request_rows - l.i
