@@ -52,7 +52,7 @@ scatter_columns-requires c = let a = c.at-a in
       W.0,
       W.1,
       route_marked c.requires.route_input.0 c.args.j c.requires.route_input.1 a.result s.result t.result m.result a.ensures s.ensures t.ensures
-          m.ensures.count c.args.marker.now c.args.weights.now c.args.sums.now _ _ _ c.requires.work_rows.0 m.ensures,
+          m.ensures.count c.args.marker.now c.args.weights.now c.args.sums.now _ _ _ c.requires.work_rows m.ensures,
     )
 
 pub column_divisor-d-requires : goal.column_divisor-d-requires
@@ -89,4 +89,4 @@ returns c = let a = c.at-a in
     m.ensures.count (step_below c.args.with_pivots) (step_on c.args.with_pivots)
     (told_table c.args.with_pivots c.args.n c.args.starts.now c.args.rows.now c.args.values.now c.args.pivots.now)
     e.result d.result c.args.result_values.now _ c.args.marker.now c.args.weights.now c.args.sums.now _ _ _ _ _
-    e.ensures c.requires.work_rows.0 refl c.requires.work_rows.1 m.ensures x.ensures d.ensures w.ensures c.unmark_column.ensures
+    e.ensures c.requires.work_rows refl c.requires.known m.ensures x.ensures d.ensures w.ensures c.unmark_column.ensures

@@ -6,8 +6,6 @@ use borrow.Author.Rules.{rules}
 use native.Mathlib.Omega.{arith}
 use Prim.Native.Nat.{◌≤◌, ◌-◌}
 use mathlib.Core.Path.{refl}
-use Rattle.factor_route.proofs.takahashi_selected_inverse_on_factor_pattern.Statement.{
-  statement,
 use Rattle.factor_route.proofs.takahashi_selected_inverse_on_factor_pattern.Given as goal
 
 abbrev pub invariant-loop-j : goal.invariant-loop-j

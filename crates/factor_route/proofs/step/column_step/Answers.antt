@@ -5,5 +5,4 @@ use Rattle.factor_route.proofs.step.column_step.Goals as goal
 
 pub returns : goal.returns
 unfolding stepped
-returns c = let b = c.column_below-sum in
-    rw (c.entry_on_diagonal.ensures, b.ensures.0, b.ensures.1)
+returns c = rw (c.entry_on_diagonal.ensures, c.column_below-sum.ensures.value, c.column_below-sum.ensures.part_after)

@@ -65,10 +65,9 @@ loop-k-preserved c = let a = c.args in
     let desc = pattern a.starts.now a.rows.now (nonzero a.values.now) in
     let W = level_word a.n a.scratch.now in
     let g = back_range desc W c.loop-k.k c.loop-k.row c.loop-k.column c.loop-k.invariant.ordered in
-    let p = (c.pair_before-before.ensures.row_value, c.pair_before-before.ensures.column_value) in
-    writing_step desc W c.loop-k.invariant c.loop-k-test.true c.pair_before-before.result.row c.pair_before-before.result.column p.0 p.1
-    (omega (arith, p.0, p.1, g.0))
-    (omega (arith, p.0, g.1, c.loop-k.invariant.inside))
+    writing_step desc W c.loop-k.invariant c.loop-k-test.true c.pair_before-before.result.row c.pair_before-before.result.column c.pair_before-before.ensures.row_value c.pair_before-before.ensures.column_value
+    (omega (arith, c.pair_before-before.ensures.row_value, c.pair_before-before.ensures.column_value, g.0))
+    (omega (arith, c.pair_before-before.ensures.row_value, g.1, c.loop-k.invariant.inside))
 
 pub shape_of-chain_rows : goal.shape_of-chain_rows
 shape_of-chain_rows c = let a = c.args in

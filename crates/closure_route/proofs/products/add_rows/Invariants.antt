@@ -1,0 +1,17 @@
+use borrow.Author.Rules.{rules}
+use native.Mathlib.Omega.{arith}
+use Prim.Native.Nat.{ℕ, ◌≤◌, ◌-◌, ◌+◌}
+use mathlib.Core.Path.{◌≡◌, ap, subst}
+use lib.ListN.{get_or}
+use Rattle.columns.specs.Columns.{row}
+use Rattle.closure_route.specs.Part.{PartSet}
+use Rattle.closure_route.proofs.PartLaws.{part_none}
+use Rattle.closure_route.specs.Products.{row_terms}
+use Rattle.closure_route.proofs.ProductLaws.{product_more}
+use Rattle.closure_route.proofs.products.add_rows.Given as goal
+
+abbrev pub invariant-loop-q : goal.invariant-loop-q
+invariant-loop-q l = (l.from ≤ l.q) × (l.q ≤ l.last) × PartSet l.from l.q (row_terms l.base l.l l.result_rows l.scratch l.initial.result_values) l.initial.result_values l.result_values
+
+abbrev pub decreases-loop-q : goal.decreases-loop-q
+decreases-loop-q l = l.last - l.q

@@ -1,0 +1,21 @@
+use Prim.Native.Nat.{ℕ, ◌≤◌, ◌-◌}
+use native.Mathlib.Omega.{arith}
+use mathlib.Core.Path.{◌≡◌, refl, subst, ◌∙◌}
+use lib.ListN.{length}
+use borrow.Author.Rules.{rules}
+use Rattle.closure_route.specs.Column.{SumColumn, sum_column}
+use Rattle.closure_route.specs.Lower.{ProductsAdded}
+use Rattle.closure_route.proofs.LowerLaws.{RowsBefore, stored_input, products_none, before_more, products_more}
+use Rattle.closure_route.proofs.stored_sums.add_products.Given as goal
+
+abbrev pub invariant-loop-p : goal.invariant-loop-p
+invariant-loop-p l = (length l.result_values ≡ length l.initial.result_values)
+    × (l.s ≤ l.p)
+    × (l.p ≤ l.e)
+    × (l.first ≤ l.q)
+    × (l.q ≤ l.last)
+    × RowsBefore (sum_column l.n l.j l.first l.last l.s l.e l.rows l.values l.result_rows l.scratch) l.q l.p
+    × ProductsAdded (sum_column l.n l.j l.first l.last l.s l.e l.rows l.values l.result_rows l.scratch) l.p l.initial.result_values l.result_values
+
+abbrev pub decreases-loop-p : goal.decreases-loop-p
+decreases-loop-p l = l.e - l.p

@@ -1,0 +1,15 @@
+use Prim.Native.Nat.{ℕ, ◌≤◌, ◌-◌}
+use native.Mathlib.Omega.{arith}
+use mathlib.Core.Path.{◌≡◌, refl, subst, ◌∙◌}
+use lib.ListN.{length, length-set}
+use borrow.Author.Rules.{rules}
+use Rattle.columns.specs.Kept.{f0}
+use Rattle.closure_route.specs.Part.{PartSet, zeros}
+use Rattle.closure_route.proofs.PartLaws.{part_none, part_more}
+use Rattle.closure_route.proofs.stored_sums.clear_part.Given as goal
+
+abbrev pub invariant-loop-q : goal.invariant-loop-q
+invariant-loop-q l = (length l.result_values ≡ length l.initial.result_values) × (l.first ≤ l.q) × (l.q ≤ l.last) × PartSet l.first l.q zeros l.initial.result_values l.result_values
+
+abbrev pub decreases-loop-q : goal.decreases-loop-q
+decreases-loop-q l = l.last - l.q

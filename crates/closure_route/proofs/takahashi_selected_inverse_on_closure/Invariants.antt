@@ -1,0 +1,21 @@
+use Prim.Native.Nat.{ℕ, ◌≤◌, ◌-◌}
+use native.Mathlib.Omega.{arith}
+use mathlib.Core.Path.{◌≡◌, refl, subst, ◌∙◌}
+use mathlib.Core.Bool.{Bool}
+use lib.Ieee.{Float}
+use lib.ListN.{length}
+use borrow.Author.Rules.{rules}
+use Rattle.pairs.specs.ColumnOrder.{column_marking}
+use Rattle.columns.specs.Form.{form_of}
+use Rattle.entries.specs.Entries.{form_table}
+use Rattle.closure_route.specs.Route.{ColumnsSolved}
+use Rattle.closure_route.proofs.RouteLaws.{solved_none, solved_next, solved_all, column_next}
+use Rattle.closure_route.proofs.takahashi_selected_inverse_on_closure.Given as goal
+
+abbrev pub invariant-loop-j : goal.invariant-loop-j
+invariant-loop-j l = (length l.result_values ≡ length l.initial.result_values)
+    × (l.j ≤ l.n)
+    × ColumnsSolved l.n (column_marking l.n l.scratch) (form_table (form_of l.with_pivots l.pivots) l.n l.starts l.rows l.values) l.j l.initial.result_values l.result_values
+
+abbrev pub decreases-loop-j : goal.decreases-loop-j
+decreases-loop-j l = l.j

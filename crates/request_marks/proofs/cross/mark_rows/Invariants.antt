@@ -1,0 +1,15 @@
+use Prim.Native.Nat.{ℕ, ◌≤◌, ◌-◌}
+use native.Mathlib.Omega.{arith}
+use mathlib.Core.Path.{◌≡◌, subst}
+use lib.ListN.{get_or}
+use Rattle.lists.specs.Test.{any_in_none}
+use Rattle.marked_pairs.specs.MarkedPairs.{AlsoMarked, also_none, also_next}
+use Rattle.request_marks.specs.CrossRequests.{with_columns, cross_set}
+use Rattle.request_marks.proofs.OperatorLaws.{row_part}
+use Rattle.request_marks.proofs.cross.mark_rows.Given as goal
+
+abbrev pub invariant-loop-a : goal.invariant-loop-a
+invariant-loop-a l = (l.s ≤ l.a) × (l.a ≤ l.e) × AlsoMarked l.n (cross_set l.a_columns l.b_columns l.s l.a l.t l.f) l.initial.scratch l.scratch l.count
+
+abbrev pub decreases-loop-a : goal.decreases-loop-a
+decreases-loop-a l = l.e - l.a
