@@ -8,8 +8,8 @@ top=$(cd "$(dirname "$0")/.." && pwd)
 if [ -n "${REDSTARTGILT_LIB:-}" ]; then
     REDSTARTGILT_LIB=$(cd "$REDSTARTGILT_LIB" && pwd)
 else
-    (cd "$top" && rt staticlib redstartgilt)
-    REDSTARTGILT_LIB=$top/target/staticlib
+    (cd "$top/crates/redstartgilt" && rt lib)
+    REDSTARTGILT_LIB=$top/crates/redstartgilt/out
 fi
 export REDSTARTGILT_LIB
 cd "$top"

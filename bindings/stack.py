@@ -1,7 +1,7 @@
 #!/usr/bin/env python3
 """The stack that a call needs, read off the machine code of the archive (x86-64, by objdump).
 
-    python3 bindings/stack.py target/staticlib/libredstartgilt.a
+    python3 bindings/stack.py crates/redstartgilt/out/libredstartgilt.a
 
 From each exported function the deepest path of calls is followed, every function at the depth that it has at the call.
 Fails where a path passes what include/redstartgilt.h promises, and where the code has what is not followed: a call or

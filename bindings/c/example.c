@@ -1,8 +1,8 @@
 /* Selected entries of a factor of two columns, (1, 2) and (1): the inverse of L times its transpose is
  * (5, -2; -2, 1).
  *
- * Built and run from the top of the repository, after `rt staticlib redstartgilt`:
- *   gcc -I include bindings/c/example.c target/staticlib/libredstartgilt.a -o example && ./example
+ * Built and run from the top of the repository, after `rt lib` in crates/redstartgilt:
+ *   gcc -I include bindings/c/example.c crates/redstartgilt/out/libredstartgilt.a -o example && ./example
  * After `bash bindings/c/install.sh PREFIX`, with PREFIX/lib/pkgconfig in PKG_CONFIG_PATH:
  *   gcc bindings/c/example.c $(pkg-config --cflags --libs redstartgilt) -o example && ./example
  */

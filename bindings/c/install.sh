@@ -12,8 +12,8 @@ if [ -n "${REDSTARTGILT_LIB:-}" ]; then
 fi
 cd "$(dirname "$0")/../.."
 if [ -z "${archive:-}" ]; then
-    rt staticlib redstartgilt
-    archive=$PWD/target/staticlib/libredstartgilt.a
+    (cd crates/redstartgilt && rt lib)
+    archive=$PWD/crates/redstartgilt/out/libredstartgilt.a
 fi
 header=include/redstartgilt.h
 version=$(sed -n 's/^#define REDSTARTGILT_VERSION "\(.*\)"$/\1/p' $header)

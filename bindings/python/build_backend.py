@@ -1,8 +1,8 @@
 """Builds the package with nothing but Python's own library: the shared library, and a wheel around it.
 
 The shared library is linked from libredstartgilt.a, the proved library, or taken as it is. REDSTARTGILT_LIB, where set, names
-a folder that has libredstartgilt.so or libredstartgilt.a; otherwise `rt staticlib redstartgilt`, run at the top of the
-repository, proves what has changed since it was last proved and writes the archive.
+a folder that has libredstartgilt.so or libredstartgilt.a; otherwise `rt lib`, run in crates/redstartgilt, proves what
+has changed since it was last proved and writes the archive.
 
     python3 build_backend.py FOLDER    writes libredstartgilt.so to a folder
 """
@@ -27,6 +27,7 @@ from typing import Any, Dict, Optional
 HERE = Path(__file__).resolve().parent
 TOP = HERE.parent.parent
 PACKAGE = "redstartgilt"
+FOLDER = TOP / "crates" / PACKAGE
 ARCHIVE = "libredstartgilt.a"
 LIBRARY = "libredstartgilt.so"
 FOLDER_VARIABLE = "REDSTARTGILT_LIB"
@@ -51,15 +52,15 @@ def _archive() -> Path:
         raise _fail(f"{HERE} is not in the repository of the library; set {FOLDER_VARIABLE} to the folder of {ARCHIVE}")
     _say("rt proves the library; the first time this takes some minutes")
     try:
-        proved = subprocess.run(["rt", "staticlib", PACKAGE], cwd=TOP)
+        proved = subprocess.run(["rt", "lib"], cwd=FOLDER)
     except OSError as error:
         raise _fail(
             f"cannot run `rt`, the Rattle toolchain's command ({error}): put it on the path, or set {FOLDER_VARIABLE} to a "
             f"folder that has {ARCHIVE} or {LIBRARY}"
         ) from None
     if proved.returncode:
-        raise _fail(f"`rt staticlib {PACKAGE}` in {TOP} failed")
-    return TOP / "target" / "staticlib" / ARCHIVE
+        raise _fail(f"`rt lib` in {FOLDER} failed")
+    return FOLDER / "out" / ARCHIVE
 
 
 def _source() -> Path:

@@ -1,9 +1,9 @@
 //! Finds or makes libredstartgilt.a, the proved library, and tells the linker where it is; and SuiteSparse's CHOLMOD for
 //! the command.
 //!
-//! REDSTARTGILT_LIB, where set, names a folder that has it. Otherwise `rt staticlib redstartgilt`, run at the top of
-//! the repository, proves what has changed since it was last proved and writes it; it is not run where the archive is
-//! there and was made from the same sources by the same toolchain. So the profiles of cargo share one archive.
+//! REDSTARTGILT_LIB, where set, names a folder that has it. Otherwise `rt lib`, run in crates/redstartgilt, proves
+//! what has changed since it was last proved and writes it; it is not run where the archive is there and was made from the
+//! same sources by the same toolchain. So the profiles of cargo share one archive.
 
 #[path = "build/archive.rs"]
 mod archive;

@@ -52,8 +52,8 @@ else
     source=$work/source
 fi
 if [ -z "${REDSTARTGILT_LIB:-}" ]; then
-    (cd "$top" && rt staticlib redstartgilt)
-    REDSTARTGILT_LIB=$top/target/staticlib
+    (cd "$top/crates/redstartgilt" && rt lib)
+    REDSTARTGILT_LIB=$top/crates/redstartgilt/out
 fi
 gcc -O3 -c "$source/sparseinv.c" -o "$work/sparseinv.o"
 gcc -O3 -march=native -Dsparseinv=sparseinv_native -c "$source/sparseinv.c" -o "$work/native.o"

@@ -46,18 +46,23 @@ fn archive_of_folder(named: &Path) -> PathBuf {
     archive.clone()
 }
 
+/// The folder of the crate that the archive is made from.
+fn folder_of_library(top: &Path) -> PathBuf {
+    top.join("crates").join(LIBRARY)
+}
+
 /// Proves the library and writes its archive; says what rt said where it fails.
 fn prove(top: &Path, crates: &[Crate]) {
     let order = crates.iter().map(|(name, _)| *name).collect::<Vec<_>>();
     let mut progress = Progress::new(LIBRARY);
-    match proving::run_rt(top, LIBRARY, &order, &mut progress) {
+    match proving::run_rt(&folder_of_library(top), &order, &mut progress) {
         Ok((status, _)) if status.success() => progress.say(&format!("{} crates proved", order.len())),
         Ok((status, said)) => {
             progress.say("not proved");
             eprint!("{said}");
             fail(&format!(
-                "`rt staticlib {LIBRARY}` in {} failed ({status})",
-                top.display()
+                "`rt lib` in {} failed ({status})",
+                folder_of_library(top).display()
             ))
         }
         Err(error) => fail(&format!(
@@ -81,9 +86,7 @@ fn repository() -> PathBuf {
 
 /// The identity of the toolchain; `None`, where it has none, makes every build run rt.
 fn kit_identity() -> Option<String> {
-    println!("cargo:rerun-if-env-changed=RATTLE_HOME");
-    let path = env::var_os("PATH").unwrap_or_default();
-    let file = kit::identity_file(env::var_os("RATTLE_HOME").as_deref(), &path)?;
+    let file = kit::identity_file(&env::var_os("PATH").unwrap_or_default())?;
     println!("cargo:rerun-if-changed={}", file.display());
     fs::read_to_string(file).ok()
 }
@@ -104,7 +107,7 @@ fn archive_of_repository() -> PathBuf {
     for folder in crates.iter().flat_map(|(name, _)| stamp::source_folders(&top, name)) {
         println!("cargo:rerun-if-changed={}", folder.display());
     }
-    let archive = top.join("target/staticlib").join(ARCHIVE);
+    let archive = folder_of_library(&top).join("out").join(ARCHIVE);
     let stamp_file = archive.with_extension("a.stamp");
     let kit = kit_identity();
 
@@ -119,7 +122,7 @@ fn archive_of_repository() -> PathBuf {
     let _ = fs::remove_file(&stamp_file);
     prove(&top, &crates);
     if !archive.is_file() {
-        fail(&format!("`rt staticlib` wrote no {}", archive.display()));
+        fail(&format!("`rt lib` wrote no {}", archive.display()));
     }
     // Sources that were written to while rt ran may not be those that it read.
     if let Some(stamp) = stamp_by(before).filter(|_| sources() == before) {
@@ -137,7 +140,7 @@ pub fn find_or_make() -> PathBuf {
     }
 }
 
-/// Links a copy of the archive, as the repository's gate removes its target folder.
+/// Links a copy of the archive, as the repository's gate removes what stands in the folder of the archive.
 pub fn link(archive: &Path) {
     let output = PathBuf::from(env::var_os("OUT_DIR").expect("cargo sets it"));
     let copy = output.join(ARCHIVE);

@@ -1,4 +1,4 @@
-//! Runs `rt staticlib`, and follows what it says.
+//! Runs `rt lib`, and follows what it says.
 
 use crate::progress::Progress;
 use std::io::{self, BufRead, BufReader, Read};
@@ -6,58 +6,50 @@ use std::path::Path;
 use std::process::{Command, ExitStatus, Stdio};
 use std::thread;
 
-/// The crate that a line of rt says it is done with, and whether that is proved.
-fn done_with(line: &str) -> Option<(&str, bool)> {
-    let (name, verdict) = line.strip_prefix("rt: ")?.split_once(' ')?;
-    let proved = verdict.starts_with("proved");
-    (proved || verdict.starts_with("NOT PROVED")).then_some((name, proved))
+/// The crate that a line of rt says it begins to prove. One that is proved already has no such line.
+fn begun(line: &str) -> Option<&str> {
+    let (_, name) = line.strip_prefix("rt: chose --jobs ")?.split_once(" for ")?;
+    Some(name.trim_end())
 }
 
-fn show_next(waiting: &[&str], count: usize, progress: &mut Progress) {
-    if let Some(next) = waiting.first() {
-        let number = count - waiting.len() + 1;
-        progress.show(&format!("proving crate {number} of {count}: {next}"));
-    }
-}
-
-/// Tells which crate is being proved while rt's lines come in; what rt said of all that it did not prove.
+/// Tells which crate is being proved while rt's lines come in; what rt said of the last one, at which it ends where that is
+/// not proved.
 fn follow(rt: impl Read, order: &[&str], progress: &mut Progress) -> String {
-    let mut waiting = order.to_vec();
-    let (mut unproved, mut said) = (String::new(), String::new());
-    show_next(&waiting, order.len(), progress);
+    let mut said = String::new();
     for line in BufReader::new(rt).split(b'\n').map_while(Result::ok) {
         let line = String::from_utf8_lossy(&line);
-        said += &format!("{line}\n");
-        let Some((name, proved)) = done_with(&line) else {
-            continue;
-        };
-        if !proved {
-            unproved += &said;
+        let place = begun(&line).and_then(|name| order.iter().position(|other| *other == name));
+        if let Some(place) = place {
+            progress.show(&format!(
+                "proving crate {} of {}: {}",
+                place + 1,
+                order.len(),
+                order[place]
+            ));
+            said.clear();
         }
-        said.clear();
-        waiting.retain(|other| *other != name);
-        show_next(&waiting, order.len(), progress);
+        said += &format!("{line}\n");
     }
-    unproved + &said
+    said
 }
 
-/// Runs `rt staticlib` at the top of the repository: how it ended, and what it said of what is not proved.
-pub fn run_rt(top: &Path, library: &str, order: &[&str], progress: &mut Progress) -> io::Result<(ExitStatus, String)> {
+/// Runs `rt lib` in the folder of the library's crate: how it ended, and what it said of what is not proved.
+pub fn run_rt(folder: &Path, order: &[&str], progress: &mut Progress) -> io::Result<(ExitStatus, String)> {
     let mut rt = Command::new("rt")
-        .args(["staticlib", library])
-        .current_dir(top)
+        .arg("lib")
+        .current_dir(folder)
         .stdout(Stdio::piped())
         .stderr(Stdio::piped())
         .spawn()?;
     progress.say("rt proves the library; the first time this takes some minutes");
-    // What rt says of the crates that the library needs comes on stderr, the rest on stdout.
-    let mut stdout = rt.stdout.take().expect("piped");
+    // What the prover says comes on stdout, and on stderr what rt says of it.
+    let mut stderr = rt.stderr.take().expect("piped");
     let rest = thread::spawn(move || {
         let mut text = Vec::new();
-        let _ = stdout.read_to_end(&mut text);
+        let _ = stderr.read_to_end(&mut text);
         text
     });
-    let said = follow(rt.stderr.take().expect("piped"), order, progress);
+    let said = follow(rt.stdout.take().expect("piped"), order, progress);
     let rest = rest.join().expect("reads to the end");
     Ok((rt.wait()?, said + &String::from_utf8_lossy(&rest)))
 }

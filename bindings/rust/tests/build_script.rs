@@ -10,18 +10,22 @@ use std::sync::OnceLock;
 
 /// An archive is here the contents of its sources. A file `meanwhile` is what somebody writes to one of them while rt runs.
 const RT: &str = r#"#!/bin/sh
-[ "$*" = "staticlib redstartgilt" ] || exit 2
+[ "$*" = lib ] && [ "${PWD##*/}" = redstartgilt ] || exit 2
+cd ../..
 echo run >> runs
 [ ! -f meanwhile ] || mv meanwhile crates/lists/src/lib.rt
-echo "rt: lists proved" >&2
+echo "rt: chose --jobs 1 for lists"
+echo "fn lists::first: proved"
+echo "rt: chose --jobs 2 for redstartgilt"
 if grep -q wrong crates/redstartgilt/src/lib.rt; then
-    echo "a goal that is not met" >&2
-    echo "rt: redstartgilt NOT PROVED" >&2
+    echo "a goal that is not met"
+    echo "logic=not-proved"
+    echo "rt: nothing was built" >&2
     exit 1
 fi
-echo "rt: redstartgilt proved" >&2
-mkdir -p target/staticlib
-cat crates/lists/src/* crates/redstartgilt/src/* > target/staticlib/libredstartgilt.a
+echo "logic=proved functions=1"
+mkdir -p crates/redstartgilt/out
+cat crates/lists/src/* crates/redstartgilt/src/* > crates/redstartgilt/out/libredstartgilt.a
 "#;
 
 /// The build script as a program.
@@ -61,7 +65,10 @@ impl Repository {
         let repository = Repository {
             top: top.canonicalize().unwrap(),
         };
-        repository.write("crates.txt", "lists: # no crate\nother:\nredstartgilt: lists std\n");
+        repository.write(
+            "crates.txt",
+            "lists: # no crate\nother:\nredstartgilt staticlib: lists std\n",
+        );
         repository.write("crates/lists/src/lib.rt", "lists");
         repository.write("crates/lists/specs/parts/Lists.antt", "laws");
         repository.write("crates/lists/must-fail/wrong.edit", "edit");
@@ -112,7 +119,7 @@ impl Repository {
         assert!(output.status.success(), "{output:?}");
         assert_eq!(
             self.read(&format!("{out}/libredstartgilt.a")),
-            self.read("target/staticlib/libredstartgilt.a")
+            self.read("crates/redstartgilt/out/libredstartgilt.a")
         );
         self.runs()
     }
@@ -139,7 +146,7 @@ fn proved_again_where_something_changed() {
     repository.write("crates/lists/src/lib.rt", "lists");
     repository.write(
         "crates.txt",
-        "# a comment\nlists:\nother: lists\nredstartgilt: lists std\n",
+        "# a comment\nlists:\nother: lists\nredstartgilt staticlib : lists std\n",
     );
     assert_eq!(repository.runs_after_build("debug"), 1);
 
@@ -158,15 +165,15 @@ fn proved_again_where_something_changed() {
     let folder = repository.top.join("crates/lists/specs/parts");
     fs::rename(folder.join("Lists.antt"), folder.join("List.antt")).unwrap();
     changed("a file's name");
-    repository.write("crates.txt", "lists:\nredstartgilt: lists\n");
+    repository.write("crates.txt", "lists:\nredstartgilt staticlib: lists\n");
     changed("what a crate depends on");
     repository.write("kit/KIT-ID", "kit 2");
     changed("the toolchain");
-    repository.write("target/staticlib/libredstartgilt.a", "by hand");
+    repository.write("crates/redstartgilt/out/libredstartgilt.a", "by hand");
     changed("another archive");
-    fs::remove_file(repository.top.join("target/staticlib/libredstartgilt.a")).unwrap();
+    fs::remove_file(repository.top.join("crates/redstartgilt/out/libredstartgilt.a")).unwrap();
     changed("no archive");
-    fs::remove_dir_all(repository.top.join("target")).unwrap();
+    fs::remove_dir_all(repository.top.join("crates/redstartgilt/out")).unwrap();
     changed("no folder of the archive");
 }
 
@@ -201,9 +208,11 @@ fn not_proved() {
         assert_eq!(output.status.code(), Some(1));
         let said = String::from_utf8_lossy(&output.stderr);
         assert!(
-            said.contains("a goal that is not met\nrt: redstartgilt NOT PROVED\n"),
+            said.contains("a goal that is not met\nlogic=not-proved\nrt: nothing was built\n"),
             "{said}"
         );
+        assert!(!said.contains("fn lists::first"), "{said}");
+        assert!(said.contains("`rt lib` in"), "{said}");
         assert_eq!(repository.runs(), runs);
     }
     // The archive of the sources as they were is still there, but not its stamp.
@@ -235,14 +244,13 @@ fn looked_at() {
         let output = lines(&repository.run("debug", variables).stdout);
         let watched = output.iter().filter_map(|line| line.strip_prefix("cargo:rerun-if-"));
         let watched = watched.map(|line| line.replace(repository.top.to_str().unwrap(), "TOP"));
-        let of_archive = ["TOP", "=REDSTARTGILT_LIB", "=RATTLE_HOME", "=PWD"];
+        let of_archive = ["TOP", "=REDSTARTGILT_LIB", "=PWD"];
         watched
             .filter(|line| of_archive.iter().any(|word| line.contains(word)))
             .collect::<BTreeSet<_>>()
     };
     let of_repository = [
         "env-changed=REDSTARTGILT_LIB",
-        "env-changed=RATTLE_HOME",
         "changed=TOP/crates.txt",
         "changed=TOP/crates/lists/specs",
         "changed=TOP/crates/lists/src",

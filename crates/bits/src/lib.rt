@@ -1,1 +1,3 @@
+#![tactic(auto)]
+
 // No code: bits of a list of words, defined in specs/.

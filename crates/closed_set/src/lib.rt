@@ -1,1 +1,3 @@
+#![tactic(auto)]
+
 // The closed set of pairs, and its size. No code.

@@ -1,4 +1,6 @@
 // The closure of requested pairs under the dependencies of a factor, after `takahashi_dependency_closure` of uncertainty.rs, and its diagnosis.
+#![tactic(auto)]
+
 pub mod queue;
 pub mod stops;
 pub mod whole;

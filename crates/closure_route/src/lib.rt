@@ -1,5 +1,7 @@
 // Takahashi's recurrence over a closed set of pairs, columns from the last to the first, after `takahashi_selected_inverse_on_closure`
 // of uncertainty.rs.
+#![tactic(auto)]
+
 pub mod finish;
 pub mod products;
 pub mod runs;

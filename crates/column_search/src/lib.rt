@@ -1,4 +1,6 @@
 // The place of a row in a column of a result and of a pair in the result, and how many places a search looks at.
+#![tactic(auto)]
+
 pub mod halving;
 pub mod order;
 pub mod pair_place;
@@ -16,7 +18,7 @@ ghost use Rattle.column_search.specs.Reply.{place_reply};
 
 use words::at;
 
-// Where a row stands; `placeReply` of specs/Reply.antt gives document 01's number for an absent one.
+// Where a row stands; `place_reply` of specs/Reply.antt gives document 01's number for an absent one.
 #[derive(Clone, Copy)]
 pub enum Place {
     At(usize),

@@ -10,7 +10,7 @@ use super::result_check::check_column;
 use super::{Place, find_in_column};
 use refusal::{Checked, Refusal};
 
-// Where a pair stands, or what it is refused with; `pairReply` of specs/Reply.antt gives document 01's number.
+// Where a pair stands, or what it is refused with; `pair_reply` of specs/Reply.antt gives document 01's number.
 #[derive(Clone, Copy)]
 pub enum PairPlace {
     At(usize),

@@ -45,7 +45,7 @@ fn ordered_place_within(
     of_row(column_within(starts, rows, values, r, c))
 }
 
-// The same for a pair in either order: `pair_place` in a well-formed result, by `within-place`.
+// The same for a pair in either order: `pair_place` in a well-formed result, by `within_place`.
 pub fn pair_place_within(
     starts: &[u32],
     rows: &[u32],

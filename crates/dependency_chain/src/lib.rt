@@ -1,4 +1,6 @@
 // The chain from a requested pair to a pair of the closed set, each pair a dependency of the one before.
+#![tactic(auto)]
+
 ghost use Rattle.std.specs.Prelude.{◌≡◌, ◌≤◌, length};
 ghost use Rattle.refusal.specs.Bounds.{max_dimension};
 ghost use Rattle.refusal.specs.Steps.{verdict};
@@ -28,7 +30,7 @@ use verdicts::first_of;
 use words::order::{larger, smaller};
 use words::{at, clear};
 
-// How many pairs the chain has, 0 where the pair is not in the set; `chainReply` of specs/Reply.antt gives a refusal's number.
+// How many pairs the chain has, 0 where the pair is not in the set; `chain_reply` of specs/Reply.antt gives a refusal's number.
 #[derive(Clone, Copy)]
 pub enum ChainPairs {
     Pairs(usize),

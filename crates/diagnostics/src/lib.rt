@@ -1,4 +1,6 @@
 // The diagnosis of a selected inverse, after `SelectedInverseDiagnostics` of uncertainty.rs.
+#![tactic(auto)]
+
 ghost use Rattle.std.specs.Prelude.{◌≡◌, ◌≤◌};
 ghost use Rattle.diagnostics.specs.Diagnosis.{complete_of, max_count, ratio_of, diagnosis};
 
@@ -33,7 +35,7 @@ impl SelectedInverseDiagnostics {
     }
 }
 
-// What a call that fills result lists answers; `selectedReplyOf` of specs/Selected.antt gives the number of a refusal.
+// What a call that fills result lists answers; `selected_reply_of` of specs/Selected.antt gives the number of a refusal.
 #[derive(Clone, Copy)]
 pub enum Selected {
     Answered(SelectedInverseDiagnostics),

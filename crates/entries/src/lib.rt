@@ -1,1 +1,3 @@
+#![tactic(auto)]
+
 // The entries of a selected inverse as lists. No code.

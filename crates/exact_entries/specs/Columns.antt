@@ -20,6 +20,8 @@ module _ {W : Type 0} (f : ℕ → Entry W) where
 
 -- ---- lists of the same rows
 pub alike_ascend : (s n a : ℕ) (ps : List (Entry Float)) (qs : List (Entry ℤ)) → Alike s ps qs → Ascend n a ps → Ascend n a qs
+alike_ascend s n a [] (q ∷ qs) e h = elim e [ ]
+alike_ascend s n a (p ∷ ps) [] e h = elim e [ ]
 alike_ascend s n a [] [] e h = tt
 alike_ascend s n a (p ∷ ps) (q ∷ qs) e h = (
   subst (λ (r : ℕ). a ≤ r) e.0 h.0,
@@ -28,6 +30,8 @@ alike_ascend s n a (p ∷ ps) (q ∷ qs) e h = (
 )
 
 pub alike_each : (s : ℕ) (Q : ℕ → Type 0) (ps : List (Entry Float)) (qs : List (Entry ℤ)) → Alike s ps qs → Each Q ps → Each Q qs
+alike_each s Q [] (q ∷ qs) e h = elim e [ ]
+alike_each s Q (p ∷ ps) [] e h = elim e [ ]
 alike_each s Q [] [] e h = tt
 alike_each s Q (p ∷ ps) (q ∷ qs) e h = (subst Q e.0 h.0, alike_each s Q ps qs e.2 h.1)
 

@@ -152,7 +152,7 @@ f2_reads_outside : f2_found (selection_of f2-call) 2 0 ≡ refused 8
 f2_reads_outside = f2_reads.others f2_complete 2 0 (λ p. let h = f2_lower cholesky _ 3 (room_of f2_lent) f2_accepted 2 0 p in omega (arith, h.1))
 
 -- ---- the same call, by the laws that the theorem is made of
--- `exact_inverse`, `exact_symmetric`: there is an inverse, and F2-matrix is symmetric
+-- `exact_inverse`, `exact_symmetric`: there is an inverse, and f2_matrix is symmetric
 f2_has_inverse : (X : Matrix) × WholeInverse 2 (factor ones f2_entries) X
 f2_has_inverse = exact_inverse (selection_of f2-call) f2_lent f2_accepted f2_entries f2-call_exact
 

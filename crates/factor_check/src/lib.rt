@@ -1,4 +1,6 @@
 // A factor in compressed columns: refusals 1, 2, 3 and 18, and the sizes of its whole numbers.
+#![tactic(auto)]
+
 pub mod bounds;
 pub mod finite;
 pub mod rows;

@@ -1,6 +1,6 @@
 -- A call of the factor-pattern route: what it asks, and what one column and all columns leave.
 -- Assumes nothing.
-use Rattle.std.specs.Prelude.{ℕ, ◌+◌, ◌-◌, ◌≤◌, ◌≡◌, List, length, get_or, take, Float}
+use Rattle.std.specs.Prelude.{ℕ, ◌+◌, ◌≤◌, ◌≡◌, List, length, get_or, take, Float}
 use Rattle.refusal.specs.Bounds.{max_dimension}
 use Rattle.lists.specs.Overwrite.{splice}
 use Rattle.pairs.specs.ColumnOrder.{set_size}

@@ -1,6 +1,8 @@
 // The factor-pattern route of the selected inverse, taken where the closed set is the factor's pattern, its diagonals
 // and its kept entries, after
 // `takahashi_selected_inverse_on_factor_pattern` of uncertainty.rs.
+#![tactic(auto)]
+
 pub mod column_marks;
 pub mod column_scatter;
 pub mod step;

@@ -1,4 +1,6 @@
 // Reading a text from a place on: blanks, a number, a line of two or three numbers.
+#![tactic(auto)]
+
 ghost use Rattle.std.specs.Prelude.{◌≡◌, true, false, ◌+◌, ◌-◌, ◌*◌, ◌≤◌, ◌<◌, length};
 ghost use Rattle.matrix_market.specs.Text.{is_blank, is_digit};
 ghost use Rattle.file_lines.specs.Scan.{cut as Scan·cut};

@@ -1,4 +1,6 @@
 // Filling result lists: what every call does past its checks, once the requested pairs are marked.
+#![tactic(auto)]
+
 pub mod forms;
 pub mod kept_pattern;
 pub mod routes;

@@ -1,4 +1,6 @@
 // A floor under variances, after `stabilize_variances` of uncertainty.rs.
+#![tactic(auto)]
+
 pub mod floored;
 pub mod positive_mean;
 pub mod variance_floor;
@@ -16,7 +18,7 @@ pub struct StabilizedVariance {
     pub floor_hits: usize,
 }
 
-// What the call answers; `stabilizedReply` of specs/Floor.antt gives document 01's number of a refusal.
+// What the call answers; `stabilized_reply` of specs/Floor.antt gives document 01's number of a refusal.
 #[derive(Clone, Copy)]
 pub enum Stabilized {
     Answered(StabilizedVariance),

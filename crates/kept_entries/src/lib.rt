@@ -1,4 +1,6 @@
 // The kept entries of a factor that passes 1, 2 and 3, and how many they are.
+#![tactic(auto)]
+
 pub mod diagonal;
 pub mod diagonal_check;
 pub mod kept_by;

@@ -1,5 +1,7 @@
 // The last steps of an entry, with S or S' its sum. Of L.Lᵀ, d the diagonal of the factor's column: below the diagonal −S/d, on it 1/(d·d) − S'/d.
 // Of L.D.Lᵀ, d the column's pivot: −S, and 1/d − S'.
+#![tactic(auto)]
+
 ghost use Rattle.std.specs.Prelude.{◌≡◌};
 ghost use Rattle.exact.specs.PivotCase.{step_below, step_on};
 

@@ -1,6 +1,6 @@
 -- The rows and positions of a set's pairs, written column by column from its marks: what each step asks, and what it leaves.
 -- Assumes nothing.
-use Rattle.std.specs.Prelude.{ℕ, ◌+◌, ◌/◌, ◌≤◌, ◌<◌, ◌-◌, ◌≡◌, true, List, length, get_or, drop}
+use Rattle.std.specs.Prelude.{ℕ, ◌+◌, ◌/◌, ◌≤◌, ◌<◌, ◌≡◌, true, List, length, get_or, drop}
 use Rattle.lists.specs.Select.{tally}
 use Rattle.lists.specs.Overwrite.{overwrite}
 use Rattle.bits.specs.Bits.{bit_same}

@@ -1,4 +1,6 @@
 // The result's layout from the marks of a set of pairs: the starts, the rows, and each member's position in them.
+#![tactic(auto)]
+
 pub mod firsts;
 
 ghost use Rattle.std.specs.Prelude.{◌≤◌, ◌<◌, length};

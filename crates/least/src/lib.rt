@@ -1,4 +1,6 @@
 // How many values are negative, and the least, after the loop of `finalize_variance_estimate` of uncertainty.rs.
+#![tactic(auto)]
+
 ghost use Rattle.std.specs.Prelude.{◌≡◌};
 ghost use Rattle.lists.specs.Sum.{bit};
 ghost use Rattle.columns.specs.Kept.{f0};

@@ -1,4 +1,6 @@
 // Levels of pairs, one word for each, column by column, and behind them a queue of the pairs that have one.
+#![tactic(auto)]
+
 pub mod chain;
 pub mod closing;
 

@@ -1,4 +1,6 @@
 // The lookup in a selected-inverse result and its diagonal list, after `SparseSelectedInverse::get` and `diag` of uncertainty.rs.
+#![tactic(auto)]
+
 pub mod diagonal_list;
 pub mod ordered;
 pub mod well_formed;

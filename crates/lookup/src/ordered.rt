@@ -8,7 +8,7 @@ ghost use Rattle.lookup.specs.Reply.{entry_reply, Placed};
 use column_search::pair_place::PairPlace;
 use refusal::Refusal;
 
-// What a lookup finds; `entryReply` of specs/Reply.antt gives document 01's number of a refusal.
+// What a lookup finds; `entry_reply` of specs/Reply.antt gives document 01's number of a refusal.
 #[derive(Clone, Copy)]
 pub enum Entry {
     Value(f64),

@@ -6,7 +6,7 @@ ghost use Rattle.lookup.specs.Reply.{entry_reply};
 use super::ordered::{Entry, value_at};
 use column_search::within::pair_place_within;
 
-// The entry at a row and a column, exchanged if row < column: `get` in a well-formed result, by `within-lookup`.
+// The entry at a row and a column, exchanged if row < column: `get` in a well-formed result, by `within_lookup`.
 pub fn get_well_formed(
     starts: &[u32],
     rows: &[u32],

@@ -8,7 +8,7 @@ use column_search::pair_place::{PairPlace, pair_place};
 use refusal::Refusal;
 use whole_steps::whole_at;
 
-// What a lookup finds; `wholeReply` of specs/Reply.antt gives document 01's number of a refusal.
+// What a lookup finds; `whole_reply` of specs/Reply.antt gives document 01's number of a refusal.
 #[derive(Clone, Copy)]
 pub enum WholeEntry {
     Value(i64),

@@ -1,4 +1,6 @@
 // The words that closing uses: marks of pairs, one bit for each, column by column, and behind them a queue of the marked pairs, after `insert_closure_pair` of uncertainty.rs.
+#![tactic(auto)]
+
 ghost use Rattle.std.specs.Prelude.{false, ◌+◌, ◌≤◌, length};
 ghost use Rattle.refusal.specs.Bounds.{max_dimension};
 ghost use Rattle.pairs.specs.Pair.{pair_total};

@@ -1,5 +1,7 @@
 // The values of operators' rows from the entries of a selected inverse: each row with itself, the vector that `selected_inverse_transformed_diag` of
 // uncertainty.rs builds; and pairs of rows of two operators.
+#![tactic(auto)]
+
 pub mod cross_value;
 
 ghost use Rattle.std.specs.Prelude.{◌≡◌, ◌+◌, ◌<◌, length};

@@ -1,4 +1,6 @@
 // Where a pair of the lower triangle stands: its place among all pairs, row by row and column by column, and its word in the queue.
+#![tactic(auto)]
+
 pub mod positions;
 pub mod scratch;
 

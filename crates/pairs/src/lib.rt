@@ -1,1 +1,3 @@
+#![tactic(auto)]
+
 // Pairs of the lower triangle. No code.

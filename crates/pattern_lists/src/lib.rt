@@ -1,4 +1,6 @@
 // Pattern lists, after `SparseSymmetricPattern::from_cholesky_factor` and `from_transformed_operator` of uncertainty.rs.
+#![tactic(auto)]
+
 pub mod listed;
 pub mod listing;
 pub mod marking;

@@ -1,5 +1,7 @@
 // Permutations, after `Permutation` and `SparseCholeskyFactor::permute_factor_to_original` of types.rs. orig_to_perm[i] is the place of original index i in
 // factor order, perm_to_orig[k] the original index at place k.
+#![tactic(auto)]
+
 pub mod elements;
 pub mod inverse;
 pub mod order;

@@ -32,7 +32,7 @@ abbrev pub row_pair_value : List ℕ → List ℕ → List Float → List ℕ �
 row_pair_value aStarts aColumns aWeights bStarts bColumns bWeights Z i j =
     cross_value floats (term_column aColumns) (term_column bColumns) (value aWeights) (value bWeights) Z (start aStarts i) (start aStarts (i + 1)) (start bStarts j) (start bStarts (j + 1))
 
--- the values of row pairs: row aRows(p) of the one and row bRows(p) of the other
+-- the values of row pairs: row a_rows(p) of the one and row b_rows(p) of the other
 unfoldable pub row_pair_values : List ℕ → List ℕ → List Float → List ℕ → List ℕ → List Float → List ℕ → List ℕ → (ℕ → ℕ → Float) → List Float
 row_pair_values aStarts aColumns aWeights bStarts bColumns bWeights a_rows b_rows Z =
     tabulate (λ p. row_pair_value aStarts aColumns aWeights bStarts bColumns bWeights Z (get_or a_rows p 0) (get_or b_rows p 0)) (length a_rows)

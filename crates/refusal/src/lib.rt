@@ -1,6 +1,7 @@
 // The refusals of documents 01 and 02, and the answer of a call that has nothing else to say.
+#![tactic(auto)]
 
-// Why a call is refused; `refusalNumber` of specs/Refusal.antt gives the documents' number of each.
+// Why a call is refused; `refusal_number` of specs/Refusal.antt gives the documents' number of each.
 #[derive(Clone, Copy)]
 pub enum Refusal {
     TooLarge,

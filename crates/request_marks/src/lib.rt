@@ -1,4 +1,6 @@
 // The requests of each operation, marked as pairs.
+#![tactic(auto)]
+
 pub mod cross;
 pub mod diagonals;
 pub mod operator;

@@ -1,4 +1,6 @@
 // Reading requests from a Matrix Market file.
+#![tactic(auto)]
+
 ghost use Rattle.std.specs.Prelude.{◌≤◌, ◌≡◌, false, length};
 ghost use Rattle.requests_reader.specs.HeaderLines.{SizeRead};
 ghost use Rattle.requests_reader.specs.Reader.{RequestsRead};

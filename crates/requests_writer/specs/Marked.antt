@@ -1,6 +1,6 @@
 -- Requests as marks, one bit for each pair, column by column.
 -- Assumes nothing.
-use Rattle.std.specs.Prelude.{ℕ, ◌-◌, ◌≤◌, ◌<◌, ◌≡◌, Bool, List, eqb, length, get_or}
+use Rattle.std.specs.Prelude.{ℕ, ◌≤◌, ◌<◌, ◌≡◌, Bool, List, eqb, length, get_or}
 use Rattle.std.proofs.Common.{arith, ap₂, eqb-true, eq-eqb}
 use Rattle.lists.specs.Test.{any, same_truth}
 use Rattle.refusal.specs.Bounds.{max_dimension}

@@ -13,7 +13,7 @@ use Rattle.lists.specs.Cells.{cells, cell_count}
 use Rattle.refusal.specs.Steps.{answered, first, after, verdict, Passed}
 use Rattle.refusal.specs.declared.Refusal.TheVariants.{TooShort}
 use Rattle.bits.specs.Bits.{bit_words}
-use Rattle.pairs.specs.Pair.{pair_total, ordered}
+use Rattle.pairs.specs.Pair.{pair_total}
 use Rattle.closed_set.specs.Requests.{requested}
 use Rattle.matrix_market.specs.Text.{joined}
 use Rattle.matrix_market.specs.File.{dimension_of, file_rows, file_columns, file_steps, file_answer}

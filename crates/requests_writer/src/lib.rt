@@ -1,4 +1,6 @@
 // Writing requests as a Matrix Market file.
+#![tactic(auto)]
+
 pub mod checks;
 pub mod lines;
 pub mod marks;

@@ -1,1 +1,3 @@
+#![tactic(auto)]
+
 // The factor-pattern route over any arithmetic. No code.

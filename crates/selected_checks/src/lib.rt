@@ -1,4 +1,6 @@
 // The checks of selected entries, refusals 1 to 7 and 18; the lists lent for writing are judged by their lengths.
+#![tactic(auto)]
+
 pub mod requests;
 
 ghost use Rattle.std.specs.Prelude.{◌≡◌, ◌*◌, ◌≤◌, length};

@@ -1,1 +1,3 @@
+#![tactic(auto)]
+
 // What selected entries asks, refuses, answers and leaves. No code.

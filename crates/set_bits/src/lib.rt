@@ -1,4 +1,6 @@
 // Numbers whose bits are set in a list of words: how many they are, and the numbers themselves.
+#![tactic(auto)]
+
 pub mod count;
 pub mod word_numbers;
 pub mod zero_words;

@@ -1,5 +1,5 @@
 -- The steps of the variances along a track: what holds past them; 8 and 20 by the worst fault; the list of all runs. Assumes nothing.
-use Prim.Native.Nat.{ℕ, ◌+◌, ◌-◌, ◌≤◌, ◌<◌, min}
+use Prim.Native.Nat.{ℕ, ◌+◌, ◌≤◌, ◌<◌, min}
 use Rattle.std.proofs.Common.{arith, ap, ◌∙◌, ext_get_or}
 use Rattle.std.specs.Prelude.{◌≡◌, Bool, false, ltb, leb, get_or, ℤ, pos, nat_abs}
 use Rattle.std.proofs.Math.Path.{sym, ap₂}

@@ -1,4 +1,6 @@
 // The variance of each run of consecutive cells along a track, over a selected-inverse result of whole numbers.
+#![tactic(auto)]
+
 pub mod cells;
 pub mod checks;
 pub mod runs;

@@ -1,4 +1,6 @@
 // Verdicts: the first of two, one of an output's room, and the numbers of refusals.
+#![tactic(auto)]
+
 ghost use Rattle.std.specs.Prelude.{◌≡◌};
 ghost use Rattle.refusal.specs.Steps.{verdict};
 ghost use Rattle.refusal.specs.Bounds.{output_steps};

@@ -16,7 +16,7 @@ use Rattle.weight_bounds.specs.Bounds.{least_weight_product, greatest_weight_pro
 use Rattle.weight_ranges.specs.declared.VarianceBounds.{VarianceBounds}
 use Rattle.weight_ranges.specs.declared.VarianceBounds.TheVariants.{Bounds, Refused}
 
--- the entry at the columns of the places a and b of the row; the weight of place a lies from wholeValue lows a to wholeValue highs a
+-- the entry at the columns of the places a and b of the row; the weight of place a lies from whole_value lows a to whole_value highs a
 abbrev pub row_entry : List ℕ → List ℕ → List ℤ → List ℕ → ℕ → ℕ → ℤ
 row_entry starts rows values columns a b = entry_or_zero starts rows values (term_column columns a) (term_column columns b)
 

@@ -1,4 +1,6 @@
 // Bounds on the variance of a row whose weights are known within ranges, over a selected-inverse result of whole numbers.
+#![tactic(auto)]
+
 pub mod checks;
 pub mod range;
 pub mod sums;
@@ -12,7 +14,7 @@ use checks::check_call;
 use refusal::{Checked, Refusal};
 use sums::row_bounds;
 
-// The bounds, or why there are none; `boundsReply` of specs/Ranges.antt gives the number of a refusal.
+// The bounds, or why there are none; `bounds_reply` of specs/Ranges.antt gives the number of a refusal.
 #[derive(Clone, Copy)]
 pub enum VarianceBounds {
     Bounds(i64, i64),

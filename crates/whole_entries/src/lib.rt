@@ -1,4 +1,6 @@
 // Selected entries of the inverse of L.Lᵀ in whole numbers, for a factor with ones on its diagonal: exact, or refused where a size exceeds 2^53.
+#![tactic(auto)]
+
 pub mod checks;
 pub mod filling;
 

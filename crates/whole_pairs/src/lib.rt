@@ -1,4 +1,6 @@
 // Pairs of a well-formed result of whole numbers: the entry of a pair, and the faults of the pairs of listed cells.
+#![tactic(auto)]
+
 pub mod faults;
 
 ghost use Rattle.std.specs.Prelude.{◌≡◌, length};

@@ -1,6 +1,6 @@
 -- A sum of the recurrence over a column's stored entries in whole numbers, with the inverse's entries read by position.
 -- Assumes nothing.
-use Rattle.std.specs.Prelude.{ℕ, ◌+◌, ◌-◌, ◌≤◌, ◌<◌, ◌≡◌, true, List, map, length, ℤ, pos}
+use Rattle.std.specs.Prelude.{ℕ, ◌+◌, ◌≤◌, ◌<◌, ◌≡◌, true, List, map, length, ℤ, pos}
 use Rattle.lists.specs.Select.{one, select}
 use Rattle.refusal.specs.Bounds.{max_dimension}
 use Rattle.refusal.specs.Steps.{Reply}

@@ -1,5 +1,7 @@
 // Takahashi's recurrence in whole numbers over a closed set of pairs, columns from the last to the first, the rows of each from the last to the first, until
 // an entry, a product or a sum exceeds 2^53.
+#![tactic(auto)]
+
 pub mod column_sums;
 pub mod sums;
 

@@ -13,7 +13,7 @@ use pair_places::scratch::queue_start;
 use whole_steps::{is_beyond, is_nonzero, product, product_beyond, size, sum, whole_at};
 use words::at;
 
-// A whole number of at most 2^53 in size, or that there is none; `numberReply` of specs/Number.antt gives document 02's number for the latter.
+// A whole number of at most 2^53 in size, or that there is none; `number_reply` of specs/Number.antt gives document 02's number for the latter.
 #[derive(Clone, Copy)]
 pub enum Number {
     Value(i64),

@@ -1,4 +1,6 @@
 // Steps on signed 64-bit numbers that are whole numbers of the specification: a read, tests, the size, sums and products, and whether they are beyond 2^53.
+#![tactic(auto)]
+
 pub mod whole_lists;
 
 ghost use Rattle.std.specs.Prelude.{◌≡◌, ◌<◌, ◌^◌, ◌*◌, ltb, length, nat_abs, ◌+ℤ◌, ◌-ℤ◌, ◌*ℤ◌};

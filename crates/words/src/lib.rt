@@ -1,4 +1,6 @@
 // Lists of 32-bit words: a word as an index, and clearing.
+#![tactic(auto)]
+
 pub mod bit_words;
 pub mod index;
 pub mod order;

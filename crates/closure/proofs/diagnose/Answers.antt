@@ -1,4 +1,3 @@
-use borrow.Author.Rules.{rules}
 use Rattle.kept_entries.specs.KeptBy.{kept_at}
 use Rattle.closure.specs.Closure.{marked_set, marked_requested}
 use Rattle.closure.proofs.Diagnosis.{count_small, counts_diagnosis}

@@ -4,7 +4,6 @@ use Rattle.closure.specs.Covered.{stops_none}
 use native.Mathlib.Omega.{arith}
 use Prim.Native.Nat.{ℕ}
 use lib.ListN.{length-replicate, get_or-replicate}
-use borrow.Author.Rules.{rules}
 use Rattle.refusal.specs.Bounds.{max_dimension}
 use Rattle.closure.proofs.takahashi_dependency_closure.Goals as goal
 

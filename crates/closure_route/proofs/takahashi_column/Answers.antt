@@ -1,5 +1,4 @@
 use mathlib.Core.Path.{◌≡◌, refl, ◌∙◌}
-use borrow.Author.Rules.{rules}
 use Rattle.columns.specs.Form.{form_of, divisor}
 use Rattle.exact.specs.PivotCase.{step_below, step_on}
 use Rattle.entries.specs.Descendants.{told_solves}

@@ -1,10 +1,8 @@
-use Prim.Native.Nat.{ℕ, ◌≤◌, ◌-◌}
+use Prim.Native.Nat.{ℕ, ◌-◌}
 use native.Mathlib.Omega.{arith}
 use mathlib.Core.Path.{◌≡◌, refl, subst, ◌∙◌}
 use mathlib.Core.Bool.{Bool}
 use lib.Ieee.{Float}
-use lib.ListN.{length}
-use borrow.Author.Rules.{rules}
 use Rattle.pairs.specs.ColumnOrder.{column_marking}
 use Rattle.columns.specs.Form.{form_of}
 use Rattle.entries.specs.Entries.{form_table}

@@ -1,15 +1,10 @@
-use Prim.Native.Nat.{ℕ, ◌≤◌, ◌-◌}
-use native.Mathlib.Omega.{arith}
-use mathlib.Core.Path.{◌≡◌, refl, subst, ◌∙◌}
-use mathlib.Core.Bool.{Bool}
-use lib.Ieee.{Float}
+use Prim.Native.Nat.{◌≤◌, ◌-◌}
+use mathlib.Core.Path.{◌≡◌}
 use lib.ListN.{length}
-use borrow.Author.Rules.{rules}
 use Rattle.pairs.specs.ColumnOrder.{column_marking}
 use Rattle.columns.specs.Form.{form_of}
 use Rattle.entries.specs.Entries.{form_table}
 use Rattle.closure_route.specs.Route.{ColumnsSolved}
-use Rattle.closure_route.proofs.RouteLaws.{solved_none, solved_next, solved_all, column_next}
 use Rattle.closure_route.proofs.takahashi_selected_inverse_on_closure.Given as goal
 
 abbrev pub invariant-loop-j : goal.invariant-loop-j

@@ -1,4 +1,3 @@
-use borrow.Author.Rules.{rules}
 use Rattle.column_search.proofs.find_in_column.Goals as goal
 
 pub search_between-requires : goal.search_between-requires

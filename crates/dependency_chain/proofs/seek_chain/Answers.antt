@@ -1,4 +1,3 @@
-use borrow.Author.Rules.{rules}
 use native.Mathlib.Omega.{arith}
 use Rattle.pairs.specs.Scratch.{chain_words_levels}
 use Rattle.pairs.specs.ColumnOrder.{column_place_below}

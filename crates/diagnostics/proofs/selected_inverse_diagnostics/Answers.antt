@@ -1,5 +1,4 @@
 use Rattle.diagnostics.specs.Diagnosis.{diagnosis}
-use borrow.Author.Rules.{rules}
 use Rattle.diagnostics.proofs.selected_inverse_diagnostics.Goals as goal
 
 pub returns : goal.returns

@@ -1,5 +1,4 @@
 use Rattle.factor_route.proofs.RouteLaws.{route_starts, route_stored, route_first, route_walk, route_marked, route_step, route_unmark, route_column_lem}
-use borrow.Author.Rules.{rules}
 use Rattle.exact.specs.PivotCase.{step_below, step_on}
 use Rattle.entries.specs.Descendants.{told_table}
 use native.Mathlib.Omega.{arith}

@@ -1,6 +1,5 @@
 use Prim.Native.Nat.{◌-◌}
 use Rattle.file_lines.proofs.PlaceLaws.{field_at}
-use borrow.Author.Rules.{rules}
 use mathlib.Core.Path.{refl}
 use Rattle.file_lines.proofs.read_field.Goals as goal
 

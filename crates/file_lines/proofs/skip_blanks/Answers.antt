@@ -1,9 +1,7 @@
 use Prim.Native.Nat.{◌-◌}
-use Rattle.file_lines.proofs.PlaceLaws.{SkipLoop, skip_start, skip_more, skip_stop, skip_end}
-use Rattle.matrix_market.specs.Text.{is_blank}
+use Rattle.file_lines.proofs.PlaceLaws.{skip_start, skip_more, skip_stop, skip_end}
 use borrow.Author.Rules.{rules}
 use borrow.Author.Tests.{not-true, not-false}
-use lib.ListN.{length}
 use mathlib.Core.Path.{sym, ◌∙◌}
 use Rattle.std.proofs.Common.{ap}
 use Rattle.std.specs.Prelude.{not}

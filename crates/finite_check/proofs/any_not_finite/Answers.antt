@@ -1,5 +1,4 @@
 use mathlib.Core.Path.{◌∙◌}
-use borrow.Author.Rules.{rules}
 use Rattle.lists.specs.Test.{any_in_zero}
 use Rattle.finite_check.proofs.any_not_finite.Goals as goal
 

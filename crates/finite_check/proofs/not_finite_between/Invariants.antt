@@ -1,10 +1,6 @@
-use mathlib.Core.Bool.{not, or-true, or-false}
-use mathlib.Core.Logic.{⊎_elim}
-use mathlib.Core.Path.{◌≡◌, ap, sym, ◌∙◌}
-use native.Mathlib.Omega.{arith}
+use mathlib.Core.Path.{◌≡◌}
 use Prim.Native.Nat.{◌≤◌, ◌-◌}
-use borrow.Author.Rules.{rules}
-use Rattle.lists.specs.Test.{any_in, any_in_none, any_in_next}
+use Rattle.lists.specs.Test.{any_in}
 use Rattle.columns.specs.Kept.{not_finite}
 use Rattle.finite_check.proofs.not_finite_between.Given as goal
 

@@ -7,8 +7,6 @@ use Rattle.refusal.specs.Steps.{Step, Passed, answered, first_refused, first_pas
 use Rattle.lists.specs.Overwrite.{overwrite}
 use lib.Ieee.{Float}
 use mathlib.Core.List.{List}
-use borrow.Author.Rules.{rules}
-use Prim.Native.Nat.{◌-◌}
 use mathlib.Core.Path.{ap, sym, ◌∙◌}
 use lib.ListN.{length}
 use Rattle.floor.proofs.stabilize_variances.Goals as goal

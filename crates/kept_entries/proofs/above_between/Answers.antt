@@ -6,7 +6,6 @@ use mathlib.Core.Path.{◌≡◌, sym, ap, ◌∙◌}
 use native.Mathlib.Nat.{eq-or-lt_of_le}
 use native.Mathlib.Omega.{arith}
 use Prim.Native.Nat.{ℕ, ◌<◌}
-use borrow.Author.Rules.{rules}
 use lib.Dec.{ltb}
 use Rattle.lists.specs.Test.{any_in, any_in_none, any_in-hit, any_in_found, same_truth}
 use Rattle.columns.specs.Columns.{row}

@@ -1,7 +1,6 @@
 use native.Mathlib.Omega.{arith}
 use mathlib.Core.Path.{refl, ◌∙◌}
 use mathlib.Core.List.{[]}
-use borrow.Author.Rules.{rules}
 use Rattle.columns.specs.Kept.{nonzero}
 use Rattle.kept_entries.specs.KeptBy.{kept_at, kept_floats, factor_rows, factor_pairs_same}
 use Rattle.kept_entries.proofs.factor_pairs.Goals as goal

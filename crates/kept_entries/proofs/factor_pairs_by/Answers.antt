@@ -1,6 +1,5 @@
 use mathlib.Core.Path.{sym, ◌∙◌}
 use native.Mathlib.Omega.{arith}
-use borrow.Author.Rules.{rules}
 use Rattle.kept_entries.specs.Above.{factor_pairs_all}
 use Rattle.kept_entries.specs.KeptBy.{kept_at}
 use Rattle.kept_entries.proofs.factor_pairs_by.Goals as goal

@@ -1,9 +1,9 @@
 use mathlib.Core.Bool.{false}
 use mathlib.Core.Path.{◌≡◌, sym, ◌∙◌}
 use native.Mathlib.Omega.{arith}
-use Prim.Native.Nat.{◌≤◌, ◌-◌}
+use Prim.Native.Nat.{◌-◌}
 use borrow.Author.Rules.{rules}
-use Rattle.lists.specs.Test.{any, any_none, any_more, any-hit, any_less}
+use Rattle.lists.specs.Test.{any_none, any_more, any-hit, any_less}
 use Rattle.columns.specs.Factor.{factor_column}
 use Rattle.kept_entries.specs.Above.{has_above}
 use Rattle.kept_entries.proofs.has_above.Goals as goal

@@ -1,10 +1,7 @@
 use mathlib.Core.Bool.{false}
-use mathlib.Core.Path.{◌≡◌, sym, ◌∙◌}
-use native.Mathlib.Omega.{arith}
+use mathlib.Core.Path.{◌≡◌}
 use Prim.Native.Nat.{◌≤◌, ◌-◌}
-use borrow.Author.Rules.{rules}
-use Rattle.lists.specs.Test.{any, any_none, any_more, any-hit, any_less}
-use Rattle.columns.specs.Factor.{factor_column}
+use Rattle.lists.specs.Test.{any}
 use Rattle.kept_entries.specs.Above.{has_above}
 use Rattle.kept_entries.proofs.has_above.Given as goal
 

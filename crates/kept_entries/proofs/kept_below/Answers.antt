@@ -1,5 +1,4 @@
 use borrow.Author.Tests.{le-ltb, lt-ltb}
-use borrow.Author.Rules.{rules}
 use Rattle.kept_entries.proofs.kept_below.Goals as goal
 
 pub returns-then-at-c : goal.returns-then-at-c

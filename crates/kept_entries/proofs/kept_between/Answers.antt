@@ -4,7 +4,6 @@ use mathlib.Core.List.{List, []}
 use mathlib.Core.Path.{◌≡◌, sym, ◌∙◌}
 use native.Mathlib.Omega.{arith}
 use Prim.Native.Nat.{ℕ}
-use borrow.Author.Rules.{rules}
 use Rattle.lists.specs.Select.{select, select_none, select_join, select_gap, select_cong, tally}
 use Rattle.columns.specs.Kept.{kept}
 use Rattle.columns.specs.Factor.{Column, FirstFrom}

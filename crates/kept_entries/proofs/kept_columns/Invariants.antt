@@ -1,11 +1,7 @@
-use Rattle.columns.specs.Kept.{kept_count, factor_pairs, factor_pairs_none, factor_pairs_next}
-use Rattle.columns.specs.Factor.{factor_column, starts_end}
-use Rattle.lists.specs.Select.{tally_most}
-use borrow.Author.Rules.{rules}
-use native.Mathlib.Omega.{arith}
-use Prim.Native.Nat.{◌≤◌, ◌-◌, ◌+◌}
-use mathlib.Core.Path.{◌≡◌, ap, ap₂, sym, ◌∙◌}
-use lib.ListN.{length, get_or}
+use Rattle.columns.specs.Kept.{factor_pairs}
+use Prim.Native.Nat.{◌≤◌, ◌-◌}
+use mathlib.Core.Path.{◌≡◌}
+use lib.ListN.{get_or}
 use Rattle.kept_entries.specs.KeptBy.{kept_at}
 use Rattle.kept_entries.proofs.kept_columns.Given as goal
 

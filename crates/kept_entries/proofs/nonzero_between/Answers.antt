@@ -2,9 +2,8 @@ use Rattle.lists.specs.Select.{tally, tally_none, tally_next, tally_most}
 use Rattle.lists.specs.Sum.{bit}
 use borrow.Author.Rules.{rules}
 use native.Mathlib.Omega.{arith}
-use Prim.Native.Nat.{◌≤◌, ◌-◌}
+use Prim.Native.Nat.{◌-◌}
 use mathlib.Core.Path.{◌≡◌, ap, sym, ◌∙◌}
-use mathlib.Core.Logic.{⊎_elim}
 use Rattle.kept_entries.specs.KeptBy.{kept_at, lent_within}
 use Rattle.kept_entries.proofs.nonzero_between.Goals.{else-is_kept, then-is_kept}
 use Rattle.kept_entries.proofs.nonzero_between.Goals as goal

@@ -1,11 +1,7 @@
-use Rattle.lists.specs.Select.{tally, tally_none, tally_next, tally_most}
-use Rattle.lists.specs.Sum.{bit}
-use borrow.Author.Rules.{rules}
-use native.Mathlib.Omega.{arith}
+use Rattle.lists.specs.Select.{tally}
 use Prim.Native.Nat.{◌≤◌, ◌-◌}
-use mathlib.Core.Path.{◌≡◌, ap, sym, ◌∙◌}
-use mathlib.Core.Logic.{⊎_elim}
-use Rattle.kept_entries.specs.KeptBy.{kept_at, lent_within}
+use mathlib.Core.Path.{◌≡◌}
+use Rattle.kept_entries.specs.KeptBy.{kept_at}
 use Rattle.kept_entries.proofs.nonzero_between.Given as goal
 
 abbrev pub invariant-loop-p : goal.invariant-loop-p

@@ -1,7 +1,6 @@
 use native.Mathlib.Omega.{arith}
 use mathlib.Core.Path.{◌∙◌}
 use mathlib.Core.List.{[]}
-use borrow.Author.Rules.{rules}
 use Rattle.columns.specs.WholeFactor.{whole_nonzero}
 use Rattle.kept_entries.specs.KeptBy.{kept_at, kept_wholes, factor_rows, factor_pairs_same}
 use Rattle.kept_entries.proofs.whole_factor_pairs.Goals as goal

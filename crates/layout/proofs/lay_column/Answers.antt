@@ -1,5 +1,4 @@
 use native.Mathlib.Omega.{arith}
-use borrow.Author.Rules.{rules}
 use Rattle.pairs.specs.Pair.{pair_total_small}
 use Rattle.pairs.specs.ColumnOrder.{col_start_least, col_start_mono, col_start_total}
 use Rattle.layout.proofs.LayoutLaws.{column_bits, column_next, column_input, column_listed, column_positions, column_placed}

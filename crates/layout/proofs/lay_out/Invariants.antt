@@ -1,11 +1,8 @@
-use Prim.Native.Nat.{◌≤◌, ◌-◌, ◌+◌}
-use native.Mathlib.Omega.{arith}
-use mathlib.Core.Path.{◌≡◌, refl, sym, ◌∙◌}
-use lib.ListN.{length, length-set}
-use borrow.Author.Rules.{rules}
-use Rattle.pairs.specs.Pair.{max_pairs, pair_total_small}
-use Rattle.pairs.specs.ColumnOrder.{col_start, col_start_none, col_start_next, col_start_mono, col_start_total}
-use Rattle.layout.proofs.LayoutLaws.{ColumnsLaid, columns_none, placed_few, columns_room, columns_reached, columns_more, columns_end}
+use Prim.Native.Nat.{◌≤◌, ◌-◌}
+use mathlib.Core.Path.{◌≡◌}
+use lib.ListN.{length}
+use Rattle.pairs.specs.ColumnOrder.{col_start}
+use Rattle.layout.proofs.LayoutLaws.{ColumnsLaid}
 use Rattle.layout.proofs.lay_out.Given as goal
 
 abbrev pub invariant-loop-c : goal.invariant-loop-c

@@ -1,10 +1,5 @@
-use Prim.Native.Nat.{ℕ, ◌≤◌, ◌<◌, ◌-◌, ◌+◌}
-use native.Mathlib.Omega.{arith}
-use mathlib.Core.Path.{◌≡◌, subst}
-use lib.ListN.{length}
-use borrow.Author.Rules.{rules}
+use Prim.Native.Nat.{◌≤◌, ◌-◌}
 use Rattle.layout.specs.Layout.{PositionsLaid}
-use Rattle.layout.proofs.LayoutLaws.{positions_none, positions_more}
 use Rattle.layout.proofs.lay_positions.Given as goal
 
 abbrev pub invariant-loop-q : goal.invariant-loop-q

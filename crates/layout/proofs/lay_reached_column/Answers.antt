@@ -1,5 +1,4 @@
 use native.Mathlib.Omega.{arith}
-use borrow.Author.Rules.{rules}
 use Rattle.layout.proofs.LayoutLaws.{column_unreached}
 use Rattle.layout.proofs.lay_reached_column.Goals as goal
 

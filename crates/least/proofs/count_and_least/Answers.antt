@@ -5,7 +5,7 @@ use Rattle.least.specs.Least.{negative, least_of, least_of_none, least_of_next}
 use Rattle.lists.specs.Select.{tally, tally_none, tally_next, tally_most}
 use borrow.Author.Rules.{rules}
 use native.Mathlib.Omega.{arith}
-use Prim.Native.Nat.{◌≤◌, ◌-◌}
+use Prim.Native.Nat.{◌-◌}
 use mathlib.Core.Path.{◌≡◌, ap, sym, ◌∙◌}
 use lib.ListN.{length}
 use Rattle.least.proofs.count_and_least.Goals as goal

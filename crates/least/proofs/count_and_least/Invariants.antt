@@ -1,12 +1,7 @@
-use Rattle.least.specs.Least.{count_and_least_none, count_and_least_some}
-use Rattle.lists.specs.Sum.{bit_most}
-use lib.Ieee.{of_bits, nan_bits}
-use Rattle.least.specs.Least.{negative, least_of, least_of_none, least_of_next}
-use Rattle.lists.specs.Select.{tally, tally_none, tally_next, tally_most}
-use borrow.Author.Rules.{rules}
-use native.Mathlib.Omega.{arith}
+use Rattle.least.specs.Least.{negative, least_of}
+use Rattle.lists.specs.Select.{tally}
 use Prim.Native.Nat.{◌≤◌, ◌-◌}
-use mathlib.Core.Path.{◌≡◌, ap, sym, ◌∙◌}
+use mathlib.Core.Path.{◌≡◌}
 use lib.ListN.{length}
 use Rattle.least.proofs.count_and_least.Given as goal
 

@@ -1,4 +1,3 @@
-use borrow.Author.Rules.{rules}
 use Rattle.pairs.specs.Pair.{ordered_turned}
 use Rattle.levels.specs.Levels.{raised_cong}
 use Rattle.levels.proofs.insert_level.Goals as goal

@@ -1,7 +1,6 @@
 use Prim.Native.Nat.{ℕ}
 use native.Mathlib.Omega.{arith}
 use mathlib.Core.Path.{ap, ◌∙◌}
-use borrow.Author.Rules.{rules}
 use Rattle.lists.specs.Overwrite.{cleared}
 use Rattle.pairs.specs.Scratch.{queue_start_words}
 use Rattle.marked_pairs.proofs.InsertLaws.{pairs_none}

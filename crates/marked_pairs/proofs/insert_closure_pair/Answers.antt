@@ -1,5 +1,4 @@
 use Rattle.marked_pairs.proofs.InsertLaws.{inserted_turned}
-use borrow.Author.Rules.{rules}
 use Rattle.marked_pairs.proofs.insert_closure_pair.Goals as goal
 
 pub returns-then-a-b : goal.returns-then-a-b

@@ -4,7 +4,6 @@ use Rattle.bits.specs.Bits.{bit_at}
 use Rattle.marked_pairs.specs.MarkedPairs.{Inserted}
 use Rattle.marked_pairs.proofs.InsertLaws.{place_word, insert_old, insert_new, end_room}
 use mathlib.Core.List.{List}
-use borrow.Author.Rules.{rules}
 use native.Mathlib.Omega.{arith}
 use Prim.Native.Nat.{ℕ, ◌<◌, ◌-◌, ◌+◌, ◌/◌}
 use mathlib.Core.Path.{ap, sym, subst₂, ◌∙◌}

@@ -1,6 +1,5 @@
 use Rattle.columns.specs.Columns.{bound_steps}
 use Rattle.refusal.specs.Steps.{verdict}
-use borrow.Author.Rules.{rules}
 use Prim.Native.Nat.{ℕ}
 use mathlib.Core.Path.{ap, ◌∙◌}
 use lib.ListN.{length}

@@ -1,5 +1,4 @@
 use native.Mathlib.Omega.{arith}
-use borrow.Author.Rules.{rules}
 use Rattle.refusal.specs.Bounds.{max_dimension}
 use Rattle.pairs.specs.Pair.{product_small, pair_total-half, pair_total_small}
 use Rattle.pair_places.proofs.pair_total.Goals as goal

@@ -2,7 +2,6 @@ use Prim.Native.Nat.{◌≤◌}
 use mathlib.Core.List.{List}
 use mathlib.Core.Path.{◌≡◌, sym, ap, ◌∙◌}
 use lib.ListN.{length}
-use borrow.Author.Rules.{rules}
 use Rattle.refusal.specs.Steps.{Step, Passed}
 use Rattle.refusal.specs.Refusal.{reply_of}
 use Rattle.factor_order.specs.Permutation.{marked_steps, Permutation}

@@ -1,4 +1,3 @@
-use borrow.Author.Rules.{rules}
 use Rattle.columns.specs.Columns.{factor_lists}
 use Rattle.columns.specs.Diagonal.{diagonal_steps}
 use Rattle.selection.specs.Selection.{room, room_steps}

@@ -1,4 +1,3 @@
-use borrow.Author.Rules.{rules}
 use Rattle.set_bits.proofs.BitsLaws.{word_inside, list_room, list_rest, list_all}
 use Rattle.set_bits.proofs.list_bits.Goals as goal
 

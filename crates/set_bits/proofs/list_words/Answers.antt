@@ -1,7 +1,6 @@
 use Prim.Native.Nat.{◌<◌, ◌-◌}
 use native.Mathlib.Omega.{arith}
-use mathlib.Core.Path.{◌≡◌, refl, ◌∙◌}
-use lib.ListN.{length}
+use mathlib.Core.Path.{refl, ◌∙◌}
 use borrow.Author.Rules.{rules}
 use Rattle.set_bits.proofs.BitsLaws.{WordsPart, words_none, words_end, words_skip, word_low, words_low, words_room, words_more}
 use Rattle.set_bits.proofs.list_words.Goals as goal

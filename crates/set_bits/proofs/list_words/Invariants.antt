@@ -1,9 +1,7 @@
-use Prim.Native.Nat.{◌<◌, ◌-◌}
-use native.Mathlib.Omega.{arith}
-use mathlib.Core.Path.{◌≡◌, refl, ◌∙◌}
+use Prim.Native.Nat.{◌-◌}
+use mathlib.Core.Path.{◌≡◌}
 use lib.ListN.{length}
-use borrow.Author.Rules.{rules}
-use Rattle.set_bits.proofs.BitsLaws.{WordsPart, words_none, words_end, words_skip, word_low, words_low, words_room, words_more}
+use Rattle.set_bits.proofs.BitsLaws.{WordsPart}
 use Rattle.set_bits.proofs.list_words.Given as goal
 
 abbrev pub invariant-loop-w : goal.invariant-loop-w

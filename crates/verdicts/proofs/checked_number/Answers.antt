@@ -1,5 +1,4 @@
 use mathlib.Core.Path.{ap, sym, ◌∙◌}
-use borrow.Author.Rules.{rules}
 use Rattle.verdicts.specs.Number.{checked_number}
 use Rattle.verdicts.proofs.checked_number.Goals as goal
 

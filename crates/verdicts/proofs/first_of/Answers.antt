@@ -1,5 +1,4 @@
 use mathlib.Core.Path.{sym, ap}
-use borrow.Author.Rules.{rules}
 use Rattle.refusal.specs.Refusal.{reply_of}
 use Rattle.refusal.specs.declared.Checked.{Checked}
 use Rattle.refusal.specs.FirstOf.{or_else}

@@ -1,5 +1,4 @@
 use Rattle.refusal.specs.Refusal.{refusal_number}
-use borrow.Author.Rules.{rules}
 use mathlib.Core.Path.{ap, sym}
 use Rattle.verdicts.proofs.refusal_number.Goals as goal
 

@@ -3,7 +3,6 @@ use native.Mathlib.Omega.{arith}
 use native.Mathlib.Nat.{mul-le-mul, mul_comm, zero-mul, div-lt_iff_lt-mul}
 use mathlib.Core.Path.{◌≡◌, sym, ap, subst, ◌∙◌}
 use lib.Dec.{ltb}
-use borrow.Author.Rules.{rules}
 use borrow.Author.Tests.{le-ltb, lt-ltb, ltb-true}
 use Rattle.lists.specs.Test.{same_truth}
 use Rattle.whole_steps.proofs.product_beyond.Goals as goal

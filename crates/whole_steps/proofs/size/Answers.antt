@@ -8,7 +8,6 @@ use lib.Signed.{mag, lt_z, non_neg}
 use mir.Syntax.{w64}
 use mir.Val.{Fits, SFits, to_z, of_z}
 use mir.ValLaws.{to_z-of_z}
-use borrow.Author.Rules.{rules}
 use Rattle.integers.specs.Size.{below_zero, not_below_zero}
 use Rattle.whole_steps.proofs.size.Goals as goal
 

@@ -1,18 +1,16 @@
 use mathlib.Core.Bool.{true}
-use Rattle.closure.proofs.QueueLaws.{QueueLoop, QueueColumn, ready_none, ready_skip, ready_next, column_done, column_serving}
+use Rattle.closure.proofs.QueueLaws.{ready_none, ready_skip, ready_next, column_done, column_serving}
 use Rattle.closure.proofs.QueueLaws.{serving_more, head_words, head_pairs, word_starts, word_inside, word_end, word_most}
 use Rattle.closure.proofs.QueueLaws.{column_none, column_skip, column_more, entry_rows_lem, entry_insert, finished, finished_past, above_dropped, zero_dropped, entry_kept}
-use Rattle.pairs.specs.Pair.{pair_total}
 use Rattle.pairs.specs.Scratch.{column_of}
 use Rattle.marked_pairs.specs.MarkedPairs.{queue_word}
 use Rattle.columns.specs.Kept.{kept_below}
 use Rattle.kept_entries.specs.KeptBy.{kept_at, lent_within}
 use Rattle.columns.specs.Columns.{start}
-use Rattle.closure.specs.Nested.{Stops}
 use borrow.Author.Rules.{rules}
 use borrow.Author.Tests.{not-true, not-false}
 use native.Mathlib.Omega.{arith}
-use Prim.Native.Nat.{ℕ, ◌≤◌, ◌<◌, ◌-◌, ◌+◌}
+use Prim.Native.Nat.{ℕ, ◌<◌, ◌-◌, ◌+◌}
 use mathlib.Core.Path.{◌≡◌, refl, sym, ap, ◌∙◌}
 use lib.ListN.{length, get_or}
 use Rattle.std.specs.Prelude.{not}

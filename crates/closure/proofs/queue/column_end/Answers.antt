@@ -1,5 +1,4 @@
 use mathlib.Core.Logic.{inl, inr}
-use borrow.Author.Rules.{rules}
 use native.Mathlib.Omega.{arith}
 use Prim.Native.Nat.{◌-◌}
 use mathlib.Core.Path.{refl}

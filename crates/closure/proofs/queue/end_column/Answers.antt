@@ -2,7 +2,6 @@ use Prim.Native.Nat.{◌+◌, ◌-◌, ◌≤◌, ◌<◌}
 use native.Mathlib.Omega.{arith}
 use mathlib.Core.Logic.{inl, inr}
 use mathlib.Core.Path.{refl}
-use borrow.Author.Rules.{rules}
 use Rattle.pairs.specs.Pair.{max_pairs, pair_total_small}
 use Rattle.columns.specs.Columns.{start}
 use Rattle.marked_pairs.specs.MarkedPairs.{count_most}

@@ -1,4 +1,3 @@
-use borrow.Author.Rules.{rules}
 use Rattle.closure.proofs.stops.covered.Goals as goal
 
 pub returns-then-covered_in_order : goal.returns-then-covered_in_order

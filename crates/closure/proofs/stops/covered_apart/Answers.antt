@@ -2,7 +2,7 @@ use Rattle.kept_entries.specs.KeptBy.{kept_at}
 use Rattle.closure.specs.Covered.{Covered, covered_none, covered_more}
 use borrow.Author.Rules.{rules}
 use native.Mathlib.Omega.{arith}
-use Prim.Native.Nat.{ℕ, ◌≤◌, ◌-◌}
+use Prim.Native.Nat.{ℕ, ◌-◌}
 use mathlib.Core.Path.{◌≡◌, subst}
 use mathlib.Core.Bool.{false≢true}
 use Rattle.closure.proofs.stops.covered_apart.Goals as goal

@@ -1,10 +1,6 @@
 use Rattle.kept_entries.specs.KeptBy.{kept_at}
-use Rattle.closure.specs.Covered.{Covered, covered_none, covered_more}
-use borrow.Author.Rules.{rules}
-use native.Mathlib.Omega.{arith}
-use Prim.Native.Nat.{ℕ, ◌≤◌, ◌-◌}
-use mathlib.Core.Path.{◌≡◌, subst}
-use mathlib.Core.Bool.{false≢true}
+use Rattle.closure.specs.Covered.{Covered}
+use Prim.Native.Nat.{◌≤◌, ◌-◌}
 use Rattle.closure.proofs.stops.covered_apart.Given as goal
 
 abbrev pub invariant-loop-i : goal.invariant-loop-i

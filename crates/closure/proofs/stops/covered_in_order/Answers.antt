@@ -3,7 +3,6 @@ use native.Mathlib.Omega.{arith}
 use mathlib.Core.Path.{◌≡◌, refl, sym, ap, ◌∙◌}
 use mathlib.Core.Bool.{Bool, true, false, false≢true}
 use borrow.Author.Tests.{eqb-true}
-use borrow.Author.Rules.{rules}
 use Rattle.lists.specs.Sum.{bit}
 use Rattle.lists.specs.Select.{tally, tally_join, tally_next, tally_most}
 use Rattle.kept_entries.specs.KeptBy.{kept_at}

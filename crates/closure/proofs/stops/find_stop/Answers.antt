@@ -2,7 +2,6 @@ use mathlib.Core.Path.{subst, sym, refl}
 use Rattle.kept_entries.specs.KeptBy.{kept_at}
 use Rattle.closure.specs.Nested.{Stop}
 use Rattle.closure.specs.Covered.{stop_found, stop_one}
-use borrow.Author.Rules.{rules}
 use native.Mathlib.Omega.{arith}
 use Prim.Native.Nat.{ℕ, ◌+◌}
 use Rattle.closure.proofs.stops.find_stop.Goals as goal

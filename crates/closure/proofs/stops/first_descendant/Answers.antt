@@ -1,11 +1,10 @@
 use mathlib.Core.Bool.{false}
-use Rattle.lists.specs.Test.{any_in, any_in_none, any_in_more}
-use Rattle.columns.specs.Kept.{kept_below}
-use Rattle.kept_entries.specs.KeptBy.{kept_at, lent_within}
+use Rattle.lists.specs.Test.{any_in_none, any_in_more}
+use Rattle.kept_entries.specs.KeptBy.{lent_within}
 use borrow.Author.Rules.{rules}
 use native.Mathlib.Omega.{arith}
-use Prim.Native.Nat.{◌≤◌, ◌-◌}
-use mathlib.Core.Path.{◌≡◌, sym, ◌∙◌}
+use Prim.Native.Nat.{◌-◌}
+use mathlib.Core.Path.{sym, ◌∙◌}
 use Rattle.closure.proofs.stops.first_descendant.Goals as goal
 
 pub loop-q-init : goal.loop-q-init

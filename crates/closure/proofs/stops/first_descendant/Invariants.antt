@@ -1,11 +1,9 @@
 use mathlib.Core.Bool.{false}
-use Rattle.lists.specs.Test.{any_in, any_in_none, any_in_more}
+use Rattle.lists.specs.Test.{any_in}
 use Rattle.columns.specs.Kept.{kept_below}
-use Rattle.kept_entries.specs.KeptBy.{kept_at, lent_within}
-use borrow.Author.Rules.{rules}
-use native.Mathlib.Omega.{arith}
+use Rattle.kept_entries.specs.KeptBy.{kept_at}
 use Prim.Native.Nat.{◌≤◌, ◌-◌}
-use mathlib.Core.Path.{◌≡◌, sym, ◌∙◌}
+use mathlib.Core.Path.{◌≡◌}
 use Rattle.closure.proofs.stops.first_descendant.Given as goal
 
 abbrev pub invariant-loop-q : goal.invariant-loop-q

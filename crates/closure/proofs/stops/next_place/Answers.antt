@@ -1,14 +1,8 @@
 use borrow.Author.Tests.{not-true}
 use Rattle.closure.specs.Covered.{place_zero, place_none}
-use borrow.Author.Rules.{rules}
 use native.Mathlib.Omega.{arith}
 use Rattle.kept_entries.specs.KeptBy.{lent_within}
 use mathlib.Core.Path.{sym, ◌∙◌}
-use Rattle.closure.proofs.stops.next_place.Reads as reads
-use Rattle.closure.proofs.stops.next_place.Lts as lts
-use Rattle.kept_entries.proofs.diagonal.first_from.Reads as first-from-reads
-use Rattle.kept_entries.proofs.kept_by.is_kept.Reads as is-kept-reads
-use Rattle.words.proofs.at.Reads as at_reads
 use Rattle.std.proofs.Common.{ap}
 use Rattle.std.specs.Prelude.{not}
 use Rattle.closure.proofs.stops.next_place.Goals as goal

@@ -2,7 +2,6 @@ use native.Mathlib.Omega.{arith}
 use Prim.Native.Nat.{ℕ}
 use mathlib.Core.List.{[]}
 use lib.ListN.{length-replicate, get_or-replicate}
-use borrow.Author.Rules.{rules}
 use Rattle.refusal.specs.Bounds.{max_dimension}
 use Rattle.kept_entries.specs.KeptBy.{kept_at}
 use Rattle.closure.specs.Closure.{closure_rows}

@@ -1,5 +1,4 @@
 use mathlib.Core.List.{[]}
-use borrow.Author.Rules.{rules}
 use Rattle.kept_entries.specs.KeptBy.{kept_at}
 use Rattle.closure.specs.Closure.{marked_set, marked_requested, diagnoses_wholes}
 use Rattle.closure.proofs.Diagnosis.{count_small, counts_diagnosis}

@@ -1,9 +1,8 @@
-use Prim.Native.Nat.{ℕ, ◌≤◌, ◌-◌}
+use Prim.Native.Nat.{ℕ, ◌-◌}
 use native.Mathlib.Omega.{arith}
 use mathlib.Core.Path.{◌≡◌, refl, ap, subst, ◌∙◌}
 use lib.ListN.{length, get_or, length-set}
 use lib.Ieee.{nan}
-use borrow.Author.Rules.{rules}
 use Rattle.exact.specs.PivotCase.{step_below}
 use Rattle.closure_route.specs.Part.{PartSet}
 use Rattle.closure_route.proofs.PartLaws.{part_none, part_more}

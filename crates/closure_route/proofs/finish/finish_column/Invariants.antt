@@ -1,13 +1,9 @@
-use Prim.Native.Nat.{ℕ, ◌≤◌, ◌-◌}
-use native.Mathlib.Omega.{arith}
-use mathlib.Core.Path.{◌≡◌, refl, ap, subst, ◌∙◌}
-use lib.ListN.{length, get_or, length-set}
+use Prim.Native.Nat.{◌≤◌, ◌-◌}
+use mathlib.Core.Path.{◌≡◌}
+use lib.ListN.{length, get_or}
 use lib.Ieee.{nan}
-use borrow.Author.Rules.{rules}
 use Rattle.exact.specs.PivotCase.{step_below}
 use Rattle.closure_route.specs.Part.{PartSet}
-use Rattle.closure_route.proofs.PartLaws.{part_none, part_more}
-use Rattle.closure_route.proofs.FinishLaws.{sums_finished}
 use Rattle.closure_route.proofs.finish.finish_column.Given as goal
 
 abbrev pub invariant-loop-q : goal.invariant-loop-q

@@ -3,7 +3,6 @@ use native.Mathlib.Omega.{arith}
 use mathlib.Core.Path.{◌≡◌}
 use lib.ListN.{length, take, drop, length-drop}
 use lib.Seq.{length-take-le}
-use borrow.Author.Rules.{rules}
 use Rattle.exact.specs.PivotCase.{step_below}
 use Rattle.closure_route.proofs.FinishLaws.{part-finished}
 use Rattle.closure_route.proofs.finish.finish_part.Goals as goal

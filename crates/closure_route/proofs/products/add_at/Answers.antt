@@ -1,7 +1,6 @@
 use Prim.Native.Nat.{ℕ}
 use mathlib.Core.Path.{ap}
 use lib.ListN.{set}
-use borrow.Author.Rules.{rules}
 use Rattle.closure_route.specs.Products.{with_term}
 use Rattle.closure_route.proofs.products.add_at.Goals as goal
 

@@ -2,7 +2,6 @@ use Prim.Native.Nat.{ℕ, ◌+◌, ◌<◌}
 use native.Mathlib.Omega.{arith}
 use mathlib.Core.Path.{◌≡◌, ap, ◌∙◌}
 use lib.ListN.{length, get_or}
-use borrow.Author.Rules.{rules}
 use Rattle.closure_route.specs.Run.{row_positions}
 use Rattle.closure_route.proofs.ProductLaws.{column_rows_lem, rows_column, column_rises, column_run, run_column}
 use Rattle.closure_route.proofs.products.add_column.Goals as goal

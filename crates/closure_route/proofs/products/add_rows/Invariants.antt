@@ -1,13 +1,6 @@
-use borrow.Author.Rules.{rules}
-use native.Mathlib.Omega.{arith}
-use Prim.Native.Nat.{ℕ, ◌≤◌, ◌-◌, ◌+◌}
-use mathlib.Core.Path.{◌≡◌, ap, subst}
-use lib.ListN.{get_or}
-use Rattle.columns.specs.Columns.{row}
+use Prim.Native.Nat.{◌≤◌, ◌-◌}
 use Rattle.closure_route.specs.Part.{PartSet}
-use Rattle.closure_route.proofs.PartLaws.{part_none}
 use Rattle.closure_route.specs.Products.{row_terms}
-use Rattle.closure_route.proofs.ProductLaws.{product_more}
 use Rattle.closure_route.proofs.products.add_rows.Given as goal
 
 abbrev pub invariant-loop-q : goal.invariant-loop-q

@@ -1,11 +1,7 @@
-use borrow.Author.Rules.{rules}
-use native.Mathlib.Omega.{arith}
-use Prim.Native.Nat.{ℕ, ◌≤◌, ◌-◌, ◌+◌}
-use mathlib.Core.Path.{◌≡◌, subst}
+use Prim.Native.Nat.{◌≤◌, ◌-◌, ◌+◌}
+use mathlib.Core.Path.{◌≡◌}
 use Rattle.closure_route.specs.Part.{PartSet}
-use Rattle.closure_route.proofs.PartLaws.{part_none}
 use Rattle.closure_route.specs.Products.{run_terms}
-use Rattle.closure_route.proofs.ProductLaws.{product_more}
 use Rattle.closure_route.proofs.products.add_run.Given as goal
 
 abbrev pub invariant-loop-q : goal.invariant-loop-q

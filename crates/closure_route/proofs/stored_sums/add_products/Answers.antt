@@ -1,11 +1,9 @@
-use Prim.Native.Nat.{ℕ, ◌≤◌, ◌-◌}
+use Prim.Native.Nat.{ℕ, ◌-◌}
 use native.Mathlib.Omega.{arith}
 use mathlib.Core.Path.{◌≡◌, refl, subst, ◌∙◌}
-use lib.ListN.{length}
-use borrow.Author.Rules.{rules}
 use Rattle.closure_route.specs.Column.{SumColumn, sum_column}
 use Rattle.closure_route.specs.Lower.{ProductsAdded}
-use Rattle.closure_route.proofs.LowerLaws.{RowsBefore, stored_input, products_none, before_more, products_more}
+use Rattle.closure_route.proofs.LowerLaws.{stored_input, products_none, before_more, products_more}
 use Rattle.closure_route.proofs.stored_sums.add_products.Goals as goal
 
 -- the column

@@ -1,11 +1,9 @@
-use Prim.Native.Nat.{ℕ, ◌≤◌, ◌-◌}
-use native.Mathlib.Omega.{arith}
-use mathlib.Core.Path.{◌≡◌, refl, subst, ◌∙◌}
+use Prim.Native.Nat.{◌≤◌, ◌-◌}
+use mathlib.Core.Path.{◌≡◌}
 use lib.ListN.{length}
-use borrow.Author.Rules.{rules}
-use Rattle.closure_route.specs.Column.{SumColumn, sum_column}
+use Rattle.closure_route.specs.Column.{sum_column}
 use Rattle.closure_route.specs.Lower.{ProductsAdded}
-use Rattle.closure_route.proofs.LowerLaws.{RowsBefore, stored_input, products_none, before_more, products_more}
+use Rattle.closure_route.proofs.LowerLaws.{RowsBefore}
 use Rattle.closure_route.proofs.stored_sums.add_products.Given as goal
 
 abbrev pub invariant-loop-p : goal.invariant-loop-p

@@ -1,11 +1,9 @@
-use Prim.Native.Nat.{ℕ, ◌≤◌, ◌-◌}
+use Prim.Native.Nat.{ℕ, ◌-◌}
 use native.Mathlib.Omega.{arith}
 use mathlib.Core.Path.{◌≡◌, refl, subst, ◌∙◌}
-use lib.ListN.{length}
-use borrow.Author.Rules.{rules}
 use Rattle.closure_route.specs.Column.{SumColumn, sum_column}
 use Rattle.closure_route.specs.Upper.{RestsAdded}
-use Rattle.closure_route.proofs.UpperLaws.{RowsReached, rest_input, rests_none, reached_more, rests_more}
+use Rattle.closure_route.proofs.UpperLaws.{rest_input, rests_none, reached_more, rests_more}
 use Rattle.closure_route.proofs.stored_sums.add_rests.Goals as goal
 
 -- the column

@@ -1,11 +1,7 @@
-use Prim.Native.Nat.{ℕ, ◌≤◌, ◌-◌}
-use native.Mathlib.Omega.{arith}
-use mathlib.Core.Path.{◌≡◌, refl, subst, ◌∙◌}
-use lib.ListN.{length, length-set}
-use borrow.Author.Rules.{rules}
-use Rattle.columns.specs.Kept.{f0}
+use Prim.Native.Nat.{◌≤◌, ◌-◌}
+use mathlib.Core.Path.{◌≡◌}
+use lib.ListN.{length}
 use Rattle.closure_route.specs.Part.{PartSet, zeros}
-use Rattle.closure_route.proofs.PartLaws.{part_none, part_more}
 use Rattle.closure_route.proofs.stored_sums.clear_part.Given as goal
 
 abbrev pub invariant-loop-q : goal.invariant-loop-q

@@ -1,4 +1,3 @@
-use borrow.Author.Rules.{rules}
 use Rattle.closure_route.proofs.StoredLaws.{greater_none, greater_last}
 use Rattle.closure_route.proofs.stored_sums.has_greater.Goals as goal
 

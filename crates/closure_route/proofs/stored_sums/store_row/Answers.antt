@@ -2,7 +2,6 @@ use native.Mathlib.Omega.{arith}
 use Prim.Native.Nat.{ℕ, ◌+◌}
 use mathlib.Core.Path.{refl, sym, ap, subst, ◌∙◌}
 use lib.ListN.{length}
-use borrow.Author.Rules.{rules}
 use Rattle.closure_route.specs.Column.{SumColumn, sum_column, terms_of}
 use Rattle.closure_route.specs.Sums.{entry_sum, SumInput}
 use Rattle.closure_route.proofs.StoredLaws.{one_stored}

@@ -1,6 +1,5 @@
 use Prim.Native.Nat.{ℕ, ◌+◌}
 use mathlib.Core.Path.{sym, ap, ◌∙◌}
-use borrow.Author.Rules.{rules}
 use Rattle.lists.specs.Test.{any_in}
 use Rattle.columns.specs.Columns.{outside_at}
 use Rattle.closure_route.proofs.UpperLaws.{rests_idle, sums_stored}

@@ -2,7 +2,6 @@ use native.Mathlib.Omega.{arith}
 use Prim.Native.Nat.{ℕ}
 use mathlib.Core.Path.{subst, sym}
 use lib.ListN.{length}
-use borrow.Author.Rules.{rules}
 use Rattle.closure_route.specs.Column.{SumColumn, sum_column}
 use Rattle.closure_route.specs.Stored.{SumsInput, SumsStored}
 use Rattle.closure_route.proofs.StoredLaws.{column_from, from_sums, from_stored, none_stored}

@@ -4,7 +4,6 @@ use mathlib.Core.Path.{◌≡◌, sym, ap, subst, ◌∙◌}
 use mathlib.Core.Bool.{true}
 use lib.ListN.{length, get_or}
 use lib.Ieee.{Float, binary64, nan, add, mul}
-use borrow.Author.Rules.{rules}
 use Rattle.columns.specs.Columns.{row, value}
 use Rattle.columns.specs.Kept.{nonzero, kept_below}
 use Rattle.pair_places.specs.Position.{PairEntryInput}

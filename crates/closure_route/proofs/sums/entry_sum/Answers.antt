@@ -1,4 +1,3 @@
-use borrow.Author.Rules.{rules}
 use native.Mathlib.Omega.{arith}
 use Rattle.closure_route.specs.Sums.{sum_between_none}
 use Rattle.closure_route.proofs.sums.entry_sum.Goals as goal

@@ -1,10 +1,9 @@
 use mathlib.Core.Bool.{Bool, ◌||◌, or-false}
-use mathlib.Core.Logic.{⊎_elim}
 use Rattle.lists.specs.Test.{any_in, any_in_none, any_in_next, or_right}
 use Rattle.closure_route.specs.Rest.{zero_at}
 use borrow.Author.Rules.{rules}
 use native.Mathlib.Omega.{arith}
-use Prim.Native.Nat.{◌≤◌, ◌-◌}
+use Prim.Native.Nat.{◌-◌}
 use mathlib.Core.Path.{◌≡◌, sym, ap, ◌∙◌}
 use Rattle.closure_route.proofs.sums.has_zero.Goals.{else-values-p, then-values-p}
 use Rattle.closure_route.proofs.sums.has_zero.Goals as goal

@@ -1,8 +1,7 @@
-use Prim.Native.Nat.{ℕ, ◌≤◌, ◌-◌}
+use Prim.Native.Nat.{ℕ, ◌-◌}
 use native.Mathlib.Omega.{arith}
 use mathlib.Core.Path.{◌≡◌, sym, ap, subst, ◌∙◌}
 use lib.Ieee.{Float, nan}
-use borrow.Author.Rules.{rules}
 use Rattle.pair_places.specs.Position.{shift_fits}
 use Rattle.closure_route.specs.Column.{SumTerms, sum_terms}
 use Rattle.closure_route.specs.Sums.{inverse_at, SumContinued, with_product, sum_between_next}

@@ -3,7 +3,7 @@ use Rattle.closure_route.specs.Run.{row_positions}
 use Rattle.closure_route.specs.Rest.{ProductsSummed}
 use borrow.Author.Rules.{rules}
 use native.Mathlib.Omega.{arith}
-use Prim.Native.Nat.{ℕ, ◌+◌, ◌≤◌, ◌<◌, ◌-◌}
+use Prim.Native.Nat.{ℕ, ◌+◌, ◌<◌, ◌-◌}
 use mathlib.Core.Path.{◌≡◌, ap, ap₂, subst, ◌∙◌}
 use lib.ListN.{length, get_or}
 use lib.Ieee.{Float, binary64, nan, add, mul}

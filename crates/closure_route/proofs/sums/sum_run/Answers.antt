@@ -2,7 +2,7 @@ use Rattle.columns.specs.Columns.{value}
 use Rattle.closure_route.specs.Rest.{ProductsSummed, run_positions}
 use borrow.Author.Rules.{rules}
 use native.Mathlib.Omega.{arith}
-use Prim.Native.Nat.{ℕ, ◌+◌, ◌≤◌, ◌-◌}
+use Prim.Native.Nat.{ℕ, ◌-◌}
 use mathlib.Core.Path.{◌≡◌, ap₂, subst, ◌∙◌}
 use lib.ListN.{get_or}
 use lib.Ieee.{Float, binary64, nan, add, mul}

@@ -1,11 +1,6 @@
-use Rattle.columns.specs.Columns.{value}
 use Rattle.closure_route.specs.Rest.{ProductsSummed, run_positions}
-use borrow.Author.Rules.{rules}
-use native.Mathlib.Omega.{arith}
-use Prim.Native.Nat.{ℕ, ◌+◌, ◌≤◌, ◌-◌}
-use mathlib.Core.Path.{◌≡◌, ap₂, subst, ◌∙◌}
-use lib.ListN.{get_or}
-use lib.Ieee.{Float, binary64, nan, add, mul}
+use Prim.Native.Nat.{◌+◌, ◌≤◌, ◌-◌}
+use mathlib.Core.Path.{◌≡◌}
 use Rattle.closure_route.proofs.sums.sum_run.Given as goal
 
 abbrev pub invariant-loop-p : goal.invariant-loop-p

@@ -1,13 +1,12 @@
-use borrow.Author.Rules.{rules}
 use native.Mathlib.Omega.{arith}
 use Prim.Native.Nat.{ℕ, ◌≤◌, ◌<◌, ◌-◌, ◌+◌, ◌/◌}
 use mathlib.Core.Path.{◌≡◌, ap, sym, ◌∙◌}
 use mathlib.Core.List.{List}
-use mathlib.Core.Logic.{⊎_elim}
 use Rattle.columns.specs.Columns.{row}
 use Rattle.result.specs.Halving.{halving, halving_one, halving_up, halving-down}
 use Rattle.column_search.proofs.halving.halve.Invariants.{Left}
 use Rattle.column_search.proofs.halving.halve.Goals as goal
+use Rattle.column_search.proofs.halving.halve.Goals.{then-at_mid-r, else-at_mid-r}
 
 left_up : (rows : List ℕ) (r s e base there size : ℕ) → Left rows r s e base there size → 1 < size → (b t : ℕ)
     → t ≡ row rows (base + size / 2)
@@ -37,14 +36,15 @@ left_down rows r s e base there size I h b t m at_mid l q u = (
 )
 
 pub loop-size-preserved : goal.loop-size-preserved
-loop-size-preserved c = let a = c.args in
-    ⊎_elim
-    (λ w.
-    rw w.2
-    (left_up a.rows.now a.r a.s a.e c.loop-size.base c.loop-size.there c.loop-size.size c.loop-size.invariant c.loop-size-test.true _ _ c.at-at_mid.ensures w.0.taken w.1))
-    (λ w.
-    left_down a.rows.now a.r a.s a.e c.loop-size.base c.loop-size.there c.loop-size.size c.loop-size.invariant c.loop-size-test.true _ _ _ c.at-at_mid.ensures w.0.left w.1 w.2)
-    c.if-at_mid-r.branch
+loop-size-preserved c =
+    let a = c.args in
+    let i = c.loop-size in
+    elim c.if-at_mid-r.branch [
+      | then-at_mid-r w ↦ rw w.there-is
+          (left_up a.rows.now a.r a.s a.e i.base i.there i.size i.invariant c.loop-size-test.true _ _ c.at-at_mid.ensures w.if-at_mid-r.true w.base-is)
+      | else-at_mid-r w ↦
+          left_down a.rows.now a.r a.s a.e i.base i.there i.size i.invariant c.loop-size-test.true _ _ _ c.at-at_mid.ensures w.if-at_mid-r.false w.base-is w.there-is
+    ]
 
 pub returns : goal.returns
 returns c = let i = c.loop-size in

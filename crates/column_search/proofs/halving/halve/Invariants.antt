@@ -1,11 +1,8 @@
-use borrow.Author.Rules.{rules}
-use native.Mathlib.Omega.{arith}
-use Prim.Native.Nat.{ℕ, ◌≤◌, ◌<◌, ◌-◌, ◌+◌, ◌/◌}
-use mathlib.Core.Path.{◌≡◌, ap, sym, ◌∙◌}
+use Prim.Native.Nat.{ℕ, ◌≤◌, ◌<◌, ◌-◌, ◌+◌}
+use mathlib.Core.Path.{◌≡◌}
 use mathlib.Core.List.{List}
-use mathlib.Core.Logic.{⊎_elim}
 use Rattle.columns.specs.Columns.{row}
-use Rattle.result.specs.Halving.{halving, halving_one, halving_up, halving-down}
+use Rattle.result.specs.Halving.{halving}
 use Rattle.column_search.proofs.halving.halve.Given as goal
 
 -- the places left: some, within the ends, and halving them ends where halving all does

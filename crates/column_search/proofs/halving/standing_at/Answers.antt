@@ -1,4 +1,3 @@
-use borrow.Author.Rules.{rules}
 use mathlib.Core.Path.{sym, ◌∙◌}
 use Rattle.result.specs.Halving.{standing_here, standing_none}
 use Rattle.column_search.proofs.halving.standing_at.Goals as goal

@@ -1,5 +1,4 @@
 use mathlib.Core.Path.{ap, sym}
-use borrow.Author.Rules.{rules}
 use Rattle.column_search.specs.Reply.{place_reply}
 use Rattle.column_search.proofs.pair_place.of_row.Goals as goal
 

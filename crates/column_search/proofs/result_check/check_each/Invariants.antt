@@ -1,10 +1,6 @@
 use Prim.Native.Nat.{◌≤◌, ◌-◌}
-use native.Mathlib.Omega.{arith}
-use mathlib.Core.Path.{◌≡◌, ap, sym, ◌∙◌}
-use borrow.Author.Rules.{rules}
-use Rattle.refusal.specs.Steps.{each, Passed, each_none, each_more, each_refused}
-use Rattle.refusal.specs.Refusal.{reply_of}
-use Rattle.result.specs.Lookup.{dimension, column_faults}
+use Rattle.refusal.specs.Steps.{each, Passed}
+use Rattle.result.specs.Lookup.{column_faults}
 use Rattle.column_search.proofs.result_check.check_each.Given as goal
 
 abbrev pub invariant-loop-c : goal.invariant-loop-c

@@ -1,4 +1,3 @@
-use borrow.Author.Rules.{rules}
 use mathlib.Core.Path.{ap₂, sym, ◌∙◌}
 use Rattle.result.specs.Halving.{column_within_rows, column_within_values, column_within_place, halved_place}
 use Rattle.column_search.proofs.within.column_within.Goals as goal

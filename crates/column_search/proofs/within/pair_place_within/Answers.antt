@@ -1,4 +1,3 @@
-use borrow.Author.Rules.{rules}
 use mathlib.Core.Path.{ap₂, ◌∙◌}
 use Rattle.result.specs.Halving.{place_within}
 use Rattle.column_search.proofs.within.pair_place_within.Goals as goal

@@ -3,7 +3,6 @@ use mathlib.Core.Path.{◌≡◌, refl, sym, ◌∙◌}
 use Prim.Native.Nat.{ℕ}
 use lib.Ieee.{Float, nan, inf, fin, eq, ne, of_bits}
 use lib.Ieee.Scale.{finite}
-use borrow.Author.Rules.{rules}
 use Rattle.columns.specs.Columns.{value}
 use Rattle.columns.specs.Kept.{f0, nonzero, not_finite}
 use Rattle.factor_check.proofs.KeptLaws.{kept_from}

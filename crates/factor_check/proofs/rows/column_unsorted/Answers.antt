@@ -1,4 +1,3 @@
-use borrow.Author.Rules.{rules}
 use mathlib.Core.Path.{sym}
 use Rattle.factor_check.proofs.rows.column_unsorted.Goals as goal
 

@@ -3,7 +3,6 @@ use native.Mathlib.Omega.{arith}
 use mathlib.Core.Path.{◌≡◌, ap, ◌∙◌}
 use mathlib.Core.Bool.{true, not}
 use lib.IntN.{ℤ, nat_abs}
-use borrow.Author.Rules.{rules}
 use borrow.Author.Tests.{ltb-true, ne_eqb}
 use Rattle.columns.specs.WholeFactor.{whole_value, whole_nonzero, not_zero}
 use Rattle.exact.specs.Checked.{beyond}

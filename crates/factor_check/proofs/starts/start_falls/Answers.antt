@@ -1,10 +1,9 @@
-use Rattle.lists.specs.Test.{any, any_none, any_more, any-hit, any_less}
-use Rattle.columns.specs.Columns.{falls}
+use Rattle.lists.specs.Test.{any_none, any_more, any-hit, any_less}
 use mathlib.Core.Bool.{false}
 use borrow.Author.Tests.{lt-ltb, le-ltb}
 use borrow.Author.Rules.{rules}
-use Prim.Native.Nat.{◌≤◌, ◌-◌}
-use mathlib.Core.Path.{◌≡◌, sym}
+use Prim.Native.Nat.{◌-◌}
+use mathlib.Core.Path.{sym}
 use Rattle.factor_check.proofs.starts.start_falls.Goals as goal
 
 pub loop-c-init : goal.loop-c-init

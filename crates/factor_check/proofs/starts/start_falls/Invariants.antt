@@ -1,10 +1,8 @@
-use Rattle.lists.specs.Test.{any, any_none, any_more, any-hit, any_less}
+use Rattle.lists.specs.Test.{any}
 use Rattle.columns.specs.Columns.{falls}
 use mathlib.Core.Bool.{false}
-use borrow.Author.Tests.{lt-ltb, le-ltb}
-use borrow.Author.Rules.{rules}
 use Prim.Native.Nat.{◌≤◌, ◌-◌}
-use mathlib.Core.Path.{◌≡◌, sym}
+use mathlib.Core.Path.{◌≡◌}
 use Rattle.factor_check.proofs.starts.start_falls.Given as goal
 
 abbrev pub invariant-loop-c : goal.invariant-loop-c

@@ -1,10 +1,9 @@
-use Rattle.factor_route.specs.ColumnMarks.{desc_between, ColumnMarked}
 use Rattle.factor_route.proofs.MarkLaws.{marked_none, marked_more, marked_few, marked_end}
 use Rattle.refusal.specs.Bounds.{max_dimension}
 use mathlib.Core.Path.{subst, sym}
 use borrow.Author.Rules.{rules}
 use native.Mathlib.Omega.{arith}
-use Prim.Native.Nat.{ℕ, ◌≤◌, ◌<◌, ◌-◌}
+use Prim.Native.Nat.{ℕ, ◌<◌, ◌-◌}
 use Rattle.factor_route.proofs.column_marks.mark_column.Goals as goal
 
 pub loop-p-init : goal.loop-p-init

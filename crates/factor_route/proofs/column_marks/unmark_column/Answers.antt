@@ -3,7 +3,7 @@ use Rattle.refusal.specs.Bounds.{max_dimension}
 use mathlib.Core.Path.{subst, ◌≡◌, ap, sym, ◌∙◌}
 use borrow.Author.Rules.{rules}
 use native.Mathlib.Omega.{arith}
-use Prim.Native.Nat.{ℕ, ◌≤◌, ◌<◌, ◌-◌}
+use Prim.Native.Nat.{ℕ, ◌<◌, ◌-◌}
 use Rattle.factor_route.proofs.column_marks.unmark_column.Goals as goal
 
 -- the row has a place in the marker

@@ -1,9 +1,6 @@
-use Rattle.scatter.specs.Scatter.{unmarks, unmarks_none, unmarks_next}
-use Rattle.refusal.specs.Bounds.{max_dimension}
-use mathlib.Core.Path.{subst, ◌≡◌, ap, sym, ◌∙◌}
-use borrow.Author.Rules.{rules}
-use native.Mathlib.Omega.{arith}
-use Prim.Native.Nat.{ℕ, ◌≤◌, ◌<◌, ◌-◌}
+use Rattle.scatter.specs.Scatter.{unmarks}
+use mathlib.Core.Path.{◌≡◌}
+use Prim.Native.Nat.{◌≤◌, ◌-◌}
 use Rattle.factor_route.proofs.column_marks.unmark_column.Given as goal
 
 abbrev pub invariant-loop-p : goal.invariant-loop-p

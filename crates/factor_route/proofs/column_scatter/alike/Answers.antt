@@ -2,7 +2,6 @@ use Rattle.factor_route.proofs.WalkLaws.{at_column, at_second, at_last, at_alike
 use Rattle.factor_route.specs.Walk.{start_of}
 use mathlib.Core.Bool.{false≢true}
 use borrow.Author.Tests.{eqb-true}
-use borrow.Author.Rules.{rules}
 use native.Mathlib.Omega.{arith}
 use Prim.Native.Nat.{ℕ, ◌<◌, ◌-◌, ◌+◌}
 use mathlib.Core.Path.{◌≡◌, ap, sym, ◌∙◌}

@@ -1,5 +1,4 @@
-use Rattle.factor_route.proofs.ScatterLaws.{InColumn, ahead_mark, column_start, column_next, column_end_lem}
-use borrow.Author.Rules.{rules}
+use Rattle.factor_route.proofs.ScatterLaws.{ahead_mark, column_start, column_next, column_end_lem}
 use native.Mathlib.Omega.{arith}
 use Prim.Native.Nat.{◌-◌}
 use Rattle.factor_route.proofs.column_scatter.scatter_column.Goals as goal

@@ -1,6 +1,4 @@
-use Rattle.factor_route.proofs.ScatterLaws.{InColumn, ahead_mark, column_start, column_next, column_end_lem}
-use borrow.Author.Rules.{rules}
-use native.Mathlib.Omega.{arith}
+use Rattle.factor_route.proofs.ScatterLaws.{InColumn}
 use Prim.Native.Nat.{◌-◌}
 use Rattle.factor_route.proofs.column_scatter.scatter_column.Given as goal
 

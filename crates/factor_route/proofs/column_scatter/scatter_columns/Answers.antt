@@ -1,8 +1,7 @@
 use Rattle.factor_route.proofs.WalkLaws.{scattered_none, scattered_next, scattered_end}
-use Rattle.factor_route.specs.Walk.{ColumnsAre, Scattered}
 use borrow.Author.Rules.{rules}
 use native.Mathlib.Omega.{arith}
-use Prim.Native.Nat.{◌≤◌, ◌-◌}
+use Prim.Native.Nat.{◌-◌}
 use Rattle.factor_route.proofs.column_scatter.scatter_columns.Goals as goal
 
 pub loop-c-init : goal.loop-c-init

@@ -1,6 +1,5 @@
 use Rattle.factor_route.proofs.WalkLaws.{at_column, at_second, at_after, at_pair, column_advanced, pair_advanced}
 use Rattle.factor_route.specs.Walk.{WalkAt, SameRows, start_of}
-use borrow.Author.Rules.{rules}
 use native.Mathlib.Omega.{arith}
 use Prim.Native.Nat.{ℕ, ◌<◌, ◌-◌, ◌+◌}
 use mathlib.Core.Path.{◌≡◌, ap, ◌∙◌}

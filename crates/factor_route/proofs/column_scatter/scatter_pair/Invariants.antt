@@ -1,6 +1,4 @@
-use Rattle.factor_route.proofs.ScatterLaws.{InPair, ahead_mark, pair_second, pair_start, pair_next, pair_end}
-use borrow.Author.Rules.{rules}
-use native.Mathlib.Omega.{arith}
+use Rattle.factor_route.proofs.ScatterLaws.{InPair}
 use Prim.Native.Nat.{◌-◌}
 use Rattle.factor_route.proofs.column_scatter.scatter_pair.Given as goal
 

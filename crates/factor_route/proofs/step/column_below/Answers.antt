@@ -2,11 +2,10 @@ use lib.Ieee.{binary64, of_bits, nan}
 use Rattle.scatter.specs.Scatter.{steps, steps_none, steps_next, step_sum, step_sum_none, step_sum_next}
 use Rattle.exact.specs.Multiple.{zero_float}
 use Rattle.exact.specs.Exact.{floats}
-use Rattle.exact.specs.PivotCase.{step_below, step_on}
-use lib.ListN.{length-set, length}
+use lib.ListN.{length-set}
 use borrow.Author.Rules.{rules}
 use native.Mathlib.Omega.{arith}
-use Prim.Native.Nat.{◌≤◌, ◌-◌}
+use Prim.Native.Nat.{◌-◌}
 use mathlib.Core.Path.{◌≡◌, refl, ap, ◌∙◌}
 use Rattle.factor_route.proofs.step.column_below.Goals as goal
 

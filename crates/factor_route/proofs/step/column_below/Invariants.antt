@@ -1,13 +1,10 @@
-use lib.Ieee.{binary64, of_bits, nan}
-use Rattle.scatter.specs.Scatter.{steps, steps_none, steps_next, step_sum, step_sum_none, step_sum_next}
-use Rattle.exact.specs.Multiple.{zero_float}
+use lib.Ieee.{nan}
+use Rattle.scatter.specs.Scatter.{steps, step_sum}
 use Rattle.exact.specs.Exact.{floats}
 use Rattle.exact.specs.PivotCase.{step_below, step_on}
-use lib.ListN.{length-set, length}
-use borrow.Author.Rules.{rules}
-use native.Mathlib.Omega.{arith}
+use lib.ListN.{length}
 use Prim.Native.Nat.{◌≤◌, ◌-◌}
-use mathlib.Core.Path.{◌≡◌, refl, ap, ◌∙◌}
+use mathlib.Core.Path.{◌≡◌}
 use Rattle.factor_route.proofs.step.column_below.Given as goal
 
 abbrev pub invariant-loop-p : goal.invariant-loop-p

@@ -5,7 +5,6 @@ use Rattle.exact.specs.PivotCase.{step_below, step_on}
 use lib.Ieee.{nan}
 use lib.Seq.{length-take-le}
 use lib.ListN.{take, drop, length-drop, length}
-use borrow.Author.Rules.{rules}
 use native.Mathlib.Omega.{arith}
 use Prim.Native.Nat.{◌-◌}
 use mathlib.Core.Path.{◌≡◌, ◌∙◌}

@@ -1,4 +1,3 @@
-use borrow.Author.Rules.{rules}
 use Rattle.fill.proofs.forms.fill_form_entries.Goals as goal
 
 pub returns : goal.returns

@@ -4,7 +4,7 @@ use mathlib.Core.Path.{subst, ◌≡◌, sym, ◌∙◌}
 use mathlib.Core.Bool.{false}
 use borrow.Author.Rules.{rules}
 use native.Mathlib.Omega.{arith}
-use Prim.Native.Nat.{ℕ, ◌≤◌, ◌-◌}
+use Prim.Native.Nat.{ℕ, ◌-◌}
 use Rattle.fill.proofs.kept_pattern.closure_is_cholesky_factor_pattern.Goals as goal
 
 -- what the call says of the column

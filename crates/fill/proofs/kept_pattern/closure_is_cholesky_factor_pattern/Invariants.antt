@@ -1,10 +1,8 @@
-use Rattle.fill.proofs.KeptLaws.{unmarked_column, choice_starts, choice_column, choice_missing, choice_sizes, choice_same}
-use Rattle.lists.specs.Test.{any, any_none, any_more}
-use mathlib.Core.Path.{subst, ◌≡◌, sym, ◌∙◌}
+use Rattle.fill.proofs.KeptLaws.{unmarked_column}
+use Rattle.lists.specs.Test.{any}
+use mathlib.Core.Path.{◌≡◌}
 use mathlib.Core.Bool.{false}
-use borrow.Author.Rules.{rules}
-use native.Mathlib.Omega.{arith}
-use Prim.Native.Nat.{ℕ, ◌≤◌, ◌-◌}
+use Prim.Native.Nat.{◌≤◌, ◌-◌}
 use Rattle.fill.proofs.kept_pattern.closure_is_cholesky_factor_pattern.Given as goal
 
 abbrev pub invariant-loop-c : goal.invariant-loop-c

@@ -1,10 +1,8 @@
 use Rattle.fill.specs.KeptPattern.{unmarked_at}
-use Rattle.lists.specs.Test.{any_in, any_in_none, any_in_more, any_in-hit}
-use mathlib.Core.Path.{subst, ◌≡◌, sym, ◌∙◌}
-use mathlib.Core.Bool.{true, false}
-use borrow.Author.Rules.{rules}
-use native.Mathlib.Omega.{arith}
-use Prim.Native.Nat.{ℕ, ◌≤◌, ◌<◌, ◌-◌}
+use Rattle.lists.specs.Test.{any_in}
+use mathlib.Core.Path.{◌≡◌}
+use mathlib.Core.Bool.{false}
+use Prim.Native.Nat.{◌≤◌, ◌-◌}
 use Rattle.fill.proofs.kept_pattern.unmarked_column.Given as goal
 
 abbrev pub invariant-loop-p : goal.invariant-loop-p

@@ -1,6 +1,5 @@
 use mathlib.Core.Path.{◌≡◌, sym, ◌∙◌}
 use mathlib.Core.Bool.{true}
-use borrow.Author.Rules.{rules}
 use Rattle.pairs.specs.ColumnOrder.{column_marking}
 use Rattle.columns.specs.Kept.{nonzero}
 use Rattle.columns.specs.Form.{pattern_pair}

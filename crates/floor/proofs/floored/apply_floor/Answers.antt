@@ -1,11 +1,7 @@
-use Rattle.floor.proofs.Applied.{Applied, applied_none, applied_above, applied_hit, applied_all}
+use Rattle.floor.proofs.Applied.{applied_none, applied_above, applied_hit, applied_all}
 use Rattle.floor.specs.Floored.{hit}
 use Rattle.lists.specs.Select.{tally_most}
-use mathlib.Core.Logic.{⊎_elim}
-use borrow.Author.Rules.{rules}
 use native.Mathlib.Omega.{arith}
-use Prim.Native.Nat.{◌-◌}
-use lib.ListN.{length}
 use Rattle.floor.proofs.floored.apply_floor.Goals.{else-x-floor_value, then-x-floor_value}
 use Rattle.floor.proofs.floored.apply_floor.Goals as goal
 
@@ -23,4 +19,6 @@ loop-i-preserved c = let a = c.args in
     elim c.if-x-floor_value.branch [ then-x-floor_value w ↦ rw (w.output-is, w.floor_hits-is) (applied_above a.floor_value a.values.now a.output.now A more c.requires w.if-x-floor_value.true) | else-x-floor_value w ↦ rw (w.output-is, w.floor_hits-is) (applied_hit a.floor_value a.values.now a.output.now A more c.requires w.if-x-floor_value.false) ]
 
 pub returns : goal.returns
-returns c = applied_all _ _ _ c.loop-i.invariant c.loop-i-test.false
+returns c =
+    let p = applied_all c.args.floor_value c.args.values.now c.args.output.now c.loop-i.invariant c.loop-i-test.false in
+    record { value = p.0; output_after = p.1 }

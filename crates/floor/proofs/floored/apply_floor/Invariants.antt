@@ -1,9 +1,4 @@
-use Rattle.floor.proofs.Applied.{Applied, applied_none, applied_above, applied_hit, applied_all}
-use Rattle.floor.specs.Floored.{hit}
-use Rattle.lists.specs.Select.{tally_most}
-use mathlib.Core.Logic.{⊎_elim}
-use borrow.Author.Rules.{rules}
-use native.Mathlib.Omega.{arith}
+use Rattle.floor.proofs.Applied.{Applied}
 use Prim.Native.Nat.{◌-◌}
 use lib.ListN.{length}
 use Rattle.floor.proofs.floored.apply_floor.Given as goal

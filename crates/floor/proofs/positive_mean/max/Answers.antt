@@ -1,4 +1,3 @@
-use Prim.Native.Nat.{◌-◌}
 use Rattle.floor.proofs.positive_mean.max.Goals as goal
 
 pub returns-then-x-y : goal.returns-then-x-y

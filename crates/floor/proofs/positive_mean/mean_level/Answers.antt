@@ -1,8 +1,6 @@
 use Rattle.columns.specs.Kept.{f1}
 use Rattle.floor.specs.PositiveMean.{magnitude, larger}
 use lib.Ieee.{Float}
-use borrow.Author.Rules.{rules}
-use Prim.Native.Nat.{◌-◌}
 use mathlib.Core.Path.{ap, ◌∙◌}
 use Rattle.floor.proofs.positive_mean.mean_level.Goals as goal
 

@@ -1,14 +1,6 @@
-use lib.Ieee.{binary64, in_float}
-use lib.IntN.{pos}
-use lib.Dec.{T, le→leb}
-use Rattle.floor.specs.PositiveMean.{positive_count_yes, positive_count-no, positive_mean_none, positive_mean_some}
-use mathlib.Core.Logic.{⊎_elim}
-use Rattle.lists.specs.Select.{tally_none, tally_most}
-use Rattle.floor.specs.PositiveMean.{positive, positive_count, positive_sum, positive_sum_none, positive_sum_yes, positive_sum-no}
-use borrow.Author.Rules.{rules}
-use native.Mathlib.Omega.{arith}
-use Prim.Native.Nat.{ℕ, ◌≤◌, ◌-◌}
-use mathlib.Core.Path.{◌≡◌, ap, sym, ◌∙◌}
+use Rattle.floor.specs.PositiveMean.{positive_count, positive_sum}
+use Prim.Native.Nat.{◌≤◌, ◌-◌}
+use mathlib.Core.Path.{◌≡◌}
 use lib.ListN.{length}
 use Rattle.floor.proofs.positive_mean.positive_mean.Given as goal
 

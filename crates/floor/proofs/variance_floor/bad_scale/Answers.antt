@@ -2,8 +2,6 @@ use Rattle.floor.specs.VarianceFloor.{bad_scale}
 use Rattle.columns.specs.Kept.{f0}
 use lib.Ieee.{lt}
 use mathlib.Core.Bool.{Bool, not, ◌||◌}
-use borrow.Author.Rules.{rules}
-use Prim.Native.Nat.{◌-◌}
 use mathlib.Core.Path.{ap, sym, ◌∙◌}
 use Rattle.floor.proofs.variance_floor.bad_scale.Goals as goal
 

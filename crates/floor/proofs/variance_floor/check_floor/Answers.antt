@@ -1,7 +1,5 @@
 use Rattle.refusal.specs.Steps.{first_hit, first_skip, first_end}
 use borrow.Author.Tests.{lt-ltb, le-ltb}
-use borrow.Author.Rules.{rules}
-use Prim.Native.Nat.{◌-◌}
 use mathlib.Core.Path.{sym, ◌∙◌}
 use Rattle.floor.proofs.variance_floor.check_floor.Goals as goal
 

@@ -1,8 +1,6 @@
 use Rattle.floor.specs.declared.variance_floor.VarianceFloor.{VarianceFloor}
 use Rattle.floor.specs.VarianceFloor.{floor_of}
 use lib.Ieee.{Float, binary64, mul}
-use borrow.Author.Rules.{rules}
-use Prim.Native.Nat.{◌-◌}
 use mathlib.Core.Path.{ap, sym, ◌∙◌}
 use Rattle.floor.proofs.variance_floor.floor_of.Goals as goal
 

@@ -1,11 +1,9 @@
 use borrow.Author.Tests.{lt-leb}
 use mathlib.Core.Bool.{false}
-use Rattle.columns.specs.Columns.{outside_at}
-use Rattle.lists.specs.Test.{any_in, any_in_none, any_in_more}
+use Rattle.lists.specs.Test.{any_in_none, any_in_more}
 use borrow.Author.Rules.{rules}
 use native.Mathlib.Omega.{arith}
-use Prim.Native.Nat.{◌≤◌, ◌-◌}
-use mathlib.Core.Path.{◌≡◌}
+use Prim.Native.Nat.{◌-◌}
 use Rattle.kept_entries.proofs.diagonal.first_from.Goals as goal
 
 pub loop-p-init : goal.loop-p-init

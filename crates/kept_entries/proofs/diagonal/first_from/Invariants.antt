@@ -1,9 +1,6 @@
-use borrow.Author.Tests.{lt-leb}
 use mathlib.Core.Bool.{false}
 use Rattle.columns.specs.Columns.{outside_at}
-use Rattle.lists.specs.Test.{any_in, any_in_none, any_in_more}
-use borrow.Author.Rules.{rules}
-use native.Mathlib.Omega.{arith}
+use Rattle.lists.specs.Test.{any_in}
 use Prim.Native.Nat.{◌≤◌, ◌-◌}
 use mathlib.Core.Path.{◌≡◌}
 use Rattle.kept_entries.proofs.diagonal.first_from.Given as goal

@@ -1,11 +1,11 @@
 use mathlib.Core.Bool.{false}
 use Rattle.columns.specs.Diagonal.{bad_diagonal, diagonal_steps-refused, diagonal_steps-clear}
 use Rattle.columns.specs.Factor.{factor_column}
-use Rattle.lists.specs.Test.{any, any_none, any_more, any_less}
+use Rattle.lists.specs.Test.{any_none, any_more, any_less}
 use borrow.Author.Rules.{rules}
 use native.Mathlib.Omega.{arith}
-use Prim.Native.Nat.{◌≤◌, ◌-◌}
-use mathlib.Core.Path.{◌≡◌, sym, ◌∙◌}
+use Prim.Native.Nat.{◌-◌}
+use mathlib.Core.Path.{sym, ◌∙◌}
 use Rattle.kept_entries.proofs.diagonal_check.check_diagonals.Goals as goal
 
 pub loop-c-init : goal.loop-c-init

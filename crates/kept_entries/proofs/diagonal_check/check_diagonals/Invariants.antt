@@ -1,11 +1,8 @@
 use mathlib.Core.Bool.{false}
-use Rattle.columns.specs.Diagonal.{bad_diagonal, diagonal_steps-refused, diagonal_steps-clear}
-use Rattle.columns.specs.Factor.{factor_column}
-use Rattle.lists.specs.Test.{any, any_none, any_more, any_less}
-use borrow.Author.Rules.{rules}
-use native.Mathlib.Omega.{arith}
+use Rattle.columns.specs.Diagonal.{bad_diagonal}
+use Rattle.lists.specs.Test.{any}
 use Prim.Native.Nat.{◌≤◌, ◌-◌}
-use mathlib.Core.Path.{◌≡◌, sym, ◌∙◌}
+use mathlib.Core.Path.{◌≡◌}
 use Rattle.kept_entries.proofs.diagonal_check.check_diagonals.Given as goal
 
 abbrev pub invariant-loop-c : goal.invariant-loop-c

@@ -1,14 +1,10 @@
 use mathlib.Core.Bool.{false}
-use Rattle.refusal.specs.Steps.{first_hit, first_skip, first_end}
 use Rattle.columns.specs.Kept.{nonzero}
 use Rattle.columns.specs.Pivots.{float_one}
-use Rattle.columns.specs.UnitDiagonals.{other_diagonal, unit_steps}
-use Rattle.columns.specs.Factor.{factor_column}
-use Rattle.lists.specs.Test.{any, any_none, any_more, any_less, any-hit}
-use borrow.Author.Rules.{rules}
-use native.Mathlib.Omega.{arith}
+use Rattle.columns.specs.UnitDiagonals.{other_diagonal}
+use Rattle.lists.specs.Test.{any}
 use Prim.Native.Nat.{◌≤◌, ◌-◌}
-use mathlib.Core.Path.{◌≡◌, sym, ◌∙◌}
+use mathlib.Core.Path.{◌≡◌}
 use Rattle.kept_entries.proofs.unit_diagonals.check_pivot_diagonals.Given as goal
 
 abbrev pub invariant-loop-c : goal.invariant-loop-c

@@ -1,10 +1,7 @@
-use Prim.Native.Nat.{ℕ, ◌+◌, ◌-◌, ◌≤◌}
+use Prim.Native.Nat.{ℕ, ◌+◌, ◌-◌}
 use native.Mathlib.Omega.{arith}
 use mathlib.Core.Path.{◌≡◌, sym, ap, subst, ◌∙◌}
 use mathlib.Core.Bool.{Bool, false, not, ◌||◌, or-true, or-false}
-use mathlib.Core.Logic.{⊎_elim}
-use mathlib.Core.List.{List}
-use lib.IntN.{ℤ}
 use mir.Syntax.{w64}
 use mir.Val.{to_z, of_z}
 use mir.ValLaws.{to_z-of_z}
@@ -13,9 +10,7 @@ use Rattle.lists.specs.Test.{any, any_none, any_next, any_more, any-hit}
 use Rattle.refusal.specs.Steps.{first_hit, first_skip, first_end}
 use Rattle.columns.specs.Columns.{start}
 use Rattle.columns.specs.Factor.{factor_column}
-use Rattle.columns.specs.Diagonal.{no_diagonal}
-use Rattle.columns.specs.WholeFactor.{whole_nonzero, whole_one}
-use Rattle.columns.specs.UnitDiagonals.{other_diagonal, unit_steps, missing_steps}
+use Rattle.columns.specs.UnitDiagonals.{unit_steps, missing_steps}
 use Rattle.kept_entries.specs.DiagonalIs.{DiagonalIs}
 use Rattle.kept_entries.proofs.unit_diagonals.check_units.Invariants.{other, none}
 use Rattle.kept_entries.proofs.unit_diagonals.check_units.Goals.{else-not-is_nonzero, then-not-is_nonzero}

@@ -1,22 +1,12 @@
-use Prim.Native.Nat.{ℕ, ◌+◌, ◌-◌, ◌≤◌}
-use native.Mathlib.Omega.{arith}
-use mathlib.Core.Path.{◌≡◌, sym, ap, subst, ◌∙◌}
-use mathlib.Core.Bool.{Bool, false, not, ◌||◌, or-true, or-false}
-use mathlib.Core.Logic.{⊎_elim}
+use Prim.Native.Nat.{ℕ, ◌-◌, ◌≤◌}
+use mathlib.Core.Path.{◌≡◌}
+use mathlib.Core.Bool.{Bool, false}
 use mathlib.Core.List.{List}
 use lib.IntN.{ℤ}
-use mir.Syntax.{w64}
-use mir.Val.{to_z, of_z}
-use mir.ValLaws.{to_z-of_z}
-use borrow.Author.Rules.{rules}
-use Rattle.lists.specs.Test.{any, any_none, any_next, any_more, any-hit}
-use Rattle.refusal.specs.Steps.{first_hit, first_skip, first_end}
-use Rattle.columns.specs.Columns.{start}
-use Rattle.columns.specs.Factor.{factor_column}
+use Rattle.lists.specs.Test.{any}
 use Rattle.columns.specs.Diagonal.{no_diagonal}
 use Rattle.columns.specs.WholeFactor.{whole_nonzero, whole_one}
-use Rattle.columns.specs.UnitDiagonals.{other_diagonal, unit_steps, missing_steps}
-use Rattle.kept_entries.specs.DiagonalIs.{DiagonalIs}
+use Rattle.columns.specs.UnitDiagonals.{other_diagonal}
 use Rattle.kept_entries.proofs.unit_diagonals.check_units.Given as goal
 
 -- column c has a kept diagonal other than 1, and has none

@@ -4,7 +4,6 @@ use Rattle.kept_entries.specs.DiagonalIs.{DiagonalIs}
 use Rattle.kept_entries.proofs.DiagonalLaws.{diagonal_absent, diagonal_here}
 use mir.Syntax.{w64}
 use mir.ValLaws.{to_z-of_z}
-use borrow.Author.Rules.{rules}
 use Rattle.kept_entries.proofs.unit_diagonals.diagonal_at.Goals as goal
 
 pub returns-then-e-p : goal.returns-then-e-p

@@ -3,7 +3,6 @@ use mathlib.Core.Bool.{Bool, not, ◌&&◌}
 use Rattle.columns.specs.WholeFactor.{not_zero, is_one}
 use mir.Syntax.{w64}
 use mir.ValLaws.{to_z-of_z}
-use borrow.Author.Rules.{rules}
 use Rattle.kept_entries.proofs.unit_diagonals.is_other.Goals as goal
 
 pub returns-then-is_nonzero : goal.returns-then-is_nonzero

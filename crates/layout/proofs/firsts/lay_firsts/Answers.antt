@@ -3,13 +3,12 @@ use native.Mathlib.Omega.{arith}
 use mathlib.Core.Path.{◌≡◌, refl, sym, ap₂, ◌∙◌}
 use mathlib.Core.List.{List}
 use Prim.Native.Nat.{ℕ}
-use lib.ListN.{length, set, length-set}
-use borrow.Author.Rules.{rules}
-use Rattle.lists.specs.Overwrite.{filled, filled_none, filled_more}
+use lib.ListN.{set, length-set}
+use Rattle.lists.specs.Overwrite.{filled_none, filled_more}
 use Rattle.pairs.specs.Pair.{max_pairs, pair_total_small}
 use Rattle.pairs.specs.ColumnOrder.{col_start, col_start_none, col_start_next, col_start_mono, col_start_total, column_marking}
 use Rattle.entries.specs.Entries.{column_count}
-use Rattle.layout.proofs.LayoutLaws.{ColumnsPlaced, placed_none, placed_few, placed_more, column_few, columns_reached, firsts_room, firsts_end}
+use Rattle.layout.proofs.LayoutLaws.{placed_none, placed_few, placed_more, column_few, columns_reached, firsts_room, firsts_end}
 use Rattle.layout.proofs.firsts.lay_firsts.Goals as goal
 
 -- the count is a word

@@ -1,4 +1,3 @@
-use borrow.Author.Rules.{rules}
 use Rattle.layout.proofs.LayoutLaws.{column_input, column_counted, column_listed}
 use Rattle.layout.proofs.firsts.list_column.Goals as goal
 

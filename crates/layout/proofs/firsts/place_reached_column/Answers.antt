@@ -1,5 +1,4 @@
 use native.Mathlib.Omega.{arith}
-use borrow.Author.Rules.{rules}
 use Rattle.layout.proofs.LayoutLaws.{unreached_none, unreached_placed}
 use Rattle.layout.proofs.firsts.place_reached_column.Goals as goal
 

@@ -1,6 +1,5 @@
-use borrow.Author.Rules.{rules}
 use native.Mathlib.Omega.{arith}
-use Prim.Native.Nat.{ℕ, ◌≤◌, ◌-◌}
+use Prim.Native.Nat.{ℕ, ◌-◌}
 use mathlib.Core.Path.{◌≡◌, ap₂, sym, subst, ◌∙◌}
 use mathlib.Core.Bool.{false, ◌||◌}
 use Rattle.lists.specs.Test.{any, any_none, any_more}

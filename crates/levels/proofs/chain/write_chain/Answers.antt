@@ -1,4 +1,3 @@
-use borrow.Author.Rules.{rules}
 use native.Mathlib.Omega.{arith}
 use Prim.Native.Nat.{◌<◌, ◌-◌}
 use mathlib.Core.Path.{◌≡◌, ◌∙◌}
@@ -8,7 +7,7 @@ use Rattle.levels.specs.Levels.{level_word}
 use Rattle.levels.specs.Back.{levels_back, levels_back-length}
 use Rattle.levels.specs.Written.{rows_of, columns_of}
 use Rattle.levels.proofs.BackLaws.{back_range}
-use Rattle.levels.proofs.WriteLaws.{Writing, overwrite_set, map_long, whole_length, writing_rows, writing_columns, writing_row_room, writing_column_room, writing_last, writing_step, writing_end}
+use Rattle.levels.proofs.WriteLaws.{overwrite_set, map_long, whole_length, writing_rows, writing_columns, writing_row_room, writing_column_room, writing_last, writing_step, writing_end}
 use Rattle.levels.proofs.chain.write_chain.Goals as goal
 
 pub loop-k-init : goal.loop-k-init

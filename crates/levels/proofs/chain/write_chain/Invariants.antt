@@ -1,14 +1,8 @@
-use borrow.Author.Rules.{rules}
-use native.Mathlib.Omega.{arith}
-use Prim.Native.Nat.{◌<◌, ◌-◌}
-use mathlib.Core.Path.{◌≡◌, ◌∙◌}
-use lib.ListN.{length-set}
+use Prim.Native.Nat.{◌-◌}
 use Rattle.columns.specs.Kept.{nonzero, pattern}
 use Rattle.levels.specs.Levels.{level_word}
-use Rattle.levels.specs.Back.{levels_back, levels_back-length}
-use Rattle.levels.specs.Written.{rows_of, columns_of}
-use Rattle.levels.proofs.BackLaws.{back_range}
-use Rattle.levels.proofs.WriteLaws.{Writing, overwrite_set, map_long, whole_length, writing_rows, writing_columns, writing_row_room, writing_column_room, writing_last, writing_step, writing_end}
+use Rattle.levels.specs.Back.{levels_back}
+use Rattle.levels.proofs.WriteLaws.{Writing}
 use Rattle.levels.proofs.chain.write_chain.Given as goal
 
 abbrev pub invariant-loop-k : goal.invariant-loop-k

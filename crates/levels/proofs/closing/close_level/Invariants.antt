@@ -1,12 +1,7 @@
-use borrow.Author.Rules.{rules}
-use native.Mathlib.Omega.{arith}
-use Prim.Native.Nat.{ℕ, ◌≤◌, ◌-◌, ◌+◌}
-use mathlib.Core.Path.{◌≡◌, ap, sym, subst, ◌∙◌}
-use lib.ListN.{get_or}
-use Rattle.lists.specs.Test.{any_in, any_in_none}
-use Rattle.pairs.specs.Pair.{pair_total_small}
+use Prim.Native.Nat.{◌≤◌, ◌-◌}
+use Rattle.lists.specs.Test.{any_in}
 use Rattle.columns.specs.Kept.{nonzero, pattern}
-use Rattle.levels.specs.Levels.{level_queue, QueuedLevel, Raised, raised_none, raised_next, raised_cong, levelled_most}
+use Rattle.levels.specs.Levels.{level_queue, Raised}
 use Rattle.levels.specs.Closing.{word_depends}
 use Rattle.levels.proofs.closing.close_level.Given as goal
 

@@ -1,17 +1,13 @@
-use borrow.Author.Rules.{rules}
 use native.Mathlib.Omega.{arith}
 use Prim.Native.Nat.{ℕ, ◌≤◌, ◌<◌, ◌-◌, ◌+◌}
 use mathlib.Core.Path.{◌≡◌, ap₂, ◌∙◌}
 use lib.ListN.{length}
-use mathlib.Core.Bool.{Bool, ◌&&◌}
-use mathlib.Core.List.{List}
-use lib.Ieee.{Float}
 use Rattle.lists.specs.Test.{any_in, any_in_none}
 use Rattle.pairs.specs.Pair.{ordered}
-use Rattle.columns.specs.Columns.{start, row}
-use Rattle.columns.specs.Kept.{nonzero, kept_below}
+use Rattle.columns.specs.Columns.{start}
+use Rattle.columns.specs.Kept.{nonzero}
 use Rattle.columns.specs.Factor.{starts_end}
-use Rattle.levels.specs.Levels.{Raised, raised_none, raised_next, raised_cong}
+use Rattle.levels.specs.Levels.{raised_none, raised_next, raised_cong}
 use Rattle.levels.specs.Closing.{column_depends}
 use Rattle.levels.proofs.closing.close_pair.Invariants.{entry_depends}
 use Rattle.levels.proofs.closing.close_pair.Goals as goal

@@ -1,18 +1,12 @@
-use borrow.Author.Rules.{rules}
-use native.Mathlib.Omega.{arith}
-use Prim.Native.Nat.{ℕ, ◌≤◌, ◌<◌, ◌-◌, ◌+◌}
-use mathlib.Core.Path.{◌≡◌, ap₂, ◌∙◌}
-use lib.ListN.{length}
+use Prim.Native.Nat.{ℕ, ◌≤◌, ◌-◌}
 use mathlib.Core.Bool.{Bool, ◌&&◌}
 use mathlib.Core.List.{List}
 use lib.Ieee.{Float}
-use Rattle.lists.specs.Test.{any_in, any_in_none}
+use Rattle.lists.specs.Test.{any_in}
 use Rattle.pairs.specs.Pair.{ordered}
-use Rattle.columns.specs.Columns.{start, row}
+use Rattle.columns.specs.Columns.{row}
 use Rattle.columns.specs.Kept.{nonzero, kept_below}
-use Rattle.columns.specs.Factor.{starts_end}
-use Rattle.levels.specs.Levels.{Raised, raised_none, raised_next, raised_cong}
-use Rattle.levels.specs.Closing.{column_depends}
+use Rattle.levels.specs.Levels.{Raised}
 use Rattle.levels.proofs.closing.close_pair.Given as goal
 
 -- (x, y) is the dependency that the entry at p gives (r, c)

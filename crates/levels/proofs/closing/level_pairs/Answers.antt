@@ -1,15 +1,12 @@
-use borrow.Author.Rules.{rules}
 use native.Mathlib.Omega.{arith}
 use Prim.Native.Nat.{ℕ, suc, ◌≤◌, ◌-◌, ◌+◌}
 use mathlib.Core.Path.{◌≡◌, refl, subst, ◌∙◌}
-use lib.ListN.{length}
-use lib.ListN.{drop}
 use mathlib.Core.Bool.{Bool}
 use mathlib.Core.List.{List}
 use Rattle.refusal.specs.Bounds.{max_dimension}
 use Rattle.closed_set.specs.ClosedSet.{Pattern, Ranged}
 use Rattle.lists.specs.Test.{any_in}
-use Rattle.pairs.specs.Pair.{pair_total, pair_total_small}
+use Rattle.pairs.specs.Pair.{pair_total_small}
 use Rattle.columns.specs.Kept.{nonzero, pattern}
 use Rattle.closed_set.specs.Requests.{requested, requested_ranged}
 use Rattle.closed_set.specs.FactorPattern.{factor_pattern}

@@ -1,20 +1,11 @@
-use borrow.Author.Rules.{rules}
-use native.Mathlib.Omega.{arith}
-use Prim.Native.Nat.{ℕ, suc, ◌≤◌, ◌-◌, ◌+◌}
-use mathlib.Core.Path.{◌≡◌, refl, subst, ◌∙◌}
+use Prim.Native.Nat.{◌≤◌, ◌-◌, ◌+◌}
+use mathlib.Core.Path.{◌≡◌}
 use lib.ListN.{length}
 use lib.ListN.{drop}
-use mathlib.Core.Bool.{Bool}
-use mathlib.Core.List.{List}
-use Rattle.refusal.specs.Bounds.{max_dimension}
-use Rattle.closed_set.specs.ClosedSet.{Pattern, Ranged}
-use Rattle.lists.specs.Test.{any_in}
-use Rattle.pairs.specs.Pair.{pair_total, pair_total_small}
+use Rattle.pairs.specs.Pair.{pair_total}
 use Rattle.columns.specs.Kept.{nonzero, pattern}
-use Rattle.closed_set.specs.Requests.{requested, requested_ranged}
-use Rattle.closed_set.specs.FactorPattern.{factor_pattern}
-use Rattle.levels.specs.Levels.{level_queue, Raised, levelled_most}
-use Rattle.levels.specs.Closing.{AtLevel, word_depends, one_level, level_next, level_end}
+use Rattle.closed_set.specs.Requests.{requested}
+use Rattle.levels.specs.Closing.{AtLevel}
 use Rattle.levels.proofs.closing.level_pairs.Given as goal
 
 abbrev pub invariant-loop-lo : goal.invariant-loop-lo

@@ -1,18 +1,10 @@
-use borrow.Author.Rules.{rules}
-use native.Mathlib.Omega.{arith}
 use Prim.Native.Nat.{ℕ, ◌≤◌, ◌-◌}
-use mathlib.Core.Path.{◌≡◌, refl, ap, ◌∙◌}
 use lib.ListN.{length, get_or}
 use mathlib.Core.List.{List}
-use mathlib.Core.Bool.{Bool, cond}
-use mathlib.Core.Path.{ap₂}
-use lib.Dec.{ltb}
-use Rattle.lists.specs.Test.{any, any_none}
-use Rattle.lists.specs.Overwrite.{cleared}
-use Rattle.pairs.specs.Pair.{pair_total, ordered}
-use Rattle.closed_set.specs.Requests.{requested}
-use Rattle.levels.specs.Levels.{Raised, raised_none, raised_more, raised_cong}
-use Rattle.levels.proofs.InsertLaws.{levels_none}
+use mathlib.Core.Bool.{Bool}
+use Rattle.lists.specs.Test.{any}
+use Rattle.pairs.specs.Pair.{ordered}
+use Rattle.levels.specs.Levels.{Raised}
 use Rattle.levels.proofs.closing.mark_levels.Given as goal
 
 -- the pairs of the first i requests

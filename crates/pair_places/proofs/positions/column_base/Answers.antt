@@ -1,5 +1,4 @@
 use native.Mathlib.Omega.{arith}
-use borrow.Author.Rules.{rules}
 use Rattle.pair_places.specs.Position.{shift_fits}
 use Rattle.pair_places.proofs.positions.column_base.Goals as goal
 

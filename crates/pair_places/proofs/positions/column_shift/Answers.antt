@@ -2,7 +2,6 @@ use native.Mathlib.Omega.{arith}
 use native.Mathlib.Nat.{mul-add, mul-le-mul}
 use Prim.Native.Nat.{ℕ, ◌+◌, ◌*◌, ◌-◌, ◌/◌, ◌≤◌, ◌<◌}
 use mathlib.Core.Path.{◌≡◌, ap}
-use borrow.Author.Rules.{rules}
 use Rattle.refusal.specs.Bounds.{max_dimension}
 use Rattle.pairs.specs.ColumnOrder.{col_start, col_start-half}
 use Rattle.pair_places.proofs.positions.column_shift.Goals as goal

@@ -2,7 +2,6 @@ use Prim.Native.Nat.{ℕ, ◌+◌}
 use native.Mathlib.Omega.{arith}
 use mathlib.Core.Path.{◌≡◌, ap, ◌∙◌}
 use lib.ListN.{get_or}
-use borrow.Author.Rules.{rules}
 use Rattle.pairs.specs.Positions.{position_word}
 use Rattle.pair_places.specs.Position.{word_right, word_left, shift_fits, word_inside}
 use Rattle.pair_places.proofs.positions.pair_position.Goals as goal

@@ -1,4 +1,3 @@
-use borrow.Author.Rules.{rules}
 use native.Mathlib.Omega.{arith}
 use Rattle.pairs.specs.Scratch.{chain_words_total}
 use Rattle.pair_places.proofs.scratch.chain_words.Goals as goal

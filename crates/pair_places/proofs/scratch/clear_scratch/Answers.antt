@@ -1,6 +1,5 @@
 use Prim.Native.Nat.{ℕ}
 use mathlib.Core.Path.{ap, ◌∙◌}
-use borrow.Author.Rules.{rules}
 use Rattle.lists.specs.Overwrite.{cleared}
 use Rattle.pair_places.proofs.scratch.clear_scratch.Goals as goal
 

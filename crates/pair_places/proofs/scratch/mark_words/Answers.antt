@@ -1,7 +1,6 @@
 use Prim.Native.Nat.{ℕ, ◌+◌, ◌/◌}
 use native.Mathlib.Omega.{arith}
 use mathlib.Core.Path.{ap}
-use borrow.Author.Rules.{rules}
 use Rattle.bits.specs.Bits.{bit_words}
 use Rattle.pair_places.proofs.scratch.mark_words.Goals as goal
 

@@ -1,5 +1,4 @@
 use mathlib.Core.Path.{◌∙◌}
-use borrow.Author.Rules.{rules}
 use Rattle.pairs.specs.Scratch.{queue_start_total}
 use Rattle.pair_places.proofs.scratch.queue_start.Goals as goal
 

@@ -1,5 +1,4 @@
 use native.Mathlib.Omega.{arith}
-use borrow.Author.Rules.{rules}
 use Rattle.pairs.specs.Scratch.{scratch_words_total}
 use Rattle.pair_places.proofs.scratch.scratch_words.Goals as goal
 

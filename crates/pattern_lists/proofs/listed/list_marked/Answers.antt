@@ -1,6 +1,5 @@
 use native.Mathlib.Omega.{arith}
 use mathlib.Core.Path.{◌≡◌, ap, ◌∙◌}
-use borrow.Author.Rules.{rules}
 use Rattle.lists.specs.Select.{tally}
 use Rattle.bits.specs.Bits.{bit_at, bit_words, bit_words_most}
 use Rattle.pairs.specs.Pair.{pair_total, pair_total_small, pair_count}

@@ -4,7 +4,6 @@ use mathlib.Core.List.{◌++◌}
 use Prim.Native.Nat.{ℕ, ◌-◌}
 use lib.ListN.{length, take, drop}
 use lib.Seq.{length-take-le}
-use borrow.Author.Rules.{rules}
 use Rattle.pairs.specs.Scratch.{mark_words}
 use Rattle.pattern_lists.proofs.PatternLists.{scratch_short, scratch_part}
 use Rattle.pattern_lists.proofs.listing.factor_lists.Goals as goal

@@ -1,7 +1,6 @@
 use native.Mathlib.Omega.{arith}
 use mathlib.Core.Path.{◌≡◌, ap, ◌∙◌}
 use lib.ListN.{length}
-use borrow.Author.Rules.{rules}
 use Rattle.lists.specs.Overwrite.{filled-length}
 use Rattle.columns.specs.Kept.{nonzero}
 use Rattle.pattern_lists.specs.PatternMarks.{columns_set-kept_pair}

@@ -1,7 +1,6 @@
 use native.Mathlib.Omega.{arith}
 use mathlib.Core.Path.{◌≡◌, ap, ◌∙◌}
 use lib.ListN.{length}
-use borrow.Author.Rules.{rules}
 use Rattle.lists.specs.Overwrite.{filled-length}
 use Rattle.pattern_lists.specs.PatternMarks.{rows_set-operator_pair}
 use Rattle.pattern_lists.proofs.PatternLists.{listed_set}

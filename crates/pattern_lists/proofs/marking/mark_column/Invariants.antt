@@ -1,11 +1,9 @@
-use Prim.Native.Nat.{ℕ, ◌≤◌, ◌-◌}
-use native.Mathlib.Omega.{arith}
-use mathlib.Core.Path.{◌≡◌, refl, subst, ◌∙◌}
+use Prim.Native.Nat.{◌≤◌, ◌-◌}
+use mathlib.Core.Path.{◌≡◌}
 use lib.ListN.{length}
-use borrow.Author.Rules.{rules}
 use Rattle.pairs.specs.Marks.{Added}
 use Rattle.columns.specs.Kept.{nonzero}
-use Rattle.pattern_lists.specs.PatternMarks.{entry_set, column_set, range_none, range_more}
+use Rattle.pattern_lists.specs.PatternMarks.{column_set}
 use Rattle.pattern_lists.proofs.marking.mark_column.Given as goal
 
 abbrev pub invariant-loop-p : goal.invariant-loop-p

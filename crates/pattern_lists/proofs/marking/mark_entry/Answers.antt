@@ -1,7 +1,6 @@
 use Prim.Native.Nat.{ℕ}
 use native.Mathlib.Omega.{arith}
 use mathlib.Core.Path.{sym, subst}
-use borrow.Author.Rules.{rules}
 use Rattle.pairs.specs.Marks.{Added, HasMark, single}
 use Rattle.columns.specs.Kept.{nonzero}
 use Rattle.pattern_lists.specs.PatternMarks.{dropped_above, dropped_zero, kept_entry, entry_dropped, entry_kept}

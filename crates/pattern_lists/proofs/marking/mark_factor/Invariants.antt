@@ -1,12 +1,9 @@
-use Prim.Native.Nat.{ℕ, ◌≤◌, ◌-◌, ◌+◌}
-use native.Mathlib.Omega.{arith}
-use mathlib.Core.Path.{◌≡◌, refl, sym, subst, subst₂, ◌∙◌}
+use Prim.Native.Nat.{◌≤◌, ◌-◌}
+use mathlib.Core.Path.{◌≡◌}
 use lib.ListN.{length}
-use borrow.Author.Rules.{rules}
 use Rattle.pairs.specs.Marks.{Added}
-use Rattle.columns.specs.Columns as columns
 use Rattle.columns.specs.Kept.{nonzero}
-use Rattle.pattern_lists.specs.PatternMarks.{MarkColumnInput, column_fits, column_set, columns_set, below_none, below_more}
+use Rattle.pattern_lists.specs.PatternMarks.{columns_set}
 use Rattle.pattern_lists.proofs.marking.mark_factor.Given as goal
 
 abbrev pub invariant-loop-c : goal.invariant-loop-c

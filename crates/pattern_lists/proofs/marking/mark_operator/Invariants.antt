@@ -1,12 +1,10 @@
-use Prim.Native.Nat.{ℕ, ◌≤◌, ◌<◌, ◌-◌, ◌+◌}
-use native.Mathlib.Omega.{arith}
-use mathlib.Core.Path.{◌≡◌, refl, sym, subst, subst₂, ◌∙◌}
+use Prim.Native.Nat.{◌≤◌, ◌-◌}
+use mathlib.Core.Path.{◌≡◌}
 use lib.ListN.{length}
-use borrow.Author.Rules.{rules}
 use Rattle.pairs.specs.Marks.{Added}
 use Rattle.columns.specs.Columns as columns
 use Rattle.columns.specs.Operator.{operator_rows}
-use Rattle.pattern_lists.specs.PatternMarks.{MarkTermsInput, row_fits, row_set, rows_set, below_none, below_more}
+use Rattle.pattern_lists.specs.PatternMarks.{rows_set}
 use Rattle.pattern_lists.proofs.marking.mark_operator.Given as goal
 
 abbrev pub invariant-loop-i : goal.invariant-loop-i

@@ -1,7 +1,6 @@
 use Prim.Native.Nat.{ℕ, min, max}
 use native.Mathlib.Omega.{arith}
 use mathlib.Core.Path.{◌≡◌, subst₂}
-use borrow.Author.Rules.{rules}
 use Rattle.pairs.specs.Marks.{Added, single}
 use Rattle.pattern_lists.proofs.marking.mark_ordered.Goals as goal
 

@@ -1,10 +1,8 @@
-use Prim.Native.Nat.{ℕ, ◌≤◌, ◌-◌, ◌+◌}
-use native.Mathlib.Omega.{arith}
-use mathlib.Core.Path.{◌≡◌, refl, subst, ◌∙◌}
+use Prim.Native.Nat.{◌≤◌, ◌-◌}
+use mathlib.Core.Path.{◌≡◌}
 use lib.ListN.{length}
-use borrow.Author.Rules.{rules}
 use Rattle.pairs.specs.Marks.{Added}
-use Rattle.pattern_lists.specs.PatternMarks.{terms_part, terms_set, row_set, range_none, range_more}
+use Rattle.pattern_lists.specs.PatternMarks.{row_set}
 use Rattle.pattern_lists.proofs.marking.mark_row.Given as goal
 
 abbrev pub invariant-loop-a : goal.invariant-loop-a

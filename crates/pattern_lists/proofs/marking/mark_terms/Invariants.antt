@@ -1,12 +1,9 @@
-use Prim.Native.Nat.{ℕ, ◌≤◌, ◌-◌, ◌+◌}
-use native.Mathlib.Omega.{arith}
-use mathlib.Core.Path.{◌≡◌, refl, sym, subst, subst₂, ◌∙◌}
+use Prim.Native.Nat.{◌≤◌, ◌-◌, ◌+◌}
+use mathlib.Core.Path.{◌≡◌}
 use lib.ListN.{length}
-use borrow.Author.Rules.{rules}
 use Rattle.lists.specs.Test.{any_in}
-use Rattle.pairs.specs.Pair.{ordered}
 use Rattle.pairs.specs.Marks.{Added}
-use Rattle.pattern_lists.specs.PatternMarks.{MarkOrderedInput, terms_spot, terms_part, term_set, range_none, range_more}
+use Rattle.pattern_lists.specs.PatternMarks.{term_set}
 use Rattle.pattern_lists.proofs.marking.mark_terms.Given as goal
 
 abbrev pub invariant-loop-b : goal.invariant-loop-b

@@ -1,7 +1,6 @@
 use Prim.Native.Nat.{◌*◌, min}
 use native.Mathlib.Omega.{arith}
 use mathlib.Core.Path.{◌≡◌, ap₂, ◌∙◌}
-use borrow.Author.Rules.{rules}
 use Rattle.lists.specs.Select.{tally}
 use Rattle.bits.specs.Bits.{bit_at}
 use Rattle.pattern_lists.proofs.CountLaws.{stored_less, count_past}

@@ -1,9 +1,7 @@
-use Prim.Native.Nat.{◌+◌, ◌-◌}
-use native.Mathlib.Omega.{arith}
-use mathlib.Core.Path.{◌≡◌, ◌∙◌}
+use Prim.Native.Nat.{◌-◌}
+use mathlib.Core.Path.{◌≡◌}
 use lib.ListN.{length}
-use borrow.Author.Rules.{rules}
-use Rattle.pattern_lists.proofs.CountLaws.{before, count_none, count_more, count_most, count_all}
+use Rattle.pattern_lists.proofs.CountLaws.{before}
 use Rattle.pattern_lists.proofs.marks.count_marks.Given as goal
 
 abbrev pub invariant-loop-w : goal.invariant-loop-w

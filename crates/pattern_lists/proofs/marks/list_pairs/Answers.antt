@@ -1,10 +1,7 @@
-use Prim.Native.Nat.{ℕ, ◌≤◌, ◌-◌, ◌+◌, ◌/◌, min}
+use Prim.Native.Nat.{ℕ, ◌≤◌, ◌-◌, ◌+◌, ◌/◌}
 use native.Mathlib.Omega.{arith}
 use mathlib.Core.Path.{◌≡◌, refl, sym, subst, ◌∙◌}
-use lib.ListN.{length}
-use borrow.Author.Rules.{rules}
-use Rattle.pairs.specs.Pair.{pair_total, pair_total_none, pair_total_next, pair_total_small}
-use Rattle.set_bits.specs.Zeros.{Zeros}
+use Rattle.pairs.specs.Pair.{pair_total_none, pair_total_next, pair_total_small}
 use Rattle.pattern_lists.specs.Listing.{PairsListed, listed_none, listed_more, listed_room}
 use Rattle.pattern_lists.proofs.RowLaws.{zeros_none, zeros_later, place_inside, row_reached}
 use Rattle.pattern_lists.proofs.marks.list_pairs.Goals as goal

@@ -1,6 +1,5 @@
 use native.Mathlib.Omega.{arith}
 use mathlib.Core.Path.{sym, ap, subst, ◌∙◌}
-use borrow.Author.Rules.{rules}
 use Rattle.bits.specs.Bits.{with_bit}
 use Rattle.pairs.specs.Marks.{Added, single, added_pair}
 use Rattle.pattern_lists.proofs.marks.mark_pair.Goals as goal

@@ -1,4 +1,3 @@
-use borrow.Author.Rules.{rules}
 use Rattle.pattern_lists.proofs.RowLaws.{zeros_here}
 use Rattle.pattern_lists.proofs.marks.marked_word.Goals as goal
 

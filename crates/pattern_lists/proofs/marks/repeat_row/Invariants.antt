@@ -1,11 +1,9 @@
-use Prim.Native.Nat.{ℕ, ◌≤◌, ◌<◌, ◌-◌, ◌+◌}
-use native.Mathlib.Omega.{arith}
-use mathlib.Core.Path.{◌≡◌, refl, sym, ap, ◌∙◌}
+use Prim.Native.Nat.{ℕ, ◌≤◌, ◌-◌}
+use mathlib.Core.Path.{◌≡◌}
 use mathlib.Core.List.{List}
-use lib.ListN.{length, set}
-use borrow.Author.Rules.{rules}
-use Rattle.lists.specs.Tabulate.{tabulate, tabulate_none, tabulate_next, tabulate-length}
-use Rattle.lists.specs.Overwrite.{splice, splice_none, splice_more}
+use lib.ListN.{length}
+use Rattle.lists.specs.Tabulate.{tabulate}
+use Rattle.lists.specs.Overwrite.{splice}
 use Rattle.pattern_lists.proofs.marks.repeat_row.Given as goal
 
 -- x from s to below k

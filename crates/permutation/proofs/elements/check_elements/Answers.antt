@@ -1,11 +1,10 @@
-use Prim.Native.Nat.{ℕ, ◌≤◌, ◌-◌}
+use Prim.Native.Nat.{ℕ, ◌-◌}
 use native.Mathlib.Omega.{arith}
 use mathlib.Core.Path.{◌≡◌, sym, subst, ◌∙◌}
 use lib.ListN.{length}
-use borrow.Author.Rules.{rules}
 use Rattle.refusal.specs.Steps.{each_refused, Passed, each}
 use Rattle.factor_order.specs.Permutation.{element_steps}
-use Rattle.permutation.proofs.ElementLaws.{ElementsChecked, looked_none, looked_more, element_large, element_repeated, element_disagrees}
+use Rattle.permutation.proofs.ElementLaws.{looked_none, looked_more, element_large, element_repeated, element_disagrees}
 use Rattle.permutation.proofs.elements.check_elements.Goals as goal
 
 pub loop-i-init : goal.loop-i-init

@@ -1,10 +1,7 @@
-use Prim.Native.Nat.{ℕ, ◌≤◌, ◌<◌, ◌-◌}
-use native.Mathlib.Omega.{arith}
-use mathlib.Core.Path.{◌≡◌, refl, ap, ◌∙◌}
-use lib.ListN.{length, set, length-set}
-use borrow.Author.Rules.{rules}
-use Rattle.factor_order.specs.Permutation.{index}
-use Rattle.factor_order.specs.Laws.{stored_to, stored_to_none, stored_to_more, stored_inverse}
+use Prim.Native.Nat.{◌≤◌, ◌-◌}
+use mathlib.Core.Path.{◌≡◌}
+use lib.ListN.{length}
+use Rattle.factor_order.specs.Laws.{stored_to}
 use Rattle.permutation.proofs.inverse.invert.Given as goal
 
 abbrev pub invariant-loop-i : goal.invariant-loop-i

@@ -1,4 +1,4 @@
-use Prim.Native.Nat.{ℕ, ◌≤◌, ◌<◌, ◌-◌}
+use Prim.Native.Nat.{ℕ, ◌<◌, ◌-◌}
 use native.Mathlib.Omega.{arith}
 use mathlib.Core.Path.{◌≡◌, refl, ap, ◌∙◌}
 use mathlib.Core.List.{List}
@@ -6,7 +6,7 @@ use lib.ListN.{length, get_or, set, length-set}
 use lib.Ieee.{Float, nan}
 use borrow.Author.Rules.{rules}
 use Rattle.lists.specs.Overwrite.{filled, filled_none, filled_more}
-use Rattle.factor_order.specs.Permutation.{index, reordered}
+use Rattle.factor_order.specs.Permutation.{reordered}
 use Rattle.permutation.proofs.reordering.reorder.Invariants.{moved}
 use Rattle.permutation.proofs.reordering.reorder.Goals as goal
 

@@ -1,11 +1,10 @@
-use Prim.Native.Nat.{ℕ, ◌≤◌, ◌<◌, ◌-◌}
+use Prim.Native.Nat.{ℕ, ◌<◌, ◌-◌}
 use native.Mathlib.Omega.{arith}
 use mathlib.Core.Path.{◌≡◌, refl, ap, ◌∙◌}
 use mathlib.Core.List.{List}
 use lib.ListN.{length, get_or, set, length-set}
-use borrow.Author.Rules.{rules}
 use Rattle.lists.specs.Overwrite.{filled, filled_none, filled_more}
-use Rattle.factor_order.specs.Permutation.{index, reordered}
+use Rattle.factor_order.specs.Permutation.{reordered}
 use Rattle.permutation.proofs.reordering.reorder_marks.Invariants.{moved}
 use Rattle.permutation.proofs.reordering.reorder_marks.Goals as goal
 

@@ -1,15 +1,8 @@
-use Prim.Native.Nat.{ℕ, ◌≤◌, ◌<◌, ◌-◌, ◌+◌}
-use native.Mathlib.Omega.{arith}
-use mathlib.Core.Path.{◌≡◌, sym, ap, ◌∙◌}
-use mathlib.Core.List.{List}
-use borrow.Author.Rules.{rules}
-use lib.ListN.{length, get_or}
-use Rattle.lists.specs.Test.{any, any_none}
-use Rattle.columns.specs.Columns as columns
-use Rattle.marked_pairs.specs.MarkedPairs.{AlsoMarked, also_none, also_more, pairs_also, pairs_cong}
-use Rattle.request_marks.specs.OperatorMarks.{RowInput}
-use Rattle.request_marks.specs.CrossRequests.{cross_set, pair_set, cross_requested}
-use Rattle.request_marks.proofs.OperatorLaws.{row_input}
+use Prim.Native.Nat.{◌≤◌, ◌-◌}
+use lib.ListN.{length}
+use Rattle.lists.specs.Test.{any}
+use Rattle.marked_pairs.specs.MarkedPairs.{AlsoMarked}
+use Rattle.request_marks.specs.CrossRequests.{pair_set}
 use Rattle.request_marks.proofs.cross.mark_cross_pairs.Given as goal
 
 abbrev pub invariant-loop-p : goal.invariant-loop-p

@@ -1,11 +1,6 @@
-use Prim.Native.Nat.{ℕ, ◌≤◌, ◌-◌}
-use native.Mathlib.Omega.{arith}
-use mathlib.Core.Path.{◌≡◌, subst}
-use lib.ListN.{get_or}
-use Rattle.lists.specs.Test.{any_in_none}
-use Rattle.marked_pairs.specs.MarkedPairs.{AlsoMarked, also_none, also_next}
-use Rattle.request_marks.specs.CrossRequests.{with_columns, cross_set}
-use Rattle.request_marks.proofs.OperatorLaws.{row_part}
+use Prim.Native.Nat.{◌≤◌, ◌-◌}
+use Rattle.marked_pairs.specs.MarkedPairs.{AlsoMarked}
+use Rattle.request_marks.specs.CrossRequests.{cross_set}
 use Rattle.request_marks.proofs.cross.mark_rows.Given as goal
 
 abbrev pub invariant-loop-a : goal.invariant-loop-a

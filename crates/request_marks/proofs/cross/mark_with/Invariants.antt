@@ -1,10 +1,5 @@
-use Prim.Native.Nat.{ℕ, ◌≤◌, ◌-◌}
-use native.Mathlib.Omega.{arith}
-use mathlib.Core.Path.{◌≡◌, sym, subst}
-use lib.ListN.{get_or}
-use Rattle.lists.specs.Test.{any_in_none}
-use Rattle.pairs.specs.Pair.{ordered}
-use Rattle.marked_pairs.specs.MarkedPairs.{InsertInput, AlsoMarked, also_none, also_next}
+use Prim.Native.Nat.{◌≤◌, ◌-◌}
+use Rattle.marked_pairs.specs.MarkedPairs.{AlsoMarked}
 use Rattle.request_marks.specs.CrossRequests.{with_columns}
 use Rattle.request_marks.proofs.cross.mark_with.Given as goal
 

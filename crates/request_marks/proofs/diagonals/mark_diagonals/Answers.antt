@@ -1,8 +1,7 @@
-use borrow.Author.Rules.{rules}
 use native.Mathlib.Omega.{arith}
-use Prim.Native.Nat.{ℕ, ◌≤◌, ◌-◌}
+use Prim.Native.Nat.{ℕ, ◌-◌}
 use mathlib.Core.Path.{◌≡◌, ap, ◌∙◌}
-use Rattle.marked_pairs.specs.MarkedPairs.{AlsoMarked, also_none, also_both, also_cong, pairs_also, pairs_cong}
+use Rattle.marked_pairs.specs.MarkedPairs.{also_none, also_both, also_cong, pairs_also, pairs_cong}
 use Rattle.request_marks.specs.DiagonalMarks.{diagonal_pairs}
 use Rattle.request_marks.proofs.DiagonalLaws.{diagonals_none, diagonals_next}
 use Rattle.request_marks.proofs.diagonals.mark_diagonals.Goals as goal

@@ -1,11 +1,7 @@
-use Prim.Native.Nat.{ℕ, ◌≤◌, ◌-◌, ◌+◌}
-use native.Mathlib.Omega.{arith}
-use mathlib.Core.Path.{◌≡◌, sym, subst, subst₂}
-use Rattle.lists.specs.Test.{any_in, any_in_none}
-use Rattle.pairs.specs.Pair.{ordered}
-use Rattle.marked_pairs.specs.MarkedPairs.{InsertInput, AlsoMarked, also_none, also_next}
+use Prim.Native.Nat.{◌≤◌, ◌-◌, ◌+◌}
+use Rattle.lists.specs.Test.{any_in}
+use Rattle.marked_pairs.specs.MarkedPairs.{AlsoMarked}
 use Rattle.pattern_lists.specs.PatternMarks.{term_set}
-use Rattle.request_marks.proofs.OperatorLaws.{row_part, row_insert}
 use Rattle.request_marks.proofs.operator.mark_terms.Given as goal
 
 abbrev pub invariant-loop-b : goal.invariant-loop-b

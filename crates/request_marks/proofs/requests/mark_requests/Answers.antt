@@ -1,14 +1,11 @@
-use borrow.Author.Rules.{rules}
 use native.Mathlib.Omega.{arith}
-use Prim.Native.Nat.{ℕ, ◌≤◌, ◌-◌}
+use Prim.Native.Nat.{ℕ, ◌-◌}
 use mathlib.Core.Path.{◌≡◌, ap, ap₂, ◌∙◌}
-use mathlib.Core.Bool.{Bool}
-use mathlib.Core.List.{List}
 use lib.ListN.{length, get_or}
-use Rattle.lists.specs.Test.{any, any_none}
+use Rattle.lists.specs.Test.{any_none}
 use Rattle.pairs.specs.Pair.{ordered}
 use Rattle.closed_set.specs.Requests.{requested}
-use Rattle.marked_pairs.specs.MarkedPairs.{AlsoMarked, also_none, also_more, also_cong, pairs_also, pairs_cong}
+use Rattle.marked_pairs.specs.MarkedPairs.{also_none, also_more, also_cong, pairs_also, pairs_cong}
 use Rattle.request_marks.proofs.requests.mark_requests.Invariants.{before}
 use Rattle.request_marks.proofs.requests.mark_requests.Goals as goal
 

@@ -1,5 +1,4 @@
 use native.Mathlib.Omega.{arith}
-use borrow.Author.Rules.{rules}
 use Rattle.bits.specs.Bits.{bit_words}
 use Rattle.set_bits.proofs.CountLaws.{count_most, count_past, count_is}
 use Rattle.set_bits.proofs.count.count_bits.Goals as goal

@@ -1,8 +1,7 @@
-use Prim.Native.Nat.{◌-◌, ◌*◌, ◌≤◌}
+use Prim.Native.Nat.{◌-◌, ◌*◌}
 use native.Mathlib.Omega.{arith}
 use mathlib.Core.Path.{◌≡◌, sym}
-use borrow.Author.Rules.{rules}
-use Rattle.lists.specs.Select.{tally, tally_none}
+use Rattle.lists.specs.Select.{tally_none}
 use Rattle.bits.specs.Bits.{bit_at}
 use Rattle.set_bits.proofs.CountLaws.{ones_more}
 use Rattle.set_bits.proofs.count.ones_between.Goals as goal

@@ -1,10 +1,7 @@
 use Prim.Native.Nat.{◌-◌, ◌*◌, ◌≤◌}
-use native.Mathlib.Omega.{arith}
-use mathlib.Core.Path.{◌≡◌, sym}
-use borrow.Author.Rules.{rules}
-use Rattle.lists.specs.Select.{tally, tally_none}
+use mathlib.Core.Path.{◌≡◌}
+use Rattle.lists.specs.Select.{tally}
 use Rattle.bits.specs.Bits.{bit_at}
-use Rattle.set_bits.proofs.CountLaws.{ones_more}
 use Rattle.set_bits.proofs.count.ones_between.Given as goal
 
 abbrev pub invariant-loop-w : goal.invariant-loop-w

@@ -1,7 +1,6 @@
 use native.Mathlib.Omega.{arith}
 use Prim.Native.Nat.{◌≤◌, ◌/◌, ◌^◌}
 use lib.Count.{ones}
-use borrow.Author.Rules.{rules}
 use Rattle.lists.specs.Select.{tally_most}
 use Rattle.set_bits.specs.Counted.{digit_test}
 use Rattle.set_bits.proofs.CountLaws.{ones-shifted}

@@ -1,5 +1,4 @@
 use native.Mathlib.Omega.{arith}
-use borrow.Author.Rules.{rules}
 use Rattle.bits.specs.Bits.{bit_words}
 use Rattle.set_bits.proofs.CountLaws.{rest_none, rest_some}
 use Rattle.set_bits.proofs.count.rest_ones.Goals as goal

@@ -1,9 +1,9 @@
 use Prim.Native.Nat.{◌<◌, ◌-◌}
 use native.Mathlib.Omega.{arith}
-use mathlib.Core.Path.{◌≡◌, refl, ◌∙◌}
+use mathlib.Core.Path.{refl, ◌∙◌}
 use lib.ListN.{length, length-set}
 use borrow.Author.Rules.{rules}
-use Rattle.set_bits.proofs.WordLaws.{WordPart, word_none, word_end, word_stop, word_room, word_more}
+use Rattle.set_bits.proofs.WordLaws.{word_none, word_end, word_stop, word_room, word_more}
 use Rattle.set_bits.proofs.word_numbers.list_word.Goals as goal
 
 -- there is room for the low

@@ -1,9 +1,7 @@
-use Prim.Native.Nat.{◌<◌, ◌-◌}
-use native.Mathlib.Omega.{arith}
-use mathlib.Core.Path.{◌≡◌, refl, ◌∙◌}
-use lib.ListN.{length, length-set}
-use borrow.Author.Rules.{rules}
-use Rattle.set_bits.proofs.WordLaws.{WordPart, word_none, word_end, word_stop, word_room, word_more}
+use Prim.Native.Nat.{◌-◌}
+use mathlib.Core.Path.{◌≡◌}
+use lib.ListN.{length}
+use Rattle.set_bits.proofs.WordLaws.{WordPart}
 use Rattle.set_bits.proofs.word_numbers.list_word.Given as goal
 
 abbrev pub invariant-loop-w : goal.invariant-loop-w

@@ -1,7 +1,6 @@
 use Prim.Native.Nat.{◌-◌}
 use mathlib.Core.Path.{sym, ◌∙◌}
 use borrow.Author.Rules.{rules}
-use Rattle.set_bits.specs.Zeros.{Zeros}
 use Rattle.set_bits.proofs.ZeroLaws.{zeros_none, zeros_four}
 use Rattle.set_bits.proofs.zero_words.skip_fours.Goals as goal
 

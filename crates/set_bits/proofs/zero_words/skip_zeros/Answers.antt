@@ -1,7 +1,5 @@
 use Prim.Native.Nat.{◌-◌}
 use native.Mathlib.Omega.{arith}
-use borrow.Author.Rules.{rules}
-use Rattle.set_bits.specs.Zeros.{Zeros}
 use Rattle.set_bits.proofs.ZeroLaws.{zeros_more}
 use Rattle.set_bits.proofs.zero_words.skip_zeros.Goals as goal
 

@@ -1,15 +1,11 @@
 use mathlib.Core.Bool.{Bool, ◌||◌, or-true, or-false}
-use mathlib.Core.List.{List}
-use mathlib.Core.Logic.{⊎_elim}
 use mathlib.Core.Path.{◌≡◌, ap, sym, ◌∙◌}
 use native.Mathlib.Omega.{arith}
-use Prim.Native.Nat.{ℕ, ◌≤◌, ◌-◌}
-use lib.IntN.{ℤ}
+use Prim.Native.Nat.{◌-◌}
 use mir.Syntax.{w64}
 use mir.ValLaws.{to_z-of_z}
 use borrow.Author.Rules.{rules}
 use Rattle.lists.specs.Test.{any_in, any_in_none, any_in_next}
-use Rattle.columns.specs.WholeFactor.{whole_value}
 use Rattle.exact.specs.Checked.{beyond}
 use Rattle.whole_steps.proofs.whole_lists.beyond_between.Invariants.{test}
 use Rattle.whole_steps.proofs.whole_lists.beyond_between.Goals as goal
@@ -27,8 +23,8 @@ loop-p-preserved c = let a = c.args in
       search rules,
       search rules,
       elim c.if-is_beyond.branch [
-        then-is_beyond v ↦ v.found-is ∙ sym (n ∙ ap (λ (x : Bool). any_in t a.s c.loop-p.p || x) (told ∙ v.if-is_beyond.true) ∙ or-true (any_in t a.s c.loop-p.p))
-      | else-is_beyond v ↦ v.found-is ∙ c.loop-p.invariant.2 ∙ sym (n ∙ ap (λ (x : Bool). any_in t a.s c.loop-p.p || x) (told ∙ v.if-is_beyond.false) ∙ or-false (any_in t a.s c.loop-p.p))
+        | then-is_beyond v ↦ v.found-is ∙ sym (n ∙ ap (λ (x : Bool). any_in t a.s c.loop-p.p || x) (told ∙ v.if-is_beyond.true) ∙ or-true (any_in t a.s c.loop-p.p))
+        | else-is_beyond v ↦ v.found-is ∙ c.loop-p.invariant.2 ∙ sym (n ∙ ap (λ (x : Bool). any_in t a.s c.loop-p.p || x) (told ∙ v.if-is_beyond.false) ∙ or-false (any_in t a.s c.loop-p.p))
       ],
     )
 

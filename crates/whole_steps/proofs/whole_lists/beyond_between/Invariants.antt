@@ -1,14 +1,9 @@
-use mathlib.Core.Bool.{Bool, ◌||◌, or-true, or-false}
+use mathlib.Core.Bool.{Bool}
 use mathlib.Core.List.{List}
-use mathlib.Core.Logic.{⊎_elim}
-use mathlib.Core.Path.{◌≡◌, ap, sym, ◌∙◌}
-use native.Mathlib.Omega.{arith}
+use mathlib.Core.Path.{◌≡◌}
 use Prim.Native.Nat.{ℕ, ◌≤◌, ◌-◌}
 use lib.IntN.{ℤ}
-use mir.Syntax.{w64}
-use mir.ValLaws.{to_z-of_z}
-use borrow.Author.Rules.{rules}
-use Rattle.lists.specs.Test.{any_in, any_in_none, any_in_next}
+use Rattle.lists.specs.Test.{any_in}
 use Rattle.columns.specs.WholeFactor.{whole_value}
 use Rattle.exact.specs.Checked.{beyond}
 use Rattle.whole_steps.proofs.whole_lists.beyond_between.Given as goal

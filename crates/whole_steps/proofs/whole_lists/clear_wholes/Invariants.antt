@@ -1,11 +1,8 @@
-use lib.IntN.{ℤ, pos}
-use Prim.Native.Nat.{ℕ, ◌≤◌, ◌<◌, ◌-◌}
-use native.Mathlib.Omega.{arith}
-use mathlib.Core.Path.{◌≡◌, refl, ap, ◌∙◌}
-use mathlib.Core.List.{List}
-use lib.ListN.{length, set, length-set}
-use borrow.Author.Rules.{rules}
-use Rattle.lists.specs.Overwrite.{filled, filled_none, filled_more}
+use lib.IntN.{pos}
+use Prim.Native.Nat.{◌≤◌, ◌-◌}
+use mathlib.Core.Path.{◌≡◌}
+use lib.ListN.{length}
+use Rattle.lists.specs.Overwrite.{filled}
 use Rattle.whole_steps.proofs.whole_lists.clear_wholes.Given as goal
 
 abbrev pub invariant-loop-i : goal.invariant-loop-i

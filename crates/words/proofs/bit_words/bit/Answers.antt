@@ -1,9 +1,5 @@
-use borrow.Author.Rules.{rules}
-use Prim.Native.Nat.{◌-◌}
 use mathlib.Core.Path.{refl}
 use Rattle.bits.specs.Bits.{bit_at}
-use Rattle.words.proofs.bit_words.bit.Reads as reads
-use Rattle.words.proofs.bit_words.bit.Lts as lts
 use Rattle.words.proofs.bit_words.bit.Goals as goal
 
 -- src/lib.rt:8:1

@@ -1,6 +1,5 @@
-use borrow.Author.Rules.{rules}
 use native.Mathlib.Omega.{arith}
-use Prim.Native.Nat.{ℕ, ◌≤◌, ◌-◌, ◌*◌, ◌/◌, ◌%◌, ◌^◌}
+use Prim.Native.Nat.{ℕ, ◌*◌, ◌/◌, ◌%◌, ◌^◌}
 use mathlib.Core.Path.{◌≡◌, ap, ◌∙◌}
 use native.Mathlib.Nat.{one-mul}
 use mathlib.Core.List.{List}
@@ -8,8 +7,6 @@ use lib.Dec.{lit≤}
 use lib.Bits.{bit_or}
 use lib.Pow.{shl_exact}
 use lib.ListN.{get_or, set}
-use Rattle.words.proofs.bit_words.set_bit.Reads as reads
-use Rattle.words.proofs.bit_words.set_bit.Lts as lts
 use Rattle.words.proofs.bit_words.set_bit.Goals as goal
 
 -- src/lib.rt:17:1

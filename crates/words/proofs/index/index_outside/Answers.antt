@@ -1,11 +1,7 @@
 use borrow.Author.Tests.{le-leb, lt-leb}
-use mathlib.Core.Bool.{false}
-use Rattle.columns.specs.Columns.{outside_at}
-use Rattle.lists.specs.Test.{any, any_none, any_more, any-hit, any_less}
+use Rattle.lists.specs.Test.{any_none, any_more, any-hit, any_less}
 use borrow.Author.Rules.{rules}
-use Prim.Native.Nat.{◌≤◌, ◌-◌}
-use mathlib.Core.Path.{◌≡◌, sym}
-use lib.ListN.{length}
+use mathlib.Core.Path.{sym}
 use Rattle.words.proofs.index.index_outside.Goals as goal
 
 pub loop-k-init : goal.loop-k-init

@@ -1,10 +1,8 @@
-use borrow.Author.Tests.{le-leb, lt-leb}
 use mathlib.Core.Bool.{false}
 use Rattle.columns.specs.Columns.{outside_at}
-use Rattle.lists.specs.Test.{any, any_none, any_more, any-hit, any_less}
-use borrow.Author.Rules.{rules}
+use Rattle.lists.specs.Test.{any}
 use Prim.Native.Nat.{◌≤◌, ◌-◌}
-use mathlib.Core.Path.{◌≡◌, sym}
+use mathlib.Core.Path.{◌≡◌}
 use lib.ListN.{length}
 use Rattle.words.proofs.index.index_outside.Given as goal
 

@@ -1,12 +1,11 @@
-use Rattle.lists.specs.Select.{picked, select, tally, tally_none, tally_next, tally_most}
+use Rattle.lists.specs.Select.{picked, select, tally_none, tally_next, tally_most}
 use Rattle.lists.specs.Sum.{bit}
 use Rattle.columns.specs.Columns.{not_above}
 use borrow.Author.Tests.{le-leb, lt-leb}
 use borrow.Author.Rules.{rules}
 use native.Mathlib.Omega.{arith}
-use Prim.Native.Nat.{ℕ, ◌≤◌, ◌-◌, ◌+◌}
+use Prim.Native.Nat.{ℕ, ◌-◌, ◌+◌}
 use mathlib.Core.Path.{◌≡◌, ap, sym, ◌∙◌}
-use mathlib.Core.Logic.{⊎_elim}
 use lib.ListN.{length}
 use Rattle.words.proofs.order.descents.Goals as goal
 use Rattle.words.proofs.order.descents.Goals.{then-rows-p, else-rows-p}
@@ -22,8 +21,8 @@ loop-p-preserved c = let n = tally_next (not_above c.args.rows.now) (c.args.s + 
   search rules,
   search rules,
   elim c.if-rows-p.branch [
-    then-rows-p w ↦ omega (arith, n, ap bit (le-leb _ _ w.if-rows-p.true))
-  | else-rows-p w ↦ omega (arith, n, ap bit (lt-leb _ _ w.if-rows-p.false))
+    | then-rows-p w ↦ omega (arith, n, ap bit (le-leb _ _ w.if-rows-p.true))
+    | else-rows-p w ↦ omega (arith, n, ap bit (lt-leb _ _ w.if-rows-p.false))
   ],
 )
 

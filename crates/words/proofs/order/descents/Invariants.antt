@@ -1,13 +1,7 @@
-use Rattle.lists.specs.Select.{picked, select, tally, tally_none, tally_next, tally_most}
-use Rattle.lists.specs.Sum.{bit}
+use Rattle.lists.specs.Select.{tally}
 use Rattle.columns.specs.Columns.{not_above}
-use borrow.Author.Tests.{le-leb, lt-leb}
-use borrow.Author.Rules.{rules}
-use native.Mathlib.Omega.{arith}
-use Prim.Native.Nat.{ℕ, ◌≤◌, ◌-◌, ◌+◌}
-use mathlib.Core.Path.{◌≡◌, ap, sym, ◌∙◌}
-use mathlib.Core.Logic.{⊎_elim}
-use lib.ListN.{length}
+use Prim.Native.Nat.{◌≤◌, ◌-◌, ◌+◌}
+use mathlib.Core.Path.{◌≡◌}
 use Rattle.words.proofs.order.descents.Given as goal
 
 abbrev pub invariant-loop-p : goal.invariant-loop-p

@@ -1,0 +1,4 @@
+-- Operator variances: refusals, reply, lists and the exact case.
+pub mod Transformed
+pub mod ExactVariances
+pub mod Worked

@@ -1,0 +1,20 @@
+use Prim.Native.Nat.{ℕ, ◌≤◌, ◌<◌, ◌-◌}
+use native.Mathlib.Omega.{arith}
+use mathlib.Core.Path.{◌≡◌, refl, ap, ◌∙◌}
+use mathlib.Core.List.{List}
+use lib.ListN.{length, get_or, set, length-set}
+use lib.Ieee.{Float, nan}
+use borrow.Author.Rules.{rules}
+use Rattle.lists.specs.Overwrite.{filled, filled_none, filled_more}
+use Rattle.factor_order.specs.Permutation.{index}
+use Rattle.original_diagonal_with_limit.proofs.write_original.Given as goal
+
+-- the first entry of column perm i
+abbrev pub entry : List ℕ → List ℕ → List Float → ℕ → Float
+entry perm starts values i = get_or values (index starts (index perm i)) nan
+
+abbrev pub invariant-loop-i : goal.invariant-loop-i
+invariant-loop-i l = (l.i ≤ l.n) × (length l.output ≡ length l.initial.output) × (l.output ≡ filled (entry l.orig_to_perm l.result_starts l.result_values) l.i l.initial.output)
+
+abbrev pub decreases-loop-i : goal.decreases-loop-i
+decreases-loop-i l = l.n - l.i

@@ -1,0 +1,94 @@
+use native.Mathlib.Omega.{arith}
+use Prim.Native.Nat.{ℕ, ◌≤◌, ◌-◌, ◌+◌}
+use mathlib.Core.Path.{◌≡◌, refl, ap, sym, ◌∙◌}
+use lib.ListN.{length}
+use mathlib.Core.List.{◌++◌}
+use lib.ListN.{take, length-append}
+use Rattle.pairs.specs.Pair.{max_pairs}
+use Rattle.pairs.specs.ColumnOrder.{column_marking, col_start_none, col_start_next}
+use Rattle.requests_writer.specs.Lines.{rows_bytes, columns_bytes, RowsInside}
+use Rattle.requests_writer.proofs.ByteLaws.{columns_none}
+use Rattle.requests_writer.proofs.ColumnLaws.{pairs_to, column_input, rows_inside, columns_more, pairs_more, list_long, pairs_most, column_small}
+use Rattle.requests_writer.proofs.lines.lines_length.Goals as goal
+
+-- what is known of the column whose rows are listed
+column-After-slice_known-in-loop-c-1 : (b : goal.After-slice_known-in-loop-c-1) → let a = b.args in let l = b.loop-c in let S = column_marking a.n a.marks.now in
+    RowsInside l.c b.list_bits-count.new.list b.list_bits-count.result
+    × (columns_bytes a.n S l.c ++ rows_bytes l.c (take b.list_bits-count.result b.list_bits-count.new.list) ≡ columns_bytes a.n S (l.c + 1))
+    × (pairs_to a.n S (l.c + 1) ≡ pairs_to a.n S l.c + b.list_bits-count.result)
+    × (length b.list_bits-count.new.list ≡ length l.list)
+    × (pairs_to a.n S (l.c + 1) ≤ max_pairs)
+    × (l.place + (a.n - l.c) ≤ max_pairs)
+column-After-slice_known-in-loop-c-1 b =
+    let l = b.loop-c in
+    let P = b.requires in
+    let a = b.args in
+    let room : a.n ≤ length l.list = omega (arith, P.room, l.invariant.4) in
+    let L = b.list_bits-count.ensures in
+    let k< = b.loop-c-test.true in (
+      rows_inside _ _ _ _ P.small P.all l.invariant.2 k< _ _ _ room L,
+      columns_more _ _ _ _ P.small P.all l.invariant.2 k< _ _ _ room L,
+      pairs_more _ _ _ _ P.small P.all l.invariant.2 k< _ _ _ room L,
+      list_long _ _ _ _ P.small P.all l.invariant.2 k< _ _ _ room L,
+      pairs_most a.n (column_marking a.n a.marks.now) (l.c + 1) P.small (omega (arith, k<)),
+      column_small a.n a.marks.now l.c l.place P.small P.all l.invariant.2 k<,
+    )
+
+-- what is known of the column whose rows are listed
+column-After-rows_length-total : (b : goal.After-rows_length-total) → let a = b.args in let l = b.loop-c in let S = column_marking a.n a.marks.now in
+    RowsInside l.c b.list_bits-count.new.list b.list_bits-count.result
+    × (columns_bytes a.n S l.c ++ rows_bytes l.c (take b.list_bits-count.result b.list_bits-count.new.list) ≡ columns_bytes a.n S (l.c + 1))
+    × (pairs_to a.n S (l.c + 1) ≡ pairs_to a.n S l.c + b.list_bits-count.result)
+    × (length b.list_bits-count.new.list ≡ length l.list)
+    × (pairs_to a.n S (l.c + 1) ≤ max_pairs)
+    × (l.place + (a.n - l.c) ≤ max_pairs)
+column-After-rows_length-total b =
+    let l = b.loop-c in
+    let P = b.requires in
+    let a = b.args in
+    let room : a.n ≤ length l.list = omega (arith, P.room, l.invariant.4) in
+    let L = b.list_bits-count.ensures in
+    let k< = b.loop-c-test.true in (
+      rows_inside _ _ _ _ P.small P.all l.invariant.2 k< _ _ _ room L,
+      columns_more _ _ _ _ P.small P.all l.invariant.2 k< _ _ _ room L,
+      pairs_more _ _ _ _ P.small P.all l.invariant.2 k< _ _ _ room L,
+      list_long _ _ _ _ P.small P.all l.invariant.2 k< _ _ _ room L,
+      pairs_most a.n (column_marking a.n a.marks.now) (l.c + 1) P.small (omega (arith, k<)),
+      column_small a.n a.marks.now l.c l.place P.small P.all l.invariant.2 k<,
+    )
+
+pub loop-c-init : goal.loop-c-init
+loop-c-init c = (sym (ap length (columns_none _ _)), omega arith, sym (col_start_none _), omega arith, refl)
+
+pub list_bits-count-requires : goal.list_bits-count-requires
+list_bits-count-requires c = let P = c.requires in
+    column_input _ _ _ _ P.small P.all c.loop-c.invariant.2 c.loop-c-test.true _ (omega (arith, P.room, c.loop-c.invariant.4))
+
+pub rows_length-total-requires : goal.rows_length-total-requires
+rows_length-total-requires c = (column-After-slice_known-in-loop-c-1 c).0
+
+pub overflow_add-total : goal.overflow_add-total
+overflow_add-total c = omega (arith, c.loop-c.invariant.1, c.rows_length-total.ensures.1, (column-After-rows_length-total c).2, (column-After-rows_length-total c).4)
+
+pub overflow_add-place : goal.overflow_add-place
+overflow_add-place c = omega (arith, (column-After-rows_length-total c).5)
+
+pub loop-c-preserved : goal.loop-c-preserved
+loop-c-preserved c = let l = c.loop-c in
+    let a = c.args in
+    let C = column-After-rows_length-total c in
+    let e = ap length C.1 in (
+      omega (arith, l.invariant.0, c.rows_length-total.ensures.0, e, length-append (columns_bytes a.n (column_marking a.n a.marks.now) l.c) (rows_bytes l.c (take c.list_bits-count.result c.list_bits-count.new.list))),
+      omega (arith, l.invariant.1, c.rows_length-total.ensures.1, C.2),
+      omega (arith, l.invariant.2, col_start_next a.n l.c),
+      omega (arith, c.loop-c-test.true),
+      C.3 ∙ l.invariant.4,
+    )
+
+pub shape_of-list : goal.shape_of-list
+shape_of-list c = c.loop-c.invariant.4
+
+pub returns : goal.returns
+returns c = let l = c.loop-c in
+    let e : l.c ≡ c.args.n = omega (arith, c.loop-c-test.false, l.invariant.3) in
+    (l.invariant.0 ∙ ap (λ (k : ℕ). length (columns_bytes c.args.n (column_marking c.args.n c.args.marks.now) k)) e, omega (arith, l.invariant.1, pairs_most c.args.n (column_marking c.args.n c.args.marks.now) l.c c.requires.small l.invariant.3))

@@ -1,0 +1,80 @@
+use borrow.Author.Rules.{rules}
+use native.Mathlib.Omega.{arith}
+use Prim.Native.Nat.{ℕ, ◌-◌}
+use mathlib.Core.Path.{◌≡◌, ap, sym, ◌∙◌}
+use lib.ListN.{length}
+use Rattle.refusal.specs.Steps.{Passed, verdict}
+use Rattle.refusal.specs.Bounds.{output_steps}
+use Rattle.run_sums.specs.Runs.{runs}
+use Rattle.refusal.specs.Refusal.{reply_of}
+use Rattle.result.specs.Lookup.{result_steps}
+use Rattle.result.specs.Laws.{result_steps-sound}
+use Rattle.track_variances.specs.Track.{width_steps, run_steps}
+use Rattle.track_variances.specs.Laws.{Width, width_steps-sound, track_result, track_width, track_runs, track_room}
+use Rattle.track_variances.proofs.checks.check_call.Goals as goal
+
+-- what has passed
+result-passed-In-Refused-check_width : (c : goal.In-Refused-check_width) → let a = c.args in Passed (result_steps a.starts.now a.rows.now (length a.values.now))
+result-passed-In-Refused-check_width c = sym c.check_result.ensures ∙ ap reply_of c.in_default.is
+
+-- what has passed
+result-passed-In_default-check_width : (c : goal.In_default-check_width) → let a = c.args in Passed (result_steps a.starts.now a.rows.now (length a.values.now))
+result-passed-In_default-check_width c = sym c.check_result.ensures ∙ ap reply_of c.in_default.is
+
+-- what has passed
+result-passed-In-Refused-check_runs : (c : goal.In-Refused-check_runs) → let a = c.args in Passed (result_steps a.starts.now a.rows.now (length a.values.now))
+result-passed-In-Refused-check_runs c = sym c.check_result.ensures ∙ ap reply_of c.in_default.is
+
+-- what has passed
+result-passed-After-check_output : (c : goal.After-check_output) → let a = c.args in Passed (result_steps a.starts.now a.rows.now (length a.values.now))
+result-passed-After-check_output c = sym c.check_result.ensures ∙ ap reply_of c.in_default.is
+
+width_passed-In_default-check_width : (c : goal.In_default-check_width) → let a = c.args in Passed (width_steps (length a.track.now) a.width)
+width_passed-In_default-check_width c = sym c.check_width.ensures ∙ ap reply_of c.in_default-check_width.is
+
+width_passed-In-Refused-check_runs : (c : goal.In-Refused-check_runs) → let a = c.args in Passed (width_steps (length a.track.now) a.width)
+width_passed-In-Refused-check_runs c = sym c.check_width.ensures ∙ ap reply_of c.in_default-check_width.is
+
+width_passed-In_default-check_runs : (c : goal.In_default-check_runs) → let a = c.args in Passed (width_steps (length a.track.now) a.width)
+width_passed-In_default-check_runs c = sym c.check_width.ensures ∙ ap reply_of c.in_default-check_width.is
+
+width_passed-After-check_output : (c : goal.After-check_output) → let a = c.args in Passed (width_steps (length a.track.now) a.width)
+width_passed-After-check_output c = sym c.check_width.ensures ∙ ap reply_of c.in_default-check_width.is
+
+runs-passed : (c : goal.After-check_output) → let a = c.args in Passed (run_steps a.starts.now a.rows.now a.values.now a.track.now a.width)
+runs-passed c = sym c.check_runs.ensures ∙ ap reply_of c.in_default-check_runs.is
+
+width_is-In_default-check_width : (c : goal.In_default-check_width) → let a = c.args in Width (length a.track.now) a.width
+width_is-In_default-check_width c = width_steps-sound _ _ (width_passed-In_default-check_width c)
+
+width_is-In_default-check_runs : (c : goal.In_default-check_runs) → let a = c.args in Width (length a.track.now) a.width
+width_is-In_default-check_runs c = width_steps-sound _ _ (width_passed-In_default-check_runs c)
+
+width_is-After-check_output : (c : goal.After-check_output) → let a = c.args in Width (length a.track.now) a.width
+width_is-After-check_output c = width_steps-sound _ _ (width_passed-After-check_output c)
+
+pub returns-in-Refused : goal.returns-in-Refused
+returns-in-Refused c = track_result _ _ _ _ _ _ (sym c.check_result.ensures ∙ ap reply_of c.in-Refused.is)
+
+pub returns-in-Refused-check_width : goal.returns-in-Refused-check_width
+returns-in-Refused-check_width c = track_width _ _ _ _ _ _ (result-passed-In-Refused-check_width c) (sym c.check_width.ensures ∙ ap reply_of c.in-Refused-check_width.is)
+
+pub check_runs-requires : goal.check_runs-requires
+check_runs-requires c = let w = width_is-In_default-check_width c in
+    record { well_formed = result_steps-sound _ _ _ (result-passed-In_default-check_width c); width_nonzero = (w.wide, w.long) }
+
+pub returns-in-Refused-check_runs : goal.returns-in-Refused-check_runs
+returns-in-Refused-check_runs c = track_runs _ _ _ _ _ _ (result-passed-In-Refused-check_runs c) (width_passed-In-Refused-check_runs c) (sym c.check_runs.ensures ∙ ap reply_of c.in-Refused-check_runs.is)
+
+pub overflow_sub-width : goal.overflow_sub-width
+overflow_sub-width c = let w = (width_is-In_default-check_runs c).wide in search rules
+
+pub overflow_sub-track : goal.overflow_sub-track
+overflow_sub-track c = let w = (width_is-In_default-check_runs c).long in search rules
+
+pub returns : goal.returns
+returns c = let a = c.args in
+    let w = width_is-After-check_output c in
+    let n : length a.track.now - (a.width - 1) ≡ runs (length a.track.now) a.width = omega (arith, w.wide, w.long) in
+    c.check_output.ensures ∙ ap (λ (i : ℕ). verdict (output_steps i a.room)) n
+    ∙ track_room a.starts.now a.rows.now a.values.now a.track.now a.width a.room (result-passed-After-check_output c) (width_passed-After-check_output c) (runs-passed c)

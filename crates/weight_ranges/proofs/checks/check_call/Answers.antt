@@ -1,0 +1,61 @@
+use borrow.Author.Rules.{rules}
+use native.Mathlib.Omega.{arith}
+use mathlib.Core.Path.{ap, sym, ◌∙◌}
+use lib.ListN.{length}
+use Rattle.refusal.specs.Steps.{Passed}
+use Rattle.refusal.specs.Refusal.{reply_of}
+use Rattle.result.specs.Lookup.{dimension, result_steps}
+use Rattle.result.specs.Laws.{result_steps-sound}
+use Rattle.weight_ranges.specs.Ranges.{range_row_steps, weight_steps}
+use Rattle.weight_ranges.specs.Laws.{range_result, range_row, range_weights, range_pairs, equal_lengths}
+use Rattle.weight_ranges.proofs.checks.check_call.Goals as goal
+
+result-passed-In_default : (c : goal.In_default) → let a = c.args in Passed (result_steps a.starts.now a.rows.now (length a.values.now))
+result-passed-In_default c = sym c.check_result.ensures ∙ ap reply_of c.in_default.is
+
+result-passed-In-Refused-check_row : (c : goal.In-Refused-check_row) → let a = c.args in Passed (result_steps a.starts.now a.rows.now (length a.values.now))
+result-passed-In-Refused-check_row c = sym c.check_result.ensures ∙ ap reply_of c.in_default.is
+
+result-passed-In-Refused-check_weights : (c : goal.In-Refused-check_weights) → let a = c.args in Passed (result_steps a.starts.now a.rows.now (length a.values.now))
+result-passed-In-Refused-check_weights c = sym c.check_result.ensures ∙ ap reply_of c.in_default.is
+
+result-passed-In_default-check_weights : (c : goal.In_default-check_weights) → let a = c.args in Passed (result_steps a.starts.now a.rows.now (length a.values.now))
+result-passed-In_default-check_weights c = sym c.check_result.ensures ∙ ap reply_of c.in_default.is
+
+result-passed-After-check_pairs : (c : goal.After-check_pairs) → let a = c.args in Passed (result_steps a.starts.now a.rows.now (length a.values.now))
+result-passed-After-check_pairs c = sym c.check_result.ensures ∙ ap reply_of c.in_default.is
+
+row_passed-In_default-check_row : (c : goal.In_default-check_row) → let a = c.args in Passed (range_row_steps (dimension a.starts.now) a.columns.now (length a.lows.now) (length a.highs.now))
+row_passed-In_default-check_row c = sym c.check_row.ensures ∙ ap reply_of c.in_default-check_row.is
+
+row_passed-In-Refused-check_weights : (c : goal.In-Refused-check_weights) → let a = c.args in Passed (range_row_steps (dimension a.starts.now) a.columns.now (length a.lows.now) (length a.highs.now))
+row_passed-In-Refused-check_weights c = sym c.check_row.ensures ∙ ap reply_of c.in_default-check_row.is
+
+row_passed-After-check_pairs : (c : goal.After-check_pairs) → let a = c.args in Passed (range_row_steps (dimension a.starts.now) a.columns.now (length a.lows.now) (length a.highs.now))
+row_passed-After-check_pairs c = sym c.check_row.ensures ∙ ap reply_of c.in_default-check_row.is
+
+weights_passed : (c : goal.After-check_pairs) → let a = c.args in Passed (weight_steps (length a.columns.now) a.lows.now a.highs.now)
+weights_passed c = sym c.check_weights.ensures ∙ ap reply_of c.in_default-check_weights.is
+
+pub returns-in-Refused : goal.returns-in-Refused
+returns-in-Refused c = range_result _ _ _ _ _ _ (sym c.check_result.ensures ∙ ap reply_of c.in-Refused.is)
+
+pub overflow_sub-starts : goal.overflow_sub-starts
+overflow_sub-starts c = let w = (result_steps-sound _ _ _ (result-passed-In_default c)).some in search rules
+
+pub returns-in-Refused-check_row : goal.returns-in-Refused-check_row
+returns-in-Refused-check_row c = range_row _ _ _ _ _ _ (result-passed-In-Refused-check_row c) (sym c.check_row.ensures ∙ ap reply_of c.in-Refused-check_row.is)
+
+pub check_weights-requires : goal.check_weights-requires
+check_weights-requires c = let a = c.args in
+    let e = equal_lengths a.starts.now a.rows.now a.values.now a.columns.now a.lows.now a.highs.now (row_passed-In_default-check_row c) in
+    (omega (arith, e.0), omega (arith, e.1))
+
+pub returns-in-Refused-check_weights : goal.returns-in-Refused-check_weights
+returns-in-Refused-check_weights c = range_weights _ _ _ _ _ _ (result-passed-In-Refused-check_weights c) (row_passed-In-Refused-check_weights c) (sym c.check_weights.ensures ∙ ap reply_of c.in-Refused-check_weights.is)
+
+pub check_pairs-requires : goal.check_pairs-requires
+check_pairs-requires c = result_steps-sound _ _ _ (result-passed-In_default-check_weights c)
+
+pub returns : goal.returns
+returns c = c.check_pairs.ensures ∙ range_pairs _ _ _ _ _ _ (result-passed-After-check_pairs c) (row_passed-After-check_pairs c) (weights_passed c)

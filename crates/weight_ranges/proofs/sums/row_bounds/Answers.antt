@@ -1,0 +1,55 @@
+use native.Mathlib.Omega.{arith}
+use native.Mathlib.Nat.{le_refl}
+use Prim.Native.Nat.{ℕ}
+use mathlib.Core.Path.{◌≡◌, refl, ap, ap₂, sym, ◌∙◌}
+use lib.ListN.{length}
+use lib.IntN.{ℤ, ◌+ℤ◌}
+use Rattle.integers.specs.Size.{size_more, size_is}
+use Rattle.integers.specs.Sum.{Σℤ, sum_next}
+use Rattle.weight_ranges.specs.Ranges.{least_term_of, greatest_term_of}
+use Rattle.weight_ranges.specs.Sizes.{least_sum_size, greatest_sum_size, least_sums_size, greatest_sums_size}
+use Rattle.weight_ranges.proofs.sums.row_bounds.Goals as goal
+
+-- the terms
+abbrev least-After-plus_range-total : goal.After-plus_range-total → ℕ → ℤ
+least-After-plus_range-total st = let s = st.args in λ i. Σℤ (length s.columns.now) (least_term_of s.starts.now s.rows.now s.values.now s.columns.now s.lows.now s.highs.now i)
+
+-- the terms
+abbrev least-After-loop-a : goal.After-loop-a → ℕ → ℤ
+least-After-loop-a st = let s = st.args in λ i. Σℤ (length s.columns.now) (least_term_of s.starts.now s.rows.now s.values.now s.columns.now s.lows.now s.highs.now i)
+
+abbrev greatest-After-plus_range-total : goal.After-plus_range-total → ℕ → ℤ
+greatest-After-plus_range-total st = let s = st.args in λ i. Σℤ (length s.columns.now) (greatest_term_of s.starts.now s.rows.now s.values.now s.columns.now s.lows.now s.highs.now i)
+
+abbrev greatest-After-loop-a : goal.After-loop-a → ℕ → ℤ
+greatest-After-loop-a st = let s = st.args in λ i. Σℤ (length s.columns.now) (greatest_term_of s.starts.now s.rows.now s.values.now s.columns.now s.lows.now s.highs.now i)
+
+pub loop-a-init : goal.loop-a-init
+loop-a-init c = (omega arith, refl, refl)
+
+pub place_bounds-requires : goal.place_bounds-requires
+place_bounds-requires c = record { ranges_ready = c.requires; a_in_bounds = c.loop-a-test.true }
+
+pub plus_range-total-requires : goal.plus_range-total-requires
+plus_range-total-requires c = let l = c.loop-a in
+    let n = c.loop-a-test.true in
+    let f = c.requires.few in
+    let x = least_sum_size c.requires l.a (length c.args.columns.now) c.loop-a-test.true (le_refl _) in
+    let y = greatest_sum_size c.requires l.a (length c.args.columns.now) c.loop-a-test.true (le_refl _) in (
+      size_more (size_is (sym l.invariant.1) (least_sums_size c.requires l.a l.invariant.0)) (omega (arith, n, f)),
+      size_more (size_is (sym l.invariant.2) (greatest_sums_size c.requires l.a l.invariant.0)) (omega (arith, n, f)),
+      size_more (size_is (sym c.place_bounds.ensures.low_value) x) (omega arith),
+      size_more (size_is (sym c.place_bounds.ensures.high_value) y) (omega arith),
+    )
+
+pub loop-a-preserved : goal.loop-a-preserved
+loop-a-preserved c = let l = c.loop-a in (
+  omega (arith, c.loop-a-test.true),
+  c.plus_range-total.ensures.low_value ∙ ap₂ ◌+ℤ◌ l.invariant.1 c.place_bounds.ensures.low_value ∙ sym (sum_next (least-After-plus_range-total c) l.a),
+  c.plus_range-total.ensures.high_value ∙ ap₂ ◌+ℤ◌ l.invariant.2 c.place_bounds.ensures.high_value ∙ sym (sum_next (greatest-After-plus_range-total c) l.a),
+)
+
+pub returns : goal.returns
+returns c = let l = c.loop-a in
+    let e : l.a ≡ length c.args.columns.now = omega (arith, c.loop-a-test.false, l.invariant.0) in
+    record { low_value = l.invariant.1 ∙ ap (λ (k : ℕ). Σℤ k (least-After-loop-a c)) e; high_value = l.invariant.2 ∙ ap (λ (k : ℕ). Σℤ k (greatest-After-loop-a c)) e }

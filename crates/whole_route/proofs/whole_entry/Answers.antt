@@ -1,0 +1,99 @@
+use mathlib.Core.Path.{ap₂, subst, subst₂}
+use mathlib.Core.Bool.{cond}
+use lib.IntN.{ℤ}
+use lib.ListN.{set}
+use mir.Syntax.{w64}
+use mir.Val.{SFits, to_z, of_z}
+use mir.ValLaws.{to_z-of_z}
+use Rattle.columns.specs.Columns.{start}
+use Rattle.pairs.specs.ColumnOrder.{column_marking}
+use Rattle.entries.specs.Position.{position_below}
+use Rattle.exact.specs.Multiple.{Small}
+use Rattle.exact.specs.Checked.{beyond}
+use Rattle.entries.specs.WholeTable.{whole_table}
+use Rattle.whole_route.specs.Number.{number_reply, SmallNumber}
+use Rattle.whole_route.specs.Sums.{whole_inverse_at, whole_sum, WholeSumInput}
+use Rattle.whole_route.proofs.SumLaws.{sum_small}
+use Rattle.whole_route.specs.Route.{last_step}
+use Rattle.whole_route.proofs.EntryLaws.{entry_sum_input, entry_stopped, entry_number}
+use borrow.Author.Rules.{rules}
+use native.Mathlib.Omega.{arith}
+use Prim.Native.Nat.{ℕ, ◌-◌, ◌+◌}
+use mathlib.Core.Path.{◌≡◌, refl, ap, sym, ◌∙◌}
+use Rattle.whole_route.proofs.whole_entry.Goals as goal
+
+-- the sum's reply, by the column's own ends
+sum_is-After-store_entry-arg-1 : (m : goal.After-store_entry-arg-1) →
+    let a = m.args in
+    number_reply m.entry_sum-sum.result
+    ≡ whole_sum a.rows.now a.values.now a.j (whole_inverse_at a.n a.scratch.now a.work.now a.i) (start a.starts.now a.j) (start a.starts.now (a.j + 1))
+sum_is-After-store_entry-arg-1 m =
+    let a = m.args in
+    m.entry_sum-sum.ensures
+    ∙ ap₂ (whole_sum a.rows.now a.values.now a.j (whole_inverse_at a.n a.scratch.now a.work.now a.i)) m.requires.start_is m.requires.end_is
+
+-- the sum's reply, by the column's own ends
+sum_is-In-Beyond : (m : goal.In-Beyond) →
+    let a = m.args in
+    number_reply m.entry_sum-sum.result
+    ≡ whole_sum a.rows.now a.values.now a.j (whole_inverse_at a.n a.scratch.now a.work.now a.i) (start a.starts.now a.j) (start a.starts.now (a.j + 1))
+sum_is-In-Beyond m =
+    let a = m.args in
+    m.entry_sum-sum.ensures
+    ∙ ap₂ (whole_sum a.rows.now a.values.now a.j (whole_inverse_at a.n a.scratch.now a.work.now a.i)) m.requires.start_is m.requires.end_is
+
+-- the sum's reply, by the column's own ends
+sum_is-After-work-1 : (m : goal.After-work-1) →
+    let a = m.args in
+    number_reply m.entry_sum-sum.result
+    ≡ whole_sum a.rows.now a.values.now a.j (whole_inverse_at a.n a.scratch.now a.work.now a.i) (start a.starts.now a.j) (start a.starts.now (a.j + 1))
+sum_is-After-work-1 m =
+    let a = m.args in
+    m.entry_sum-sum.ensures
+    ∙ ap₂ (whole_sum a.rows.now a.values.now a.j (whole_inverse_at a.n a.scratch.now a.work.now a.i)) m.requires.start_is m.requires.end_is
+
+-- where it is a number
+abbrev number-After-store_entry-arg-1 : goal.After-store_entry-arg-1 → ℤ
+number-After-store_entry-arg-1 t = t.in-Value.x
+
+-- where it is a number
+abbrev number-After-work-1 : goal.After-work-1 → ℤ
+number-After-work-1 t = t.in-Value.x
+
+fits-number-After-store_entry-arg-1 : (t : goal.After-store_entry-arg-1) → SFits w64 (number-After-store_entry-arg-1 t)
+fits-number-After-store_entry-arg-1 t = search rules
+
+fits-number-After-work-1 : (t : goal.After-work-1) → SFits w64 (number-After-work-1 t)
+fits-number-After-work-1 t = search rules
+
+number_small : (t : goal.After-store_entry-arg-1) → Small (number-After-store_entry-arg-1 t)
+number_small t =
+    let a = t.args in
+    subst SmallNumber (ap number_reply t.in-Value.is)
+    (subst SmallNumber (sym (sum_is-After-store_entry-arg-1 t))
+    (sum_small a.rows.now a.values.now a.j (whole_inverse_at a.n a.scratch.now a.work.now a.i) (start a.starts.now a.j) (start a.starts.now (a.j + 1))))
+
+pub entry_sum-sum-requires : goal.entry_sum-sum-requires
+entry_sum-sum-requires c = let a = c.args in
+    let E = c.requires in
+    subst₂ (λ (x y : ℕ). WholeSumInput a.n a.i a.j x y a.rows.now a.values.now a.scratch.now a.work.now) (sym E.start_is) (sym E.end_is)
+    (entry_sum_input E)
+
+pub store_entry-requires : goal.store_entry-requires
+store_entry-requires c = let a = c.args in
+    let E = c.requires in
+    let b = position_below a.n (column_marking a.n a.scratch.now) a.i a.j a.n E.ordered E.inside (omega (arith, E.ordered, E.inside)) E.member in
+    record { small = subst Small (sym (to_z-of_z w64 (number-After-store_entry-arg-1 c) (fits-number-After-store_entry-arg-1 c))) (number_small c); fits = omega (arith, b, E.position_is, E.fits) }
+
+pub returns-in-Beyond : goal.returns-in-Beyond
+returns-in-Beyond c = record { tells = entry_stopped c.requires (sum_is-In-Beyond c) (ap number_reply c.in-Beyond.is); leaves = refl }
+
+pub returns-in-Value : goal.returns-in-Value
+returns-in-Value c = let a = c.args in
+    let N = entry_number c.requires (sym (ap number_reply c.in-Value.is) ∙ sum_is-After-work-1 c) in
+    let z : last_step a.i a.j (to_z w64 (of_z w64 (number-After-work-1 c))) ≡ whole_table a.n a.starts.now a.rows.now a.values.now a.i a.j =
+    ap (last_step a.i a.j) (to_z-of_z w64 (number-After-work-1 c) (fits-number-After-work-1 c)) ∙ N.0 in
+    record {
+      tells = c.store_entry.ensures.tells ∙ ap beyond z ∙ N.1;
+      leaves = c.store_entry.ensures.leaves ∙ ap (λ (x : ℤ). cond c.store_entry.result a.work.now (set a.work.now a.q x)) z;
+    }
