@@ -12,252 +12,278 @@ use pattern_lists::listed::PatternPairs;
 use refusal::{Checked, Refusal};
 use requests_reader::ReadRequests;
 use requests_writer::WrittenRequests;
+use std::io;
+use std::io::Write;
 use verdicts::refusal_number;
 use weight_ranges::VarianceBounds;
 
-pub fn put_ok() {
-    put(b"reply ok\n");
+pub fn put_ok(out: &mut impl Write) -> io::Result<()> {
+    put(out, b"reply ok\n")
 }
 
 // The number of a refusal.
-fn put_refused(why: Refusal) {
-    put_number(b"reply ", refusal_number(why) as usize);
+fn put_refused(out: &mut impl Write, why: Refusal) -> io::Result<()> {
+    put_number(out, b"reply ", refusal_number(why) as usize)
 }
 
-pub fn put_checked(answer: Checked) {
+pub fn put_checked(out: &mut impl Write, answer: Checked) -> io::Result<()> {
     match answer {
-        Checked::Accepted => put_ok(),
-        Checked::Refused(why) => put_refused(why),
+        Checked::Accepted => put_ok(out),
+        Checked::Refused(why) => put_refused(out, why),
     }
 }
 
 // A refusal of a lookup by its number, an absent pair by none.
-fn put_no_value(number: usize) {
+fn put_no_value(out: &mut impl Write, number: usize) -> io::Result<()> {
     if number == 8 {
-        put(b" none");
+        put(out, b" none")
     } else {
-        put(b" refused-");
-        put_count(number);
+        put(out, b" refused-")?;
+        put_count(out, number)
     }
 }
 
 // What a lookup finds.
-pub fn put_entry(entry: Entry) {
+pub fn put_entry(out: &mut impl Write, entry: Entry) -> io::Result<()> {
     match entry {
         Entry::Value(z) => {
-            put(b" ");
-            put_value(z);
+            put(out, b" ")?;
+            put_value(out, z)
         }
-        Entry::Refused(why) => put_no_value(refusal_number(why) as usize),
+        Entry::Refused(why) => put_no_value(out, refusal_number(why) as usize),
     }
 }
 
 // What a lookup among whole numbers finds.
-pub fn put_whole_entry(entry: WholeEntry) {
+pub fn put_whole_entry(out: &mut impl Write, entry: WholeEntry) -> io::Result<()> {
     match entry {
         WholeEntry::Value(z) => {
-            put(b" ");
-            put_whole(z);
+            put(out, b" ")?;
+            put_whole(out, z)
         }
-        WholeEntry::Refused(why) => put_no_value(refusal_number(why) as usize),
+        WholeEntry::Refused(why) => put_no_value(out, refusal_number(why) as usize),
     }
 }
 
-fn put_pair_count(count: usize) {
-    put_ok();
-    put_number(b"pairs ", count);
+fn put_pair_count(out: &mut impl Write, count: usize) -> io::Result<()> {
+    put_ok(out)?;
+    put_number(out, b"pairs ", count)
 }
 
 // The reply of a call for pattern lists.
-pub fn put_listed(answer: PatternPairs) {
+pub fn put_listed(out: &mut impl Write, answer: PatternPairs) -> io::Result<()> {
     match answer {
-        PatternPairs::Listed(count) => put_pair_count(count),
-        PatternPairs::Refused(why) => put_refused(why),
+        PatternPairs::Listed(count) => put_pair_count(out, count),
+        PatternPairs::Refused(why) => put_refused(out, why),
     }
 }
 
 // The lists after it.
-pub fn put_pairs(scratch: &[u32], pair_rows: &[u32], pair_columns: &[u32]) {
-    put_scratch(scratch);
-    put_words(b"prows ", pair_rows);
-    put_words(b"pcols ", pair_columns);
+pub fn put_pairs(
+    out: &mut impl Write,
+    scratch: &[u32],
+    pair_rows: &[u32],
+    pair_columns: &[u32],
+) -> io::Result<()> {
+    put_scratch(out, scratch)?;
+    put_words(out, b"prows ", pair_rows)?;
+    put_words(out, b"pcols ", pair_columns)
 }
 
 // How many pairs a chain has, none where the pair is not in the set.
-fn put_chain_length(count: usize) {
-    put_ok();
+fn put_chain_length(out: &mut impl Write, count: usize) -> io::Result<()> {
+    put_ok(out)?;
     if count == 0 {
-        put(b"chain none\n");
+        put(out, b"chain none\n")
     } else {
-        put_number(b"chain ", count);
+        put_number(out, b"chain ", count)
     }
 }
 
 // The reply of a call for a chain.
-pub fn put_chain(answer: ChainPairs) {
+pub fn put_chain(out: &mut impl Write, answer: ChainPairs) -> io::Result<()> {
     match answer {
-        ChainPairs::Pairs(count) => put_chain_length(count),
-        ChainPairs::Refused(why) => put_refused(why),
+        ChainPairs::Pairs(count) => put_chain_length(out, count),
+        ChainPairs::Refused(why) => put_refused(out, why),
     }
 }
 
 // The lists after it.
-pub fn put_chain_pairs(scratch: &[u32], chain_rows: &[u32], chain_columns: &[u32]) {
-    put_scratch(scratch);
-    put_words(b"crows ", chain_rows);
-    put_words(b"ccols ", chain_columns);
+pub fn put_chain_pairs(
+    out: &mut impl Write,
+    scratch: &[u32],
+    chain_rows: &[u32],
+    chain_columns: &[u32],
+) -> io::Result<()> {
+    put_scratch(out, scratch)?;
+    put_words(out, b"crows ", chain_rows)?;
+    put_words(out, b"ccols ", chain_columns)
 }
 
-fn put_sizes(dimension: usize, count: usize) {
-    put_ok();
-    put_number(b"rdim ", dimension);
-    put_number(b"requests ", count);
+fn put_sizes(out: &mut impl Write, dimension: usize, count: usize) -> io::Result<()> {
+    put_ok(out)?;
+    put_number(out, b"rdim ", dimension)?;
+    put_number(out, b"requests ", count)
 }
 
 // The reply of reading a file of requests.
-pub fn put_read(answer: ReadRequests) {
+pub fn put_read(out: &mut impl Write, answer: ReadRequests) -> io::Result<()> {
     match answer {
-        ReadRequests::Read(dimension, count) => put_sizes(dimension, count),
-        ReadRequests::Refused(why) => put_refused(why),
+        ReadRequests::Read(dimension, count) => put_sizes(out, dimension, count),
+        ReadRequests::Refused(why) => put_refused(out, why),
     }
 }
 
 // The lists after it.
-pub fn put_requests(rows: &[u32], columns: &[u32]) {
-    put_words(b"rrows ", rows);
-    put_words(b"rcols ", columns);
+pub fn put_requests(out: &mut impl Write, rows: &[u32], columns: &[u32]) -> io::Result<()> {
+    put_words(out, b"rrows ", rows)?;
+    put_words(out, b"rcols ", columns)
 }
 
-fn put_length(bytes: usize) {
-    put_ok();
-    put_number(b"bytes ", bytes);
+fn put_length(out: &mut impl Write, bytes: usize) -> io::Result<()> {
+    put_ok(out)?;
+    put_number(out, b"bytes ", bytes)
 }
 
 // The reply of writing requests as a file.
-pub fn put_written(answer: WrittenRequests) {
+pub fn put_written(out: &mut impl Write, answer: WrittenRequests) -> io::Result<()> {
     match answer {
-        WrittenRequests::Written(bytes) => put_length(bytes),
-        WrittenRequests::Refused(why) => put_refused(why),
+        WrittenRequests::Written(bytes) => put_length(out, bytes),
+        WrittenRequests::Refused(why) => put_refused(out, why),
     }
 }
 
 // The lists after it.
-pub fn put_file(scratch: &[u32], file: &[u8]) {
-    put_scratch(scratch);
-    put_bytes(b"file ", true, file);
+pub fn put_file(out: &mut impl Write, scratch: &[u32], file: &[u8]) -> io::Result<()> {
+    put_scratch(out, scratch)?;
+    put_bytes(out, b"file ", true, file)
 }
 
-pub fn put_scratch(scratch: &[u32]) {
-    put_words(b"scratch ", scratch);
+pub fn put_scratch(out: &mut impl Write, scratch: &[u32]) -> io::Result<()> {
+    put_words(out, b"scratch ", scratch)
 }
 
-pub fn put_output(output: &[f64]) {
-    put_values(b"out ", output);
+pub fn put_output(out: &mut impl Write, output: &[f64]) -> io::Result<()> {
+    put_values(out, b"out ", output)
 }
 
-pub fn put_marks(marks: &[u8]) {
-    put_bytes(b"marks ", false, marks);
+pub fn put_marks(out: &mut impl Write, marks: &[u8]) -> io::Result<()> {
+    put_bytes(out, b"marks ", false, marks)
 }
 
-fn put_status(status: SelectedInverseStatus) {
+fn put_status(out: &mut impl Write, status: SelectedInverseStatus) -> io::Result<()> {
     match status {
-        SelectedInverseStatus::Complete => put(b"status Complete\n"),
-        SelectedInverseStatus::ClosureTooLarge => put(b"status ClosureTooLarge\n"),
+        SelectedInverseStatus::Complete => put(out, b"status Complete\n"),
+        SelectedInverseStatus::ClosureTooLarge => put(out, b"status ClosureTooLarge\n"),
     }
 }
 
-fn put_counts(requested: usize, closure: usize, factor: usize, limit: usize) {
-    put_number(b"requested ", requested);
-    put_number(b"closure ", closure);
-    put_number(b"factor ", factor);
-    put_number(b"limit ", limit);
+fn put_counts(
+    out: &mut impl Write,
+    requested: usize,
+    closure: usize,
+    factor: usize,
+    limit: usize,
+) -> io::Result<()> {
+    put_number(out, b"requested ", requested)?;
+    put_number(out, b"closure ", closure)?;
+    put_number(out, b"factor ", factor)?;
+    put_number(out, b"limit ", limit)
 }
 
-fn put_diagnosis(d: SelectedInverseDiagnostics) {
+fn put_diagnosis(out: &mut impl Write, d: SelectedInverseDiagnostics) -> io::Result<()> {
     let status = d.status;
-    put_ok();
-    put_status(status);
+    put_ok(out)?;
+    put_status(out, status)?;
     put_counts(
+        out,
         d.requested_pairs,
         d.closure_pairs,
         d.factor_pairs,
         d.closure_limit,
-    );
-    put_value_line(b"ratio ", d.closure_over_factor);
+    )?;
+    put_value_line(out, b"ratio ", d.closure_over_factor)
 }
 
 // The reply of a call that fills result lists; true where it filled them.
-pub fn put_answer(answer: Selected) -> bool {
+pub fn put_answer(out: &mut impl Write, answer: Selected) -> io::Result<bool> {
     match answer {
         Selected::Answered(d) => {
-            put_diagnosis(d);
-            d.is_complete()
+            put_diagnosis(out, d)?;
+            Ok(d.is_complete())
         }
         Selected::Refused(why) => {
-            put_refused(why);
-            false
+            put_refused(out, why)?;
+            Ok(false)
         }
     }
 }
 
 // The lists after a call that fills result lists.
-pub fn put_result(starts: &[u32], rows: &[u32], values: &[f64], scratch: &[u32]) {
-    put_words(b"starts ", starts);
-    put_words(b"rows ", rows);
-    put_values(b"values ", values);
-    put_scratch(scratch);
+pub fn put_result(
+    out: &mut impl Write,
+    starts: &[u32],
+    rows: &[u32],
+    values: &[f64],
+    scratch: &[u32],
+) -> io::Result<()> {
+    put_words(out, b"starts ", starts)?;
+    put_words(out, b"rows ", rows)?;
+    put_values(out, b"values ", values)?;
+    put_scratch(out, scratch)
 }
 
 // The same with values that are whole numbers, and the work list.
 pub fn put_whole_result(
+    out: &mut impl Write,
     starts: &[u32],
     rows: &[u32],
     values: &[i64],
     scratch: &[u32],
     work: &[i64],
-) {
-    put_words(b"starts ", starts);
-    put_words(b"rows ", rows);
-    put_wholes(b"wvalues ", values);
-    put_scratch(scratch);
-    put_wholes(b"work ", work);
+) -> io::Result<()> {
+    put_words(out, b"starts ", starts)?;
+    put_words(out, b"rows ", rows)?;
+    put_wholes(out, b"wvalues ", values)?;
+    put_scratch(out, scratch)?;
+    put_wholes(out, b"work ", work)
 }
 
-fn put_range(low: i64, high: i64) {
-    put_ok();
-    put_whole_line(b"low ", low);
-    put_whole_line(b"high ", high);
+fn put_range(out: &mut impl Write, low: i64, high: i64) -> io::Result<()> {
+    put_ok(out)?;
+    put_whole_line(out, b"low ", low)?;
+    put_whole_line(out, b"high ", high)
 }
 
 // The bounds on a row's variance.
-pub fn put_bounds(answer: VarianceBounds) {
+pub fn put_bounds(out: &mut impl Write, answer: VarianceBounds) -> io::Result<()> {
     match answer {
-        VarianceBounds::Bounds(low, high) => put_range(low, high),
-        VarianceBounds::Refused(why) => put_refused(why),
+        VarianceBounds::Bounds(low, high) => put_range(out, low, high),
+        VarianceBounds::Refused(why) => put_refused(out, why),
     }
 }
 
 // The variances along a track, after the call.
-pub fn put_whole_output(output: &[i64]) {
-    put_wholes(b"wout ", output);
+pub fn put_whole_output(out: &mut impl Write, output: &[i64]) -> io::Result<()> {
+    put_wholes(out, b"wout ", output)
 }
 
-fn put_variance(floor: f64, hits: usize) {
-    put_ok();
-    put_value_line(b"floor ", floor);
-    put_number(b"hits ", hits);
+fn put_variance(out: &mut impl Write, floor: f64, hits: usize) -> io::Result<()> {
+    put_ok(out)?;
+    put_value_line(out, b"floor ", floor)?;
+    put_number(out, b"hits ", hits)
 }
 
-pub fn put_stabilized(answer: Stabilized) {
+pub fn put_stabilized(out: &mut impl Write, answer: Stabilized) -> io::Result<()> {
     match answer {
-        Stabilized::Answered(s) => put_variance(s.floor, s.floor_hits),
-        Stabilized::Refused(why) => put_refused(why),
+        Stabilized::Answered(s) => put_variance(out, s.floor, s.floor_hits),
+        Stabilized::Refused(why) => put_refused(out, why),
     }
 }
 
 // The count and the least of the negative values.
-pub fn put_least(negative: usize, least: f64) {
-    put_ok();
-    put_number(b"negative ", negative);
-    put_value_line(b"least ", least);
+pub fn put_least(out: &mut impl Write, negative: usize, least: f64) -> io::Result<()> {
+    put_ok(out)?;
+    put_number(out, b"negative ", negative)?;
+    put_value_line(out, b"least ", least)
 }

@@ -6,148 +6,179 @@ use operator_variances::selected_inverse_transformed_diag;
 use original_diagonal::selected_inverse_diag_with_diagnostics;
 use pattern_lists::{from_cholesky_factor, from_transformed_operator};
 use selected::selected_inverse_entries;
+use std::io;
+use std::io::Write;
 
 // As the rows of a factor.
-pub fn factor_pattern(indices: &[u32]) {
+pub fn factor_pattern(out: &mut impl Write, indices: &[u32]) -> io::Result<()> {
     let mut scratch = [7777u32; 3];
     let mut pair_rows = [7777u32; 3];
     let mut pair_columns = [7777u32; 3];
-    put(b"factor_pattern\n");
-    put_listed(from_cholesky_factor(
-        2,
-        &[0, 2, 3],
-        indices,
-        &[],
-        &mut scratch,
-        &mut pair_rows,
-        &mut pair_columns,
-    ));
-    put_pairs(&scratch, &pair_rows, &pair_columns);
+    put(out, b"factor_pattern\n")?;
+    put_listed(
+        out,
+        from_cholesky_factor(
+            2,
+            &[0, 2, 3],
+            indices,
+            &[],
+            &mut scratch,
+            &mut pair_rows,
+            &mut pair_columns,
+        ),
+    )?;
+    put_pairs(out, &scratch, &pair_rows, &pair_columns)
 }
 
 // As the columns of an operator.
-pub fn operator_pattern(indices: &[u32]) {
+pub fn operator_pattern(out: &mut impl Write, indices: &[u32]) -> io::Result<()> {
     let mut scratch = [7777u32; 3];
     let mut pair_rows = [7777u32; 3];
     let mut pair_columns = [7777u32; 3];
-    put(b"operator_pattern\n");
-    put_listed(from_transformed_operator(
-        2,
-        &[0, 2, 3],
-        indices,
-        &[],
-        &mut scratch,
-        &mut pair_rows,
-        &mut pair_columns,
-    ));
-    put_pairs(&scratch, &pair_rows, &pair_columns);
+    put(out, b"operator_pattern\n")?;
+    put_listed(
+        out,
+        from_transformed_operator(
+            2,
+            &[0, 2, 3],
+            indices,
+            &[],
+            &mut scratch,
+            &mut pair_rows,
+            &mut pair_columns,
+        ),
+    )?;
+    put_pairs(out, &scratch, &pair_rows, &pair_columns)
 }
 
-fn entries(rows: &[u32], values: &[f64], request_rows: &[u32]) {
+fn entries(
+    out: &mut impl Write,
+    rows: &[u32],
+    values: &[f64],
+    request_rows: &[u32],
+) -> io::Result<()> {
     let mut result_starts = [7777u32; 3];
     let mut result_rows = [7777u32; 3];
     let mut result_values = [7777.0; 3];
     let mut scratch = [7777u32; 12];
-    put_answer(selected_inverse_entries(
-        2,
-        &[0, 2, 3],
-        rows,
-        values,
-        2,
-        request_rows,
-        &[0],
-        &mut result_starts,
-        &mut result_rows,
-        &mut result_values,
-        &mut scratch,
-    ));
-    put_result(&result_starts, &result_rows, &result_values, &scratch);
+    put_answer(
+        out,
+        selected_inverse_entries(
+            2,
+            &[0, 2, 3],
+            rows,
+            values,
+            2,
+            request_rows,
+            &[0],
+            &mut result_starts,
+            &mut result_rows,
+            &mut result_values,
+            &mut scratch,
+        ),
+    )?;
+    put_result(out, &result_starts, &result_rows, &result_values, &scratch)
 }
 
 // As the rows of a factor.
-pub fn factor_entries(indices: &[u32]) {
-    put(b"factor_entries\n");
-    entries(indices, &[], &[0]);
+pub fn factor_entries(out: &mut impl Write, indices: &[u32]) -> io::Result<()> {
+    put(out, b"factor_entries\n")?;
+    entries(out, indices, &[], &[0])
 }
 
 // As the rows of the requests, with one column.
-pub fn requests(indices: &[u32]) {
-    put(b"requests\n");
-    entries(&[0, 1, 1], &[1.0, 2.0, 1.0], indices);
+pub fn requests(out: &mut impl Write, indices: &[u32]) -> io::Result<()> {
+    put(out, b"requests\n")?;
+    entries(out, &[0, 1, 1], &[1.0, 2.0, 1.0], indices)
 }
 
 // As the rows of a factor.
-pub fn original_diagonal(indices: &[u32]) {
+pub fn original_diagonal(out: &mut impl Write, indices: &[u32]) -> io::Result<()> {
     let mut result_starts = [7777u32; 3];
     let mut result_rows = [7777u32; 3];
     let mut result_values = [7777.0; 3];
     let mut scratch = [7777u32; 12];
     let mut output = [7777.0; 2];
-    put(b"original_diagonal\n");
-    put_answer(selected_inverse_diag_with_diagnostics(
-        2,
-        &[0, 2, 3],
-        indices,
-        &[],
-        &[0, 1],
-        &mut result_starts,
-        &mut result_rows,
-        &mut result_values,
-        &mut scratch,
-        &mut output,
-    ));
-    put_result(&result_starts, &result_rows, &result_values, &scratch);
-    put_output(&output);
+    put(out, b"original_diagonal\n")?;
+    put_answer(
+        out,
+        selected_inverse_diag_with_diagnostics(
+            2,
+            &[0, 2, 3],
+            indices,
+            &[],
+            &[0, 1],
+            &mut result_starts,
+            &mut result_rows,
+            &mut result_values,
+            &mut scratch,
+            &mut output,
+        ),
+    )?;
+    put_result(out, &result_starts, &result_rows, &result_values, &scratch)?;
+    put_output(out, &output)
 }
 
-fn variances(rows: &[u32], values: &[f64], columns: &[u32], weights: &[f64]) {
+fn variances(
+    out: &mut impl Write,
+    rows: &[u32],
+    values: &[f64],
+    columns: &[u32],
+    weights: &[f64],
+) -> io::Result<()> {
     let mut result_starts = [7777u32; 3];
     let mut result_rows = [7777u32; 3];
     let mut result_values = [7777.0; 3];
     let mut scratch = [7777u32; 12];
     let mut output = [7777.0; 2];
-    put_answer(selected_inverse_transformed_diag(
-        2,
-        &[0, 2, 3],
-        rows,
-        values,
-        2,
-        &[0, 2],
-        columns,
-        weights,
-        &mut result_starts,
-        &mut result_rows,
-        &mut result_values,
-        &mut scratch,
-        &mut output,
-    ));
-    put_result(&result_starts, &result_rows, &result_values, &scratch);
-    put_output(&output);
+    put_answer(
+        out,
+        selected_inverse_transformed_diag(
+            2,
+            &[0, 2, 3],
+            rows,
+            values,
+            2,
+            &[0, 2],
+            columns,
+            weights,
+            &mut result_starts,
+            &mut result_rows,
+            &mut result_values,
+            &mut scratch,
+            &mut output,
+        ),
+    )?;
+    put_result(out, &result_starts, &result_rows, &result_values, &scratch)?;
+    put_output(out, &output)
 }
 
 // As the rows of a factor.
-pub fn variances_of_factor(indices: &[u32]) {
-    put(b"variances_of_factor\n");
-    variances(indices, &[], &[0, 1], &[1.0, 1.0]);
+pub fn variances_of_factor(out: &mut impl Write, indices: &[u32]) -> io::Result<()> {
+    put(out, b"variances_of_factor\n")?;
+    variances(out, indices, &[], &[0, 1], &[1.0, 1.0])
 }
 
 // As the columns of an operator.
-pub fn variances_of_terms(indices: &[u32]) {
-    put(b"variances_of_terms\n");
-    variances(&[0, 1, 1], &[1.0, 2.0, 1.0], indices, &[]);
+pub fn variances_of_terms(out: &mut impl Write, indices: &[u32]) -> io::Result<()> {
+    put(out, b"variances_of_terms\n")?;
+    variances(out, &[0, 1, 1], &[1.0, 2.0, 1.0], indices, &[])
 }
 
 // What a lookup of the pair in F2's inverse finds.
-fn put_get(row: usize, column: usize) {
-    put_entry(get(&[0, 2, 3], &[0, 1, 1], &[5.0, -2.0, 1.0], row, column));
+fn put_get(out: &mut impl Write, row: usize, column: usize) -> io::Result<()> {
+    put_entry(
+        out,
+        get(&[0, 2, 3], &[0, 1, 1], &[5.0, -2.0, 1.0], row, column),
+    )
 }
 
 // Lookups of the largest row and column, in F2's inverse and in no result.
-pub fn lookups() {
+pub fn lookups(out: &mut impl Write) -> io::Result<()> {
     let most = 18446744073709551615;
-    put(b"lookups");
-    put_get(most, 0);
-    put_get(most, most);
-    put_entry(get(&[], &[], &[], most, most));
-    put(b"\n");
+    put(out, b"lookups")?;
+    put_get(out, most, 0)?;
+    put_get(out, most, most)?;
+    put_entry(out, get(&[], &[], &[], most, most))?;
+    put(out, b"\n")
 }

@@ -2,30 +2,36 @@
 // What the lists lent for writing hold is written after each call; they hold 7777 before it.
 mod calls;
 
+use std::io;
+use std::io::{BufWriter, Write};
+
 // All calls with so many indices, each 0.
-fn all(indices: &[u32]) {
-    calls::factor_pattern(indices);
-    calls::operator_pattern(indices);
-    calls::factor_entries(indices);
-    calls::requests(indices);
-    calls::original_diagonal(indices);
-    calls::variances_of_factor(indices);
-    calls::variances_of_terms(indices);
+fn all(out: &mut impl Write, indices: &[u32]) -> io::Result<()> {
+    calls::factor_pattern(out, indices)?;
+    calls::operator_pattern(out, indices)?;
+    calls::factor_entries(out, indices)?;
+    calls::requests(out, indices)?;
+    calls::original_diagonal(out, indices)?;
+    calls::variances_of_factor(out, indices)?;
+    calls::variances_of_terms(out, indices)
 }
 
-fn above_and_within(indices: &[u32], most: usize) {
-    all(indices);
+fn above_and_within(out: &mut impl Write, indices: &[u32], most: usize) -> io::Result<()> {
+    all(out, indices)?;
     if most <= indices.len() {
-        all(&indices[0..most]);
+        all(out, &indices[0..most])?;
     }
+    Ok(())
 }
 
-fn bounds(indices: &[u32; 1048577]) {
-    above_and_within(indices, 1048576);
+fn bounds(out: &mut impl Write, indices: &[u32; 1048577]) -> io::Result<()> {
+    above_and_within(out, indices, 1048576)
 }
 
-fn main() {
+fn main(rt: HostRuntime) -> io::Result<()> {
     let indices = [0u32; 1048577];
-    bounds(&indices);
-    calls::lookups();
+    let mut out = BufWriter::new(rt.alloc(), io::writer(&rt))?;
+    bounds(&mut out, &indices)?;
+    calls::lookups(&mut out)?;
+    out.flush()
 }

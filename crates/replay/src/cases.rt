@@ -1,5 +1,5 @@
 // The cases of a text, one after another.
-ghost use Rattle.std.specs.Prelude.{◌≤◌, length};
+ghost use Rattle.std.specs.Prelude.{◌≤◌, length, IfOk};
 
 use super::floors::of_floors;
 use super::permutations::of_permutations;
@@ -12,48 +12,50 @@ use replay_patterns::of_patterns;
 use replay_variances::of_variances;
 use replay_whole::of_whole;
 use replay_whole_results::of_whole_results;
+use std::io;
+use std::io::Write;
 
 // The call of the kind that is named at `name`, and its answer.
-fn call(text: &[u8], name: usize) {
-    if of_entries(text, name) {
-        return;
+fn call(out: &mut impl Write, text: &[u8], name: usize) -> io::Result<()> {
+    if of_entries(out, text, name)? {
+        return Ok(());
     }
-    if of_whole(text, name) {
-        return;
+    if of_whole(out, text, name)? {
+        return Ok(());
     }
-    if of_whole_results(text, name) {
-        return;
+    if of_whole_results(out, text, name)? {
+        return Ok(());
     }
-    if of_variances(text, name) {
-        return;
+    if of_variances(out, text, name)? {
+        return Ok(());
     }
-    if of_lookups(text, name) {
-        return;
+    if of_lookups(out, text, name)? {
+        return Ok(());
     }
-    if of_patterns(text, name) {
-        return;
+    if of_patterns(out, text, name)? {
+        return Ok(());
     }
-    if of_permutations(text, name) {
-        return;
+    if of_permutations(out, text, name)? {
+        return Ok(());
     }
-    if of_floors(text, name) {
-        return;
+    if of_floors(out, text, name)? {
+        return Ok(());
     }
-    if of_files(text, name) {
-        return;
+    if of_files(out, text, name)? {
+        return Ok(());
     }
-    put(b"unknown kind\n");
+    put(out, b"unknown kind\n")
 }
 
 // A case: its first line as it stands, the answer, and its last line.
-fn case(text: &[u8]) {
+fn case(out: &mut impl Write, text: &[u8]) -> io::Result<()> {
     let name = skip_to(text, 0, b"case ");
     let kind = skip_blanks(text, skip_word(text, name));
-    put(b"case ");
-    put_part(text, name, skip_word(text, kind));
-    put(b"\n");
-    call(text, kind);
-    put(b"end\n");
+    put(out, b"case ")?;
+    put_part(out, text, name, skip_word(text, kind))?;
+    put(out, b"\n")?;
+    call(out, text, kind)?;
+    put(out, b"end\n")
 }
 
 // The place after the case at p; p itself where the text does not have its end.
@@ -74,16 +76,16 @@ fn past_case(text: &[u8], p: usize) -> usize
 }
 
 // All cases that are whole in the text; the reply is the place after them.
-pub fn replay(text: &[u8]) -> usize
-    ensures { result ≤ length text.now }
+pub fn replay(out: &mut impl Write, text: &[u8]) -> io::Result<usize>
+    ensures { IfOk result (λ past. past ≤ length text.now) }
 {
     let mut p = 0;
     loop {
         let next = past_case(text, p);
         if next <= p {
-            return p;
+            return Ok(p);
         }
-        case(&text[p..next]);
+        case(out, &text[p..next])?;
         p = next;
     }
 }

@@ -6,6 +6,8 @@ use case_text::{begins, float_value, skip_to};
 use floor::stabilize_variances;
 use floor::variance_floor::VarianceFloor;
 use least::count_and_least;
+use std::io;
+use std::io::Write;
 
 // The floor of the case.
 fn floor_of(text: &[u8]) -> VarianceFloor {
@@ -17,32 +19,35 @@ fn floor_of(text: &[u8]) -> VarianceFloor {
     VarianceFloor::Zero
 }
 
-fn stabilize(text: &[u8], output: &mut [f64]) {
+fn stabilize(out: &mut impl Write, text: &[u8], output: &mut [f64]) -> io::Result<()> {
     let mut values = [0.0; ROOM];
-    put_stabilized(stabilize_variances(input(text, &mut values), floor_of(text), output));
-    put_output(output);
+    put_stabilized(
+        out,
+        stabilize_variances(input(text, &mut values), floor_of(text), output),
+    )?;
+    put_output(out, output)
 }
 
-fn stabilization(text: &[u8]) {
+fn stabilization(out: &mut impl Write, text: &[u8]) -> io::Result<()> {
     let mut output = [7777.0; ROOM];
-    stabilize(text, lent_output(text, &mut output));
+    stabilize(out, text, lent_output(text, &mut output))
 }
 
-fn least_value(text: &[u8]) {
+fn least_value(out: &mut impl Write, text: &[u8]) -> io::Result<()> {
     let mut values = [0.0; ROOM];
     let answer = count_and_least(input(text, &mut values));
-    put_least(answer.num_negative, answer.min_value);
+    put_least(out, answer.num_negative, answer.min_value)
 }
 
 // The case, if the kind that is named at `name` is one of these.
-pub fn of_floors(text: &[u8], name: usize) -> bool {
+pub fn of_floors(out: &mut impl Write, text: &[u8], name: usize) -> io::Result<bool> {
     if begins(text, name, b"floor\n") {
-        stabilization(text);
-        return true;
+        stabilization(out, text)?;
+        return Ok(true);
     }
     if begins(text, name, b"least\n") {
-        least_value(text);
-        return true;
+        least_value(out, text)?;
+        return Ok(true);
     }
-    false
+    Ok(false)
 }

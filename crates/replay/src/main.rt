@@ -3,17 +3,26 @@ mod cases;
 mod floors;
 mod permutations;
 
-ghost use Rattle.std.specs.Prelude.{◌≤◌, length};
+ghost use Rattle.std.specs.Prelude.{◌≤◌, length, IfOk};
 
 use answer_text::put;
+use std::io;
+use std::io::{BufWriter, Read, Write};
 
-// Reads on behind the bytes that are held; the reply is how many are held then.
-fn fill(window: &mut [u8], held: usize) -> usize
+// Reads on behind the bytes that are held, until the window is full or the input ends; the reply is how many are held then.
+fn fill(input: &mut impl Read, window: &mut [u8], held: usize) -> io::Result<usize>
     requires { held ≤ length window.old }
-    ensures { result ≤ length window.new }
+    ensures { IfOk result (λ filled. filled ≤ length window.new) }
 {
-    let more = io::read_full(0, &mut window[held..]);
-    held + more
+    let mut filled = held;
+    while filled < window.len() {
+        let more = input.read(&mut window[filled..])?;
+        if more == 0 {
+            return Ok(filled);
+        }
+        filled += more;
+    }
+    Ok(filled)
 }
 
 // Moves the bytes from `from` to below `held` to the front; the reply is how many.
@@ -31,38 +40,46 @@ fn keep(window: &mut [u8], from: usize, held: usize) -> usize
 }
 
 // Makes the calls of the cases that are whole; the reply is how many bytes are held behind them.
-fn play(window: &mut [u8], held: usize) -> usize
+fn play(out: &mut impl Write, window: &mut [u8], held: usize) -> io::Result<usize>
     requires { held ≤ length window.old }
-    ensures { result ≤ length window.new }
+    ensures { IfOk result (λ kept. kept ≤ length window.new) }
 {
-    let played = cases::replay(&window[0..held]);
-    keep(window, played, held)
+    let played = cases::replay(out, &window[0..held])?;
+    Ok(keep(window, played, held))
 }
 
 // One window of the text after another; the reply is how many bytes are left, of a case without an end.
 // The bound on the windows, which no text reaches, is there to show that they end.
-fn play_all(window: &mut [u8]) -> usize {
+fn play_all(input: &mut impl Read, out: &mut impl Write, window: &mut [u8]) -> io::Result<usize> {
     let mut held = 0;
     let mut windows = 0usize;
     while windows < 18446744073709551615 {
-        let filled = fill(window, held);
+        let filled = fill(input, window, held)?;
         if filled == held {
-            return held;
+            return Ok(held);
         }
-        held = play(window, filled);
+        held = play(out, window, filled)?;
         windows += 1;
     }
-    held
+    Ok(held)
 }
 
-fn replay(window: &mut [u8; 1048576]) {
-    if play_all(window) > 0 {
-        put(b"no end\n");
+fn replay(
+    input: &mut impl Read,
+    out: &mut impl Write,
+    window: &mut [u8; 1048576],
+) -> io::Result<()> {
+    if play_all(input, out, window)? > 0 {
+        put(out, b"no end\n")?;
     }
+    Ok(())
 }
 
 // A case may be as long as the window.
-fn main() {
+fn main(rt: HostRuntime) -> io::Result<()> {
     let mut window = [0u8; 1048576];
-    replay(&mut window);
+    let mut input = rt.reader();
+    let mut out = BufWriter::new(rt.alloc(), io::writer(&rt))?;
+    replay(&mut input, &mut out, &mut window)?;
+    out.flush()
 }

@@ -1,5 +1,5 @@
 // Cases that read a result: lookups, its diagonal list, searches in a column.
-pub mod pairs;
+pub mod pair_lookups;
 mod searches;
 
 use answer_text::answers::{put_checked, put_marks, put_ok, put_output};
@@ -7,60 +7,72 @@ use case_lists::lent::{lent_marks, lent_output};
 use case_lists::{ROOM, rows, starts, values};
 use case_text::begins;
 use lookup::diag;
-use pairs::gets;
+use pair_lookups::gets;
 use searches::searches;
+use std::io;
+use std::io::Write;
 
-fn lookups(text: &[u8]) {
+fn lookups(out: &mut impl Write, text: &[u8]) -> io::Result<()> {
     let mut result_starts = [0u32; ROOM];
     let mut result_rows = [0u32; ROOM];
     let mut result_values = [0.0; ROOM];
-    put_ok();
+    put_ok(out)?;
     gets(
+        out,
         text,
         starts(text, &mut result_starts),
         rows(text, &mut result_rows),
         values(text, &mut result_values),
-    );
+    )
 }
 
-fn diagonal(text: &[u8], output: &mut [f64], marks: &mut [u8]) {
+fn diagonal(
+    out: &mut impl Write,
+    text: &[u8],
+    output: &mut [f64],
+    marks: &mut [u8],
+) -> io::Result<()> {
     let mut result_starts = [0u32; ROOM];
     let mut result_rows = [0u32; ROOM];
     let mut result_values = [0.0; ROOM];
-    put_checked(diag(
-        starts(text, &mut result_starts),
-        rows(text, &mut result_rows),
-        values(text, &mut result_values),
-        output,
-        marks,
-    ));
-    put_output(output);
-    put_marks(marks);
+    put_checked(
+        out,
+        diag(
+            starts(text, &mut result_starts),
+            rows(text, &mut result_rows),
+            values(text, &mut result_values),
+            output,
+            marks,
+        ),
+    )?;
+    put_output(out, output)?;
+    put_marks(out, marks)
 }
 
-fn diagonals(text: &[u8]) {
+fn diagonals(out: &mut impl Write, text: &[u8]) -> io::Result<()> {
     let mut output = [7777.0; ROOM];
     let mut marks = [77u8; ROOM];
     diagonal(
+        out,
         text,
         lent_output(text, &mut output),
         lent_marks(text, &mut marks),
-    );
+    )
 }
 
 // The case, if the kind that is named at `name` is one of these.
-pub fn of_lookups(text: &[u8], name: usize) -> bool {
+pub fn of_lookups(out: &mut impl Write, text: &[u8], name: usize) -> io::Result<bool> {
     if begins(text, name, b"get\n") {
-        lookups(text);
-        return true;
+        lookups(out, text)?;
+        return Ok(true);
     }
     if begins(text, name, b"diag\n") {
-        diagonals(text);
-        return true;
+        diagonals(out, text)?;
+        return Ok(true);
     }
     if begins(text, name, b"search\n") {
-        searches(text);
-        return true;
+        searches(out, text)?;
+        return Ok(true);
     }
-    false
+    Ok(false)
 }

@@ -10,6 +10,8 @@ use case_text::fields::number_field;
 use covariances::selected_inverse_transformed_covariances;
 use operator_variances::selected_inverse_transformed_diag;
 use original_diagonal::selected_inverse_diag_with_diagnostics;
+use std::io;
+use std::io::Write;
 
 #[derive(Clone, Copy)]
 enum Kind {
@@ -19,60 +21,70 @@ enum Kind {
 }
 
 fn original_diagonal(
+    out: &mut impl Write,
     text: &[u8],
     result_starts: &mut [u32],
     result_rows: &mut [u32],
     result_values: &mut [f64],
     scratch: &mut [u32],
     output: &mut [f64],
-) {
+) -> io::Result<()> {
     let mut factor_starts = [0u32; ROOM];
     let mut factor_rows = [0u32; ROOM];
     let mut factor_values = [0.0; ROOM];
     let mut orig_to_perm = [0u32; ROOM];
-    put_answer(selected_inverse_diag_with_diagnostics(
-        dimension(text),
-        starts(text, &mut factor_starts),
-        rows(text, &mut factor_rows),
-        values(text, &mut factor_values),
-        permutation(text, &mut orig_to_perm),
-        result_starts,
-        result_rows,
-        result_values,
-        scratch,
-        output,
-    ));
+    put_answer(
+        out,
+        selected_inverse_diag_with_diagnostics(
+            dimension(text),
+            starts(text, &mut factor_starts),
+            rows(text, &mut factor_rows),
+            values(text, &mut factor_values),
+            permutation(text, &mut orig_to_perm),
+            result_starts,
+            result_rows,
+            result_values,
+            scratch,
+            output,
+        ),
+    )?;
+    Ok(())
 }
 
 fn operator_variances(
+    out: &mut impl Write,
     text: &[u8],
     result_starts: &mut [u32],
     result_rows: &mut [u32],
     result_values: &mut [f64],
     scratch: &mut [u32],
     output: &mut [f64],
-) {
+) -> io::Result<()> {
     let mut factor_starts = [0u32; ROOM];
     let mut factor_rows = [0u32; ROOM];
     let mut factor_values = [0.0; ROOM];
     let mut row_starts = [0u32; ROOM];
     let mut columns = [0u32; ROOM];
     let mut weights = [0.0; ROOM];
-    put_answer(selected_inverse_transformed_diag(
-        dimension(text),
-        starts(text, &mut factor_starts),
-        rows(text, &mut factor_rows),
-        values(text, &mut factor_values),
-        operator_dimension(text),
-        row_starts_of(text, b'o', &mut row_starts),
-        columns_of(text, b'o', &mut columns),
-        weights_of(text, b'o', &mut weights),
-        result_starts,
-        result_rows,
-        result_values,
-        scratch,
-        output,
-    ));
+    put_answer(
+        out,
+        selected_inverse_transformed_diag(
+            dimension(text),
+            starts(text, &mut factor_starts),
+            rows(text, &mut factor_rows),
+            values(text, &mut factor_values),
+            operator_dimension(text),
+            row_starts_of(text, b'o', &mut row_starts),
+            columns_of(text, b'o', &mut columns),
+            weights_of(text, b'o', &mut weights),
+            result_starts,
+            result_rows,
+            result_values,
+            scratch,
+            output,
+        ),
+    )?;
+    Ok(())
 }
 
 fn ancols(text: &[u8]) -> usize {
@@ -84,13 +96,14 @@ fn bncols(text: &[u8]) -> usize {
 }
 
 fn covariances(
+    out: &mut impl Write,
     text: &[u8],
     result_starts: &mut [u32],
     result_rows: &mut [u32],
     result_values: &mut [f64],
     scratch: &mut [u32],
     output: &mut [f64],
-) {
+) -> io::Result<()> {
     let mut factor_starts = [0u32; ROOM];
     let mut factor_rows = [0u32; ROOM];
     let mut factor_values = [0.0; ROOM];
@@ -102,31 +115,36 @@ fn covariances(
     let mut b_weights = [0.0; ROOM];
     let mut a_rows = [0u32; ROOM];
     let mut b_rows = [0u32; ROOM];
-    put_answer(selected_inverse_transformed_covariances(
-        dimension(text),
-        starts(text, &mut factor_starts),
-        rows(text, &mut factor_rows),
-        values(text, &mut factor_values),
-        ancols(text),
-        row_starts_of(text, b'a', &mut a_row_starts),
-        columns_of(text, b'a', &mut a_columns),
-        weights_of(text, b'a', &mut a_weights),
-        bncols(text),
-        row_starts_of(text, b'b', &mut b_row_starts),
-        columns_of(text, b'b', &mut b_columns),
-        weights_of(text, b'b', &mut b_weights),
-        rows_of(text, b'a', &mut a_rows),
-        rows_of(text, b'b', &mut b_rows),
-        result_starts,
-        result_rows,
-        result_values,
-        scratch,
-        output,
-    ));
+    put_answer(
+        out,
+        selected_inverse_transformed_covariances(
+            dimension(text),
+            starts(text, &mut factor_starts),
+            rows(text, &mut factor_rows),
+            values(text, &mut factor_values),
+            ancols(text),
+            row_starts_of(text, b'a', &mut a_row_starts),
+            columns_of(text, b'a', &mut a_columns),
+            weights_of(text, b'a', &mut a_weights),
+            bncols(text),
+            row_starts_of(text, b'b', &mut b_row_starts),
+            columns_of(text, b'b', &mut b_columns),
+            weights_of(text, b'b', &mut b_weights),
+            rows_of(text, b'a', &mut a_rows),
+            rows_of(text, b'b', &mut b_rows),
+            result_starts,
+            result_rows,
+            result_values,
+            scratch,
+            output,
+        ),
+    )?;
+    Ok(())
 }
 
 // The call of the kind and its reply.
 fn call(
+    out: &mut impl Write,
     text: &[u8],
     kind: Kind,
     result_starts: &mut [u32],
@@ -134,9 +152,10 @@ fn call(
     result_values: &mut [f64],
     scratch: &mut [u32],
     output: &mut [f64],
-) {
+) -> io::Result<()> {
     match kind {
         Kind::OriginalDiagonal => original_diagonal(
+            out,
             text,
             result_starts,
             result_rows,
@@ -145,6 +164,7 @@ fn call(
             output,
         ),
         Kind::OperatorVariances => operator_variances(
+            out,
             text,
             result_starts,
             result_rows,
@@ -153,6 +173,7 @@ fn call(
             output,
         ),
         Kind::Covariances => covariances(
+            out,
             text,
             result_starts,
             result_rows,
@@ -164,6 +185,7 @@ fn call(
 }
 
 fn answered(
+    out: &mut impl Write,
     text: &[u8],
     kind: Kind,
     result_starts: &mut [u32],
@@ -171,8 +193,9 @@ fn answered(
     result_values: &mut [f64],
     scratch: &mut [u32],
     output: &mut [f64],
-) {
+) -> io::Result<()> {
     call(
+        out,
         text,
         kind,
         result_starts,
@@ -180,19 +203,20 @@ fn answered(
         result_values,
         scratch,
         output,
-    );
-    put_result(result_starts, result_rows, result_values, scratch);
-    put_output(output);
+    )?;
+    put_result(out, result_starts, result_rows, result_values, scratch)?;
+    put_output(out, output)
 }
 
 // A case of the kind; where it lends no lists, lists of 7777.
-fn of_kind(text: &[u8], kind: Kind) {
+fn of_kind(out: &mut impl Write, text: &[u8], kind: Kind) -> io::Result<()> {
     let mut result_starts = [7777u32; 4608];
     let mut result_rows = [7777u32; 33024];
     let mut result_values = [7777.0; 33024];
     let mut scratch = [7777u32; 67072];
     let mut output = [7777.0; 4608];
     answered(
+        out,
         text,
         kind,
         lent_starts(text, &mut result_starts),
@@ -200,22 +224,22 @@ fn of_kind(text: &[u8], kind: Kind) {
         lent_result_values(text, &mut result_values),
         lent_scratch(text, &mut scratch),
         lent_output(text, &mut output),
-    );
+    )
 }
 
 // The case, if the kind that is named at `name` is one of these.
-pub fn of_variances(text: &[u8], name: usize) -> bool {
+pub fn of_variances(out: &mut impl Write, text: &[u8], name: usize) -> io::Result<bool> {
     if begins(text, name, b"diagorig\n") {
-        of_kind(text, Kind::OriginalDiagonal);
-        return true;
+        of_kind(out, text, Kind::OriginalDiagonal)?;
+        return Ok(true);
     }
     if begins(text, name, b"opvar\n") {
-        of_kind(text, Kind::OperatorVariances);
-        return true;
+        of_kind(out, text, Kind::OperatorVariances)?;
+        return Ok(true);
     }
     if begins(text, name, b"covar\n") {
-        of_kind(text, Kind::Covariances);
-        return true;
+        of_kind(out, text, Kind::Covariances)?;
+        return Ok(true);
     }
-    false
+    Ok(false)
 }

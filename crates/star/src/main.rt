@@ -2,57 +2,73 @@
 use answer_text::{put, put_value};
 use diagnostics::{Selected, SelectedInverseDiagnostics, SelectedInverseStatus};
 use selected::selected_inverse_entries_with_limit;
+use std::io;
+use std::io::{BufWriter, Write};
 use words::at;
 
-fn put_number(n: usize) {
-    io::print_decimal(1, n as u64);
+fn put_number(out: &mut impl Write, n: usize) -> io::Result<()> {
+    write!(out, "{n}")
 }
 
-fn put_diagnosis(d: SelectedInverseDiagnostics) {
+fn put_diagnosis(out: &mut impl Write, d: SelectedInverseDiagnostics) -> io::Result<()> {
     let status = d.status;
     match status {
-        SelectedInverseStatus::Complete => put(b"Complete "),
-        SelectedInverseStatus::ClosureTooLarge => put(b"ClosureTooLarge "),
+        SelectedInverseStatus::Complete => put(out, b"Complete ")?,
+        SelectedInverseStatus::ClosureTooLarge => put(out, b"ClosureTooLarge ")?,
     }
-    put_number(d.requested_pairs);
-    put(b" ");
-    put_number(d.closure_pairs);
-    put(b" ");
-    put_number(d.factor_pairs);
-    put(b" ");
-    put_number(d.closure_limit);
-    put(b"\n");
+    put_number(out, d.requested_pairs)?;
+    put(out, b" ")?;
+    put_number(out, d.closure_pairs)?;
+    put(out, b" ")?;
+    put_number(out, d.factor_pairs)?;
+    put(out, b" ")?;
+    put_number(out, d.closure_limit)?;
+    put(out, b"\n")
 }
 
 // The pairs of column c, at the places from first to below last.
-fn put_column(c: usize, first: usize, last: usize, rows: &[u32], values: &[f64]) {
+fn put_column(
+    out: &mut impl Write,
+    c: usize,
+    first: usize,
+    last: usize,
+    rows: &[u32],
+    values: &[f64],
+) -> io::Result<()> {
     let mut p = first;
     while p < last {
         if p < rows.len() {
             if p < values.len() {
-                put_number(at(rows, p));
-                put(b" ");
-                put_number(c);
-                put(b" ");
-                put_value(values[p]);
-                put(b"\n");
+                put_number(out, at(rows, p))?;
+                put(out, b" ")?;
+                put_number(out, c)?;
+                put(out, b" ")?;
+                put_value(out, values[p])?;
+                put(out, b"\n")?;
             }
         }
         p += 1;
     }
+    Ok(())
 }
 
 // The pairs of all columns.
-fn put_entries(starts: &[u32], rows: &[u32], values: &[f64]) {
+fn put_entries(
+    out: &mut impl Write,
+    starts: &[u32],
+    rows: &[u32],
+    values: &[f64],
+) -> io::Result<()> {
     let mut e = 1;
     while e < starts.len() {
         let c = e - 1;
-        put_column(c, at(starts, c), at(starts, e), rows, values);
+        put_column(out, c, at(starts, c), at(starts, e), rows, values)?;
         e += 1;
     }
+    Ok(())
 }
 
-fn main() {
+fn star(out: &mut impl Write) -> io::Result<()> {
     let starts = [0, 3, 4, 5];
     let rows = [0, 1, 2, 1, 2];
     let values = [1.0, 2.0, 3.0, 1.0, 1.0];
@@ -77,10 +93,16 @@ fn main() {
         &mut scratch,
     );
     match answer {
-        Selected::Refused(_) => put(b"refused\n"),
+        Selected::Refused(_) => put(out, b"refused\n"),
         Selected::Answered(d) => {
-            put_diagnosis(d);
-            put_entries(&result_starts, &result_rows, &result_values);
+            put_diagnosis(out, d)?;
+            put_entries(out, &result_starts, &result_rows, &result_values)
         }
     }
+}
+
+fn main(rt: HostRuntime) -> io::Result<()> {
+    let mut out = BufWriter::new(rt.alloc(), io::writer(&rt))?;
+    star(&mut out)?;
+    out.flush()
 }

@@ -20,7 +20,7 @@ loop-i-preserved c = let a = c.args in
     let room : at.i < length a.list.now = omega arith in
     let q = c.skip_blanks-q.ensures ∙ ap (past_blanks text) at.invariant.2 in
     let x : c.narrow_byte.result ≡ byte_at a.hex text a.p at.i =
-    c.narrow_byte.ensures ∙ ap (λ (k : ℕ). min k 255) (c.number_of_lem.ensures ∙ ap (number_at (cond a.hex 16 10) text) q) in (
+    c.narrow_byte.ensures ∙ ap (λ (k : ℕ). min k 255) (c.number_of.ensures ∙ ap (number_at (cond a.hex 16 10) text) q) in (
       omega arith,
       length-set at.list at.i c.narrow_byte.result ∙ at.invariant.1,
       c.skip_word-q.ensures ∙ ap (past_word text) q ∙ past_items_more _ _ _,
