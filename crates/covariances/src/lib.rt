@@ -1,4 +1,6 @@
 // The covariances of row pairs of two operators.
+#![tactic(auto)]
+
 pub mod checks;
 
 ghost use Rattle.selection.specs.Selection.{lists};

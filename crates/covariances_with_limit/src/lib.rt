@@ -1,4 +1,6 @@
 // The covariances of row pairs of two operators with a limit that the caller gives, else as crate covariances has them.
+#![tactic(auto)]
+
 pub mod checks;
 
 ghost use Rattle.selection.specs.Selection.{lists};

@@ -1,4 +1,6 @@
 // Selected entries of the inverse of L.D.Lᵀ, for L with ones on its diagonal, kept or not, and a list of pivots, D's diagonal.
+#![tactic(auto)]
+
 pub mod checks;
 
 ghost use Rattle.selection.specs.Selection.{lists, default_limit};

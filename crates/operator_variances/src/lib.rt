@@ -1,4 +1,6 @@
 // The variances of an operator's rows, after `selected_inverse_transformed_diag` of uncertainty.rs, the vector that its loop builds.
+#![tactic(auto)]
+
 ghost use Rattle.std.specs.Prelude.{◌≡◌, [], ◌∷◌, not, eqb};
 ghost use Rattle.refusal.specs.Steps.{verdict};
 ghost use Rattle.refusal.specs.Refusal.{reply_of};

@@ -1,4 +1,6 @@
 // The diagonal of the inverse in original order, after `selected_inverse_diag_with_diagnostics` of uncertainty.rs, before its finishing step.
+#![tactic(auto)]
+
 ghost use Rattle.std.specs.Prelude.{◌≡◌};
 ghost use Rattle.lists.specs.Overwrite.{overwrite};
 ghost use Rattle.refusal.specs.Steps.{verdict};

@@ -1,4 +1,6 @@
 // The diagonal of the inverse in original order with a limit that the caller gives, else as crate original_diagonal has it.
+#![tactic(auto)]
+
 ghost use Rattle.std.specs.Prelude.{◌≡◌};
 ghost use Rattle.lists.specs.Overwrite.{overwrite};
 ghost use Rattle.refusal.specs.Steps.{verdict};

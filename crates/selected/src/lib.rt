@@ -1,5 +1,7 @@
 // Selected entries of the inverse of L.Lᵀ, after `selected_inverse_entries_with_limit` and
 // `selected_inverse_entries` of uncertainty.rs.
+#![tactic(auto)]
+
 ghost use Rattle.selection.specs.Selection.{lists, default_limit};
 ghost use Rattle.selection.specs.Call.{call};
 ghost use Rattle.selected.specs.Selected.{SelectedEntries};

@@ -1,4 +1,6 @@
 // One selected entry: the call for selected entries, then the lookup of a pair in its result. Its contract holds the exact case.
+#![tactic(auto)]
+
 ghost use Rattle.selection.specs.Selection.{lists, default_limit};
 ghost use Rattle.selection.specs.Call.{call};
 ghost use Rattle.selected_entry.specs.SelectedEntry.{LookUpInput, LookUpResult, ReadEntry};

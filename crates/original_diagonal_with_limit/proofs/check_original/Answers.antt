@@ -1,7 +1,6 @@
 use mathlib.Core.Path.{sym, ap, ◌∙◌}
 use mathlib.Core.List.{List, [], ◌∷◌, ◌++◌}
 use lib.Dec.{ltb}
-use borrow.Author.Rules.{rules}
 use Rattle.columns.specs.Columns.{factor_lists}
 use Rattle.refusal.specs.Steps.{Step, Passed, append-refused, append_passed}
 use Rattle.refusal.specs.Refusal.{reply_of}

@@ -1,4 +1,3 @@
-use borrow.Author.Rules.{rules}
 use Rattle.selection.specs.Selection.{Lent, lists, default_limit}
 use Rattle.selection.specs.Call.{Call, call}
 use Rattle.selected.proofs.Reply.{entries_refused, too_many}

@@ -1,6 +1,5 @@
 use mathlib.Core.List.{List, [], ◌∷◌, ◌++◌}
 use lib.Dec.{ltb}
-use borrow.Author.Rules.{rules}
 use Rattle.refusal.specs.Bounds.{max_entries}
 use Rattle.refusal.specs.Steps.{Step}
 use Rattle.refusal.specs.FirstOf.{verdicts}

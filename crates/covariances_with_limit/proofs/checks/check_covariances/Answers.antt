@@ -1,7 +1,6 @@
 use mathlib.Core.Path.{sym, ap, ◌∙◌}
 use mathlib.Core.List.{List, ◌++◌}
 use lib.ListN.{length}
-use borrow.Author.Rules.{rules}
 use Rattle.refusal.specs.Bounds.{output_steps}
 use Rattle.refusal.specs.Steps.{Step, Passed, append-refused, append_passed, passed_front}
 use Rattle.refusal.specs.FirstOf.{verdicts}

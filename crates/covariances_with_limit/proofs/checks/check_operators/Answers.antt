@@ -1,5 +1,4 @@
 use mathlib.Core.List.{List, [], ◌∷◌, ◌++◌}
-use borrow.Author.Rules.{rules}
 use Rattle.refusal.specs.Steps.{Step}
 use Rattle.refusal.specs.FirstOf.{verdicts}
 use Rattle.columns.specs.Columns.{outside}

@@ -1,5 +1,4 @@
 use mathlib.Core.Path.{sym, ◌∙◌}
-use borrow.Author.Rules.{rules}
 use Rattle.refusal.specs.Steps.{first_hit, first_skip, first_end}
 use Rattle.covariances_with_limit.proofs.checks.check_rows.Goals as goal
 

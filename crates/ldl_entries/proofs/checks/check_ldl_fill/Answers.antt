@@ -1,5 +1,4 @@
 use mathlib.Core.List.{◌++◌}
-use borrow.Author.Rules.{rules}
 use Rattle.columns.specs.Pivots.{pivot_steps}
 use Rattle.columns.specs.Columns.{factor_lists}
 use Rattle.selection.specs.Selection.{room, room_steps}

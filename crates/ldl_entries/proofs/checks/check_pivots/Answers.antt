@@ -1,10 +1,10 @@
 use mathlib.Core.Bool.{false}
 use Rattle.refusal.specs.Steps.{first_hit, first_skip, first_end}
-use Rattle.columns.specs.Pivots.{low_pivot, pivot_steps}
-use Rattle.lists.specs.Test.{any, any_none, any_more, any_less, any-hit}
+use Rattle.columns.specs.Pivots.{pivot_steps}
+use Rattle.lists.specs.Test.{any_none, any_more, any_less, any-hit}
 use borrow.Author.Rules.{rules}
-use Prim.Native.Nat.{◌≤◌, ◌-◌}
-use mathlib.Core.Path.{◌≡◌, sym}
+use Prim.Native.Nat.{◌-◌}
+use mathlib.Core.Path.{sym}
 use Rattle.ldl_entries.proofs.checks.check_pivots.Goals as goal
 
 pub loop-c-init : goal.loop-c-init

@@ -1,10 +1,8 @@
 use mathlib.Core.Bool.{false}
-use Rattle.refusal.specs.Steps.{first_hit, first_skip, first_end}
-use Rattle.columns.specs.Pivots.{low_pivot, pivot_steps}
-use Rattle.lists.specs.Test.{any, any_none, any_more, any_less, any-hit}
-use borrow.Author.Rules.{rules}
+use Rattle.columns.specs.Pivots.{low_pivot}
+use Rattle.lists.specs.Test.{any}
 use Prim.Native.Nat.{◌≤◌, ◌-◌}
-use mathlib.Core.Path.{◌≡◌, sym}
+use mathlib.Core.Path.{◌≡◌}
 use Rattle.ldl_entries.proofs.checks.check_pivots.Given as goal
 
 abbrev pub invariant-loop-c : goal.invariant-loop-c
