@@ -9,16 +9,17 @@ use borrow.Author.Rules.{rules}
 use Rattle.lists.specs.Overwrite.{overwrite, filled-length}
 use Rattle.refusal.specs.Steps.{Step, Passed}
 use Rattle.refusal.specs.Refusal.{reply_of}
-use Rattle.pairs.specs.Scratch.{scratch_words_room}
+use Rattle.pairs.proofs.Scratch.{scratch_words_room}
 use Rattle.columns.specs.Operator.{OperatorRows}
 use Rattle.diagnostics.specs.declared.SelectedInverseDiagnostics.{SelectedInverseDiagnostics}
 use Rattle.diagnostics.specs.declared.SelectedInverseStatus.TheVariants.{Complete, ClosureTooLarge}
 use Rattle.selection.specs.Selection.{Lent, lists, room_of, selected_complete, selected_answer}
-use Rattle.selection.specs.Status.{status_tells}
+use Rattle.selection.proofs.Status.{status_tells}
 use Rattle.fill.specs.Fill.{marked_are, marked_input, marked_answer, marked_lists, fills_lists_limit}
 use Rattle.covariances.specs.Covariances.{CovarianceCall, operator, covariance_call, covariance_selection, covariance_steps, covariance_values}
-use Rattle.covariances.specs.Covariances.{AcceptedCovariances, covariance_accepted}
-use Rattle.operator_values.specs.Output.{output-refused, output-large, output_within}
+use Rattle.covariances.specs.Covariances.{AcceptedCovariances}
+use Rattle.covariances.proofs.Covariances.{covariance_accepted}
+use Rattle.operator_values.proofs.Output.{output-refused, output-large, output_within}
 use Rattle.covariances.proofs.Reply.{covariance_reading, covariance_written}
 use Rattle.covariances.proofs.selected_inverse_transformed_covariances.Goals as goal
 
@@ -264,7 +265,7 @@ complete-After-slice_known-in-Complete-2-1 v =
     (ap (λ (d : SelectedInverseDiagnostics). d.status) (sym (answer-After-slice_known-in-Complete-2-1 v)) ∙ v.in-Complete.is)
 
 pub mark_cross_pairs-requested_pairs-requires : goal.mark_cross_pairs-requested_pairs-requires
-mark_cross_pairs-requested_pairs-requires c =     let A = ready-After-mark_cross_pairs-arg-1 c in
+mark_cross_pairs-requested_pairs-requires c = let A = ready-After-mark_cross_pairs-arg-1 c in
     let O = A.operators in
     record {
       small = A.accepted.small;
@@ -282,16 +283,16 @@ pub default_limit-limit-requires : goal.default_limit-limit-requires
 default_limit-limit-requires c = (ready-After-slice_known-in-Accepted-1 c).accepted.few
 
 pub fill_lists-diagnosis-requires : goal.fill_lists-diagnosis-requires
-fill_lists-diagnosis-requires c =     let l = lent-After-fill_lists-arg-in-Accepted-3-1 c in
+fill_lists-diagnosis-requires c = let l = lent-After-fill_lists-arg-in-Accepted-3-1 c in
     rw c.default_limit-limit.ensures
     (marked_input l.result_starts l.result_rows l.result_values (ready-After-fill_lists-arg-in-Accepted-3-1 c).accepted c.mark_cross_pairs-requested_pairs.ensures)
 
 pub clear_scratch-requires : goal.clear_scratch-requires
-clear_scratch-requires c =     let h = (ready-After-clear_scratch-arg-1 c).accepted in
+clear_scratch-requires c = let h = (ready-After-clear_scratch-arg-1 c).accepted in
     (h.small, omega (arith, c.fill_lists-diagnosis.ensures.long, c.mark_cross_pairs-requested_pairs.ensures.long, h.scratch_room))
 
 pub returns-in-ClosureTooLarge : goal.returns-in-ClosureTooLarge
-returns-in-ClosureTooLarge c =     let l = lent-After-slice_known-in-ClosureTooLarge-1 c in
+returns-in-ClosureTooLarge c = let l = lent-After-slice_known-in-ClosureTooLarge-1 c in
     let A = (ready-After-slice_known-in-ClosureTooLarge-1 c).accepted in
     let M = c.mark_cross_pairs-requested_pairs.ensures in
     let filled = fills_lists_limit c.default_limit-limit.ensures c.fill_lists-diagnosis.ensures in
@@ -300,7 +301,7 @@ returns-in-ClosureTooLarge c =     let l = lent-After-slice_known-in-ClosureTooL
     (status_tells (covariance_selection (handed-After-slice_known-in-ClosureTooLarge-1 c)) ClosureTooLarge (ap (λ (d : SelectedInverseDiagnostics). d.status) (sym (answer-After-slice_known-in-ClosureTooLarge-1 c)) ∙ c.in-ClosureTooLarge.is))
 
 pub row_pair_values-requires : goal.row_pair_values-requires
-row_pair_values-requires c =     let l = lent-After-row_pair_values-arg-1 c in
+row_pair_values-requires c = let l = lent-After-row_pair_values-arg-1 c in
     let A = (ready-After-row_pair_values-arg-1 c).accepted in
     let M = c.mark_cross_pairs-requested_pairs.ensures in
     let filled = fills_lists_limit c.default_limit-limit.ensures c.fill_lists-diagnosis.ensures in
@@ -309,20 +310,20 @@ row_pair_values-requires c =     let l = lent-After-row_pair_values-arg-1 c in
     covariance_reading (handed-After-row_pair_values-arg-1 c) l (out-After-row_pair_values-arg-1 c) (passed-After-row_pair_values-arg-1 c) _ L (ready-After-row_pair_values-arg-1 c) (complete-After-row_pair_values-arg-1 c) P (c.fill_lists-diagnosis.ensures.long ∙ M.long)
 
 pub clear_scratch-requires-in-Complete : goal.clear_scratch-requires-in-Complete
-clear_scratch-requires-in-Complete c =     let h = (ready-After-clear_scratch-arg-in-Complete-1 c).accepted in
+clear_scratch-requires-in-Complete c = let h = (ready-After-clear_scratch-arg-in-Complete-1 c).accepted in
     (h.small, omega (arith, c.fill_lists-diagnosis.ensures.long, c.mark_cross_pairs-requested_pairs.ensures.long, h.scratch_room))
 
 pub returns-in-Refused : goal.returns-in-Refused
-returns-in-Refused c =     output-refused (steps-In-Refused c) (covariance_selection (handed-In-Refused c)) (covariance_values (handed-In-Refused c)) (lent-In-Refused c) (out-In-Refused c) (sym c.check_covariances.ensures ∙ ap reply_of c.in-Refused.is)
+returns-in-Refused c = output-refused (steps-In-Refused c) (covariance_selection (handed-In-Refused c)) (covariance_values (handed-In-Refused c)) (lent-In-Refused c) (out-In-Refused c) (sym c.check_covariances.ensures ∙ ap reply_of c.in-Refused.is)
 
 pub shape_of-scratch : goal.shape_of-scratch
-shape_of-scratch c =     let long = c.fill_lists-diagnosis.ensures.long ∙ c.mark_cross_pairs-requested_pairs.ensures.long in
+shape_of-scratch c = let long = c.fill_lists-diagnosis.ensures.long ∙ c.mark_cross_pairs-requested_pairs.ensures.long in
     ap length c.clear_scratch-in-Complete.ensures
     ∙ filled-length (λ (_ : ℕ). 0) _ _ (omega (arith, long, (ready-After-slice_known-in-Complete-2-1 c).accepted.scratch_room))
     ∙ long
 
 pub returns-in-Complete : goal.returns-in-Complete
-returns-in-Complete c =     let l = lent-After-slice_known-in-Complete-2-1 c in
+returns-in-Complete c = let l = lent-After-slice_known-in-Complete-2-1 c in
     let A = (ready-After-slice_known-in-Complete-2-1 c).accepted in
     let M = c.mark_cross_pairs-requested_pairs.ensures in
     let filled = fills_lists_limit c.default_limit-limit.ensures c.fill_lists-diagnosis.ensures in

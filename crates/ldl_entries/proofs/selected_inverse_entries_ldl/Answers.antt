@@ -14,7 +14,7 @@ abbrev lent : goal.Then-rows-gt-MAX_ENTRIES → Lent
 lent s = let a = s.args in lists a.result_starts.now a.result_rows.now a.result_values.now a.scratch.now
 
 pub returns-then-rows-gt-MAX_ENTRIES : goal.returns-then-rows-gt-MAX_ENTRIES
-returns-then-rows-gt-MAX_ENTRIES c =     entries_refused (handed c) (lent c) (too_many (handed c) (lent c) c.if-rows-gt-MAX_ENTRIES.true)
+returns-then-rows-gt-MAX_ENTRIES c = entries_refused (handed c) (lent c) (too_many (handed c) (lent c) c.if-rows-gt-MAX_ENTRIES.true)
 
 pub returns : goal.returns
-returns c =     rw c.default_limit.ensures at c.selected_inverse_entries_ldl_with_limit.ensures
+returns c = rw c.default_limit.ensures at c.selected_inverse_entries_ldl_with_limit.ensures

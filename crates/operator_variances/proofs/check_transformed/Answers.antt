@@ -3,12 +3,15 @@ use mathlib.Core.List.{List, ◌++◌}
 use lib.ListN.{length}
 use borrow.Author.Rules.{rules}
 use Rattle.refusal.specs.Bounds.{output_steps}
-use Rattle.refusal.specs.Steps.{Step, verdict, Passed, append-refused, append_passed, passed_front}
-use Rattle.refusal.specs.FirstOf.{verdicts}
+use Rattle.refusal.specs.Steps.{Step, verdict, Passed}
+use Rattle.refusal.proofs.Steps.{append-refused, append_passed, passed_front}
+use Rattle.refusal.proofs.FirstOf.{verdicts}
 use Rattle.refusal.specs.Refusal.{reply_of}
 use Rattle.columns.specs.Columns.{bound_steps, factor_lists}
-use Rattle.columns.specs.Factor.{FactorBounded, bound_steps-sound}
-use Rattle.columns.specs.Stored.{stored_steps, stored_steps-sound}
+use Rattle.columns.specs.Factor.{FactorBounded}
+use Rattle.columns.proofs.Factor.{bound_steps-sound}
+use Rattle.columns.specs.Stored.{stored_steps}
+use Rattle.columns.proofs.Stored.{stored_steps-sound}
 use Rattle.columns.specs.Operator.{operator_rows, operator_bound_steps, operator_steps}
 use Rattle.selection.specs.Selection.{room, default_limit, fill_steps}
 use Rattle.operator_variances.specs.Transformed.{TransformedCall, transformed_call, column_count_steps, transformed_steps}
@@ -172,21 +175,21 @@ pub default_limit-requires : goal.default_limit-requires
 default_limit-requires c = (bounded-After-check_operator-operator c).few
 
 pub check_fill-fill-requires : goal.check_fill-fill-requires
-check_fill-fill-requires c =     ((bounded-After-default_limit c).small, stored_steps-sound _ (entered-After-default_limit c))
+check_fill-fill-requires c = ((bounded-After-default_limit c).small, stored_steps-sound _ (entered-After-default_limit c))
 
 pub returns-in-Refused : goal.returns-in-Refused
 unfolding transformed_steps
-returns-in-Refused c =     sym (append-refused (bounds-In-Refused c) (entries-In-Refused c ++ later-In-Refused c) _ tt (sym (bounds-told-In-Refused c) ∙ ap reply_of c.in-Refused.is))
+returns-in-Refused c = sym (append-refused (bounds-In-Refused c) (entries-In-Refused c ++ later-In-Refused c) _ tt (sym (bounds-told-In-Refused c) ∙ ap reply_of c.in-Refused.is))
 
 pub returns-in-Refused-check_stored : goal.returns-in-Refused-check_stored
 unfolding transformed_steps
-returns-in-Refused-check_stored c =     sym
+returns-in-Refused-check_stored c = sym
     (append_passed (bounds-In-Refused-check_stored c) (entries-In-Refused-check_stored c ++ later-In-Refused-check_stored c) tt (within-In-Refused-check_stored c)
     ∙ append-refused (entries-In-Refused-check_stored c) (later-In-Refused-check_stored c) _ tt (sym c.check_stored.ensures ∙ ap reply_of c.in-Refused-check_stored.is))
 
 pub returns-in-Accepted-check_stored : goal.returns-in-Accepted-check_stored
 unfolding transformed_steps
-returns-in-Accepted-check_stored c =     verdicts (column_count_steps (handed-After-first_of c)) (operator-After-first_of c ++ (fill-After-first_of c ++ output-After-first_of c)) c.first_of.ensures c.check_column_count-count.ensures
+returns-in-Accepted-check_stored c = verdicts (column_count_steps (handed-After-first_of c)) (operator-After-first_of c ++ (fill-After-first_of c ++ output-After-first_of c)) c.first_of.ensures c.check_column_count-count.ensures
     (verdicts (operator-After-first_of c) (fill-After-first_of c ++ output-After-first_of c) c.first_of-later.ensures c.check_operator-operator.ensures
     (verdicts (fill-After-first_of c) (output-After-first_of c) c.first_of-last.ensures (rw c.default_limit.ensures at c.check_fill-fill.ensures)
     (rw c.operator_rows.ensures at c.check_output.ensures)))

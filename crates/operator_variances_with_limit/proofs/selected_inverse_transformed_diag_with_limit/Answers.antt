@@ -8,16 +8,16 @@ use borrow.Author.Rules.{rules}
 use Rattle.lists.specs.Overwrite.{overwrite}
 use Rattle.refusal.specs.Steps.{Step, Passed}
 use Rattle.refusal.specs.Refusal.{reply_of}
-use Rattle.pairs.specs.Scratch.{scratch_words_room}
+use Rattle.pairs.proofs.Scratch.{scratch_words_room}
 use Rattle.columns.specs.Operator.{OperatorRows}
 use Rattle.diagnostics.specs.declared.SelectedInverseDiagnostics.{SelectedInverseDiagnostics}
 use Rattle.diagnostics.specs.declared.SelectedInverseStatus.TheVariants.{Complete, ClosureTooLarge}
 use Rattle.selection.specs.Selection.{Lent, lists, room_of, selected_complete, selected_answer}
-use Rattle.selection.specs.Status.{status_tells}
+use Rattle.selection.proofs.Status.{status_tells}
 use Rattle.fill.specs.Fill.{marked_are, marked_input, marked_answer, marked_lists}
 use Rattle.operator_variances_with_limit.specs.Transformed.{TransformedCall, transformed_call, transformed_selection, transformed_steps, transformed_values}
 use Rattle.operator_variances_with_limit.specs.Transformed.{AcceptedTransformed, transformed_accepted}
-use Rattle.operator_values.specs.Output.{output-refused, output-large, output_within}
+use Rattle.operator_values.proofs.Output.{output-refused, output-large, output_within}
 use Rattle.operator_variances_with_limit.proofs.Reply.{transformed_reading, transformed_written}
 use Rattle.operator_variances_with_limit.proofs.selected_inverse_transformed_diag_with_limit.Goals as goal
 
@@ -215,19 +215,19 @@ complete-After-slice_known-in-Complete-2-1 v =
     (ap (λ (d : SelectedInverseDiagnostics). d.status) (sym (answer-After-slice_known-in-Complete-2-1 v)) ∙ v.in-Complete.is)
 
 pub mark_operator_pairs-requested_pairs-requires : goal.mark_operator_pairs-requested_pairs-requires
-mark_operator_pairs-requested_pairs-requires c =     let A = ready-After-mark_operator_pairs-arg-1 c in
+mark_operator_pairs-requested_pairs-requires c = let A = ready-After-mark_operator_pairs-arg-1 c in
     record { small = A.accepted.small; rows = subst (OperatorRows _ _ _) A.operator.weighed A.operator; room = scratch_words_room _ A.accepted.scratch_room }
 
 pub fill_lists-diagnosis-requires : goal.fill_lists-diagnosis-requires
-fill_lists-diagnosis-requires c =     let l = lent-After-fill_lists-arg-in-Accepted-3-1 c in
+fill_lists-diagnosis-requires c = let l = lent-After-fill_lists-arg-in-Accepted-3-1 c in
     marked_input l.result_starts l.result_rows l.result_values (ready-After-fill_lists-arg-in-Accepted-3-1 c).accepted c.mark_operator_pairs-requested_pairs.ensures
 
 pub clear_scratch-requires : goal.clear_scratch-requires
-clear_scratch-requires c =     let h = (ready-After-clear_scratch-arg-1 c).accepted in
+clear_scratch-requires c = let h = (ready-After-clear_scratch-arg-1 c).accepted in
     (h.small, omega (arith, c.fill_lists-diagnosis.ensures.long, c.mark_operator_pairs-requested_pairs.ensures.long, h.scratch_room))
 
 pub returns-in-ClosureTooLarge : goal.returns-in-ClosureTooLarge
-returns-in-ClosureTooLarge c =     let l = lent-After-slice_known-in-ClosureTooLarge-1 c in
+returns-in-ClosureTooLarge c = let l = lent-After-slice_known-in-ClosureTooLarge-1 c in
     let A = (ready-After-slice_known-in-ClosureTooLarge-1 c).accepted in
     let M = c.mark_operator_pairs-requested_pairs.ensures in
     let filled = c.fill_lists-diagnosis.ensures in
@@ -238,7 +238,7 @@ returns-in-ClosureTooLarge c =     let l = lent-After-slice_known-in-ClosureTooL
     }
 
 pub operator_values-requires : goal.operator_values-requires
-operator_values-requires c =     let l = lent-After-operator_values-arg-1 c in
+operator_values-requires c = let l = lent-After-operator_values-arg-1 c in
     let A = (ready-After-operator_values-arg-1 c).accepted in
     let M = c.mark_operator_pairs-requested_pairs.ensures in
     let filled = c.fill_lists-diagnosis.ensures in
@@ -247,14 +247,14 @@ operator_values-requires c =     let l = lent-After-operator_values-arg-1 c in
     transformed_reading (handed-After-operator_values-arg-1 c) l (out-After-operator_values-arg-1 c) (passed-After-operator_values-arg-1 c) _ L (ready-After-operator_values-arg-1 c) (complete-After-operator_values-arg-1 c) P (c.fill_lists-diagnosis.ensures.long ∙ M.long)
 
 pub clear_scratch-requires-in-Complete : goal.clear_scratch-requires-in-Complete
-clear_scratch-requires-in-Complete c =     let h = (ready-After-clear_scratch-arg-in-Complete-1 c).accepted in
+clear_scratch-requires-in-Complete c = let h = (ready-After-clear_scratch-arg-in-Complete-1 c).accepted in
     (h.small, omega (arith, c.fill_lists-diagnosis.ensures.long, c.mark_operator_pairs-requested_pairs.ensures.long, h.scratch_room))
 
 pub returns-in-Refused : goal.returns-in-Refused
-returns-in-Refused c =     record { selected = output-refused (steps-In-Refused c) (transformed_selection (handed-In-Refused c)) (transformed_values (handed-In-Refused c)) (lent-In-Refused c) (out-In-Refused c) (sym c.check_transformed.ensures ∙ ap reply_of c.in-Refused.is) }
+returns-in-Refused c = record { selected = output-refused (steps-In-Refused c) (transformed_selection (handed-In-Refused c)) (transformed_values (handed-In-Refused c)) (lent-In-Refused c) (out-In-Refused c) (sym c.check_transformed.ensures ∙ ap reply_of c.in-Refused.is) }
 
 pub returns-in-Complete : goal.returns-in-Complete
-returns-in-Complete c =     let l = lent-After-slice_known-in-Complete-2-1 c in
+returns-in-Complete c = let l = lent-After-slice_known-in-Complete-2-1 c in
     let A = (ready-After-slice_known-in-Complete-2-1 c).accepted in
     let M = c.mark_operator_pairs-requested_pairs.ensures in
     let filled = c.fill_lists-diagnosis.ensures in

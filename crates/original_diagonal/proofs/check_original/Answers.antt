@@ -3,12 +3,14 @@ use mathlib.Core.List.{List, [], ◌∷◌, ◌++◌}
 use lib.Dec.{ltb}
 use borrow.Author.Rules.{rules}
 use Rattle.columns.specs.Columns.{factor_lists}
-use Rattle.refusal.specs.Steps.{Step, Passed, append-refused, append_passed}
+use Rattle.refusal.specs.Steps.{Step, Passed}
+use Rattle.refusal.proofs.Steps.{append-refused, append_passed}
 use Rattle.refusal.specs.Refusal.{reply_of}
-use Rattle.columns.specs.Stored.{factor_steps, factor_steps_bounded, factor_steps-sound}
+use Rattle.columns.specs.Stored.{factor_steps}
+use Rattle.columns.proofs.Stored.{factor_steps_bounded, factor_steps-sound}
 use Rattle.factor_order.specs.Permutation.{order_steps}
 use Rattle.selection.specs.Selection.{room, default_limit, fill_steps}
-use Rattle.refusal.specs.FirstOf.{verdicts}
+use Rattle.refusal.proofs.FirstOf.{verdicts}
 use Rattle.original_diagonal.specs.Original.{original_steps}
 use Rattle.original_diagonal.proofs.check_original.Goals as goal
 
@@ -69,21 +71,21 @@ passed-After-first_of : (t : goal.After-first_of) → Passed (one-After-first_of
 passed-After-first_of t = sym t.check_factor.ensures ∙ ap reply_of t.in-Accepted.is
 
 pub check_order-order-requires : goal.check_order-order-requires
-check_order-order-requires c =     (factor_steps_bounded _ (passed-In-Accepted c)).small
+check_order-order-requires c = (factor_steps_bounded _ (passed-In-Accepted c)).small
 
 pub default_limit-requires : goal.default_limit-requires
 default_limit-requires c = (factor_steps_bounded _ (passed-After-check_order-order c)).few
 
 pub check_fill-fill-requires : goal.check_fill-fill-requires
-check_fill-fill-requires c =     let p = passed-After-default_limit c in
+check_fill-fill-requires c = let p = passed-After-default_limit c in
     ((factor_steps_bounded _ p).small, factor_steps-sound _ p)
 
 pub returns-in-Refused : goal.returns-in-Refused
 unfolding original_steps
-returns-in-Refused c =     sym (append-refused (one-In-Refused c) (two-In-Refused c ++ (three-In-Refused c ++ four-In-Refused c)) _ tt (sym c.check_factor.ensures ∙ ap reply_of c.in-Refused.is))
+returns-in-Refused c = sym (append-refused (one-In-Refused c) (two-In-Refused c ++ (three-In-Refused c ++ four-In-Refused c)) _ tt (sym c.check_factor.ensures ∙ ap reply_of c.in-Refused.is))
 
 pub returns-in-Accepted : goal.returns-in-Accepted
 unfolding original_steps
-returns-in-Accepted c =     verdicts (two-After-first_of c) (three-After-first_of c ++ four-After-first_of c) c.first_of.ensures c.check_order-order.ensures
+returns-in-Accepted c = verdicts (two-After-first_of c) (three-After-first_of c ++ four-After-first_of c) c.first_of.ensures c.check_order-order.ensures
     (verdicts (three-After-first_of c) (four-After-first_of c) c.first_of-later.ensures (rw c.default_limit.ensures at c.check_fill-fill.ensures) c.check_output.ensures)
     ∙ sym (append_passed (one-After-first_of c) (two-After-first_of c ++ (three-After-first_of c ++ four-After-first_of c)) tt (passed-After-first_of c))

@@ -5,11 +5,11 @@ use mathlib.Core.List.{List}
 use borrow.Author.Rules.{rules}
 use Rattle.refusal.specs.Steps.{Passed}
 use Rattle.refusal.specs.Refusal.{reply_of}
-use Rattle.pairs.specs.Scratch.{scratch_words_room}
+use Rattle.pairs.proofs.Scratch.{scratch_words_room}
 use Rattle.diagnostics.specs.declared.SelectedInverseDiagnostics.{SelectedInverseDiagnostics}
 use Rattle.diagnostics.specs.declared.SelectedInverseStatus.TheVariants.{Complete, ClosureTooLarge}
 use Rattle.selection.specs.Selection.{Lent, lists, room_of}
-use Rattle.selection.specs.Status.{status_tells}
+use Rattle.selection.proofs.Status.{status_tells}
 use Rattle.fill.specs.Fill.{marked_input, marked_answer, marked_lists}
 use Rattle.original_diagonal_with_limit.specs.Original.{OriginalCall, original_call, original_selection, original_steps, AcceptedOriginal, original_accepted}
 use Rattle.original_diagonal_with_limit.proofs.Reply.{original_refused, original_large, original_input, original_done}
@@ -106,15 +106,15 @@ ready-After-slice_known-in-Complete-1 : (t : goal.After-slice_known-in-Complete-
 ready-After-slice_known-in-Complete-1 t = original_accepted (handed-After-slice_known-in-Complete-1 t) (room_of (lent-After-slice_known-in-Complete-1 t)) (length (out-After-slice_known-in-Complete-1 t)) (passed-After-slice_known-in-Complete-1 t)
 
 pub mark_diagonals-requested_pairs-requires : goal.mark_diagonals-requested_pairs-requires
-mark_diagonals-requested_pairs-requires c =     let A = (ready-After-mark_diagonals-arg-1 c).accepted in
+mark_diagonals-requested_pairs-requires c = let A = (ready-After-mark_diagonals-arg-1 c).accepted in
     record { small = A.small; room = scratch_words_room _ A.scratch_room }
 
 pub fill_entries-diagnosis-requires : goal.fill_entries-diagnosis-requires
-fill_entries-diagnosis-requires c =     let l = lent-After-fill_entries-arg-in-Accepted-3-1 c in
+fill_entries-diagnosis-requires c = let l = lent-After-fill_entries-arg-in-Accepted-3-1 c in
     marked_input l.result_starts l.result_rows l.result_values (ready-After-fill_entries-arg-in-Accepted-3-1 c).accepted c.mark_diagonals-requested_pairs.ensures
 
 pub write_original-requires : goal.write_original-requires
-write_original-requires c =     let l = lent-After-write_original-arg-1 c in
+write_original-requires c = let l = lent-After-write_original-arg-1 c in
     let A = (ready-After-write_original-arg-1 c).accepted in
     let M = c.mark_diagonals-requested_pairs.ensures in
     let filled = c.fill_entries-diagnosis.ensures in
@@ -126,10 +126,10 @@ write_original-requires c =     let l = lent-After-write_original-arg-1 c in
     ∙ c.in-Complete.is))
 
 pub returns-in-Refused : goal.returns-in-Refused
-returns-in-Refused c =     original_refused (handed-In-Refused c) (lent-In-Refused c) (out-In-Refused c) (sym c.check_original.ensures ∙ ap reply_of c.in-Refused.is)
+returns-in-Refused c = original_refused (handed-In-Refused c) (lent-In-Refused c) (out-In-Refused c) (sym c.check_original.ensures ∙ ap reply_of c.in-Refused.is)
 
 pub returns-in-ClosureTooLarge : goal.returns-in-ClosureTooLarge
-returns-in-ClosureTooLarge c =     let l = lent-In-ClosureTooLarge c in
+returns-in-ClosureTooLarge c = let l = lent-In-ClosureTooLarge c in
     let A = (ready-In-ClosureTooLarge c).accepted in
     let M = c.mark_diagonals-requested_pairs.ensures in
     let filled = c.fill_entries-diagnosis.ensures in
@@ -140,7 +140,7 @@ returns-in-ClosureTooLarge c =     let l = lent-In-ClosureTooLarge c in
     ∙ c.in-ClosureTooLarge.is))
 
 pub returns-in-Complete : goal.returns-in-Complete
-returns-in-Complete c =     let l = lent-After-slice_known-in-Complete-1 c in
+returns-in-Complete c = let l = lent-After-slice_known-in-Complete-1 c in
     let A = (ready-After-slice_known-in-Complete-1 c).accepted in
     let M = c.mark_diagonals-requested_pairs.ensures in
     let filled = c.fill_entries-diagnosis.ensures in

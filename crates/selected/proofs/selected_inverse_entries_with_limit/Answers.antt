@@ -2,9 +2,10 @@ use borrow.Author.Rules.{rules}
 use mathlib.Core.Path.{ap, sym, ◌∙◌}
 use Rattle.refusal.specs.Steps.{Passed}
 use Rattle.refusal.specs.Refusal.{reply_of}
-use Rattle.pairs.specs.Scratch.{scratch_words_room}
+use Rattle.pairs.proofs.Scratch.{scratch_words_room}
 use Rattle.selection.specs.Selection.{Lent, lists, room_of}
-use Rattle.selection.specs.Call.{Call, call, selected_steps, accepted, accepted_requests}
+use Rattle.selection.specs.Call.{Call, call, selected_steps}
+use Rattle.selection.proofs.Call.{accepted, accepted_requests}
 use Rattle.fill.specs.Fill.{marked_input, marked_answer, marked_lists}
 use Rattle.selected.proofs.Reply.{entries_refused, entries_answered}
 use Rattle.selected.proofs.selected_inverse_entries_with_limit.Goals as goal
@@ -55,23 +56,23 @@ passed-After-slice_known-in-Accepted-5-1 : (t : goal.After-slice_known-in-Accept
 passed-After-slice_known-in-Accepted-5-1 t = sym t.check_selected.ensures ∙ ap reply_of t.in-Accepted.is
 
 pub mark_requests-requested_pairs-requires : goal.mark_requests-requested_pairs-requires
-mark_requests-requested_pairs-requires c =     let x = handed-After-mark_requests-arg-1 c in
+mark_requests-requested_pairs-requires c = let x = handed-After-mark_requests-arg-1 c in
     let r = room_of (lent-After-mark_requests-arg-1 c) in
     let A = accepted x r (passed-After-mark_requests-arg-1 c) in
     record { small = A.small; requests = accepted_requests x r (passed-After-mark_requests-arg-1 c); room = scratch_words_room x.factor.n A.scratch_room }
 
 pub fill_entries-diagnosis-requires : goal.fill_entries-diagnosis-requires
-fill_entries-diagnosis-requires c =     let x = handed-After-fill_entries-arg-in-Accepted-3-1 c in
+fill_entries-diagnosis-requires c = let x = handed-After-fill_entries-arg-in-Accepted-3-1 c in
     let l = lent-After-fill_entries-arg-in-Accepted-3-1 c in
     marked_input l.result_starts l.result_rows l.result_values (accepted x (room_of l) (passed-After-fill_entries-arg-in-Accepted-3-1 c)) c.mark_requests-requested_pairs.ensures
 
 -- src/lib.rt:79:1
 pub returns-in-Refused : goal.returns-in-Refused
-returns-in-Refused c =     entries_refused (handed-In-Refused c) (lent-In-Refused c) (sym c.check_selected.ensures ∙ ap reply_of c.in-Refused.is)
+returns-in-Refused c = entries_refused (handed-In-Refused c) (lent-In-Refused c) (sym c.check_selected.ensures ∙ ap reply_of c.in-Refused.is)
 
 -- src/lib.rt:79:1
 pub returns-in-Accepted : goal.returns-in-Accepted
-returns-in-Accepted c =     let x = handed-After-slice_known-in-Accepted-5-1 c in
+returns-in-Accepted c = let x = handed-After-slice_known-in-Accepted-5-1 c in
     let l = lent-After-slice_known-in-Accepted-5-1 c in
     let A = accepted x (room_of l) (passed-After-slice_known-in-Accepted-5-1 c) in
     entries_answered x l (passed-After-slice_known-in-Accepted-5-1 c)

@@ -24,9 +24,9 @@ lent-After-look_up s = let a = s.args in lists a.result_starts.now a.result_rows
 
 -- src/lib.rt:130:5
 pub look_up-requires : goal.look_up-requires
-look_up-requires c =     read_ready (handed-After-slice_known-8-1 c) (lent-After-slice_known-8-1 c) c.selected_inverse_entries-answer.result c.selected_inverse_entries-answer.ensures (search rules)
+look_up-requires c = read_ready (handed-After-slice_known-8-1 c) (lent-After-slice_known-8-1 c) c.selected_inverse_entries-answer.result c.selected_inverse_entries-answer.ensures (search rules)
 
 -- src/lib.rt:97:1
 pub returns : goal.returns
-returns c =     let a = c.args in
+returns c = let a = c.args in
     read_entry (handed-After-look_up c) (lent-After-look_up c) a.row a.col c.selected_inverse_entries-answer.result c.selected_inverse_entries-answer.ensures c.look_up.result c.look_up.ensures

@@ -2,9 +2,10 @@ use mathlib.Core.Path.{ap, sym, ◌∙◌}
 use mathlib.Core.List.{List}
 use lib.ListN.{length}
 use Rattle.track_variances.specs.Track.{track_steps}
-use Rattle.refusal.specs.Steps.{Step, Passed, both_refused, both_passed}
+use Rattle.refusal.specs.Steps.{Step, Passed}
+use Rattle.refusal.proofs.Steps.{both_refused, both_passed}
 use Rattle.refusal.specs.Refusal.{reply_of}
-use Rattle.track_variances.specs.Laws.{runs_ready}
+use Rattle.track_variances.proofs.Laws.{runs_ready}
 use Rattle.track_variances.proofs.track_variances_whole.Goals as goal
 
 abbrev steps-After-write_runs-arg-1 : goal.After-write_runs-arg-1 → List Step

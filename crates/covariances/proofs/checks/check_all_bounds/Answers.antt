@@ -3,13 +3,13 @@ use lib.Dec.{ltb}
 use borrow.Author.Rules.{rules}
 use Rattle.refusal.specs.Bounds.{max_entries}
 use Rattle.refusal.specs.Steps.{Step}
-use Rattle.refusal.specs.FirstOf.{verdicts}
+use Rattle.refusal.proofs.FirstOf.{verdicts}
 use Rattle.columns.specs.Columns.{bound_steps}
 use Rattle.columns.specs.Operator.{operator_bound_steps}
 use Rattle.covariances.proofs.checks.check_all_bounds.Goals as goal
 
 pub returns : goal.returns
-returns c =     let a = c.args in
+returns c = let a = c.args in
     let firsts : List Step = operator_bound_steps a.a_row_starts.now a.a_columns.now in
     let seconds : List Step = operator_bound_steps a.b_row_starts.now a.b_columns.now in
     let counts : List Step = (1, ltb max_entries a.pairs) ∷ [] in

@@ -3,12 +3,15 @@ use mathlib.Core.List.{List, ◌++◌}
 use lib.ListN.{length}
 use borrow.Author.Rules.{rules}
 use Rattle.refusal.specs.Bounds.{output_steps}
-use Rattle.refusal.specs.Steps.{Step, Passed, append-refused, append_passed, passed_front}
-use Rattle.refusal.specs.FirstOf.{verdicts}
+use Rattle.refusal.specs.Steps.{Step, Passed}
+use Rattle.refusal.proofs.Steps.{append-refused, append_passed, passed_front}
+use Rattle.refusal.proofs.FirstOf.{verdicts}
 use Rattle.refusal.specs.Refusal.{reply_of}
 use Rattle.columns.specs.Columns.{factor_lists}
-use Rattle.columns.specs.Factor.{FactorBounded, bound_steps-sound}
-use Rattle.columns.specs.Stored.{stored_steps, stored_steps-sound}
+use Rattle.columns.specs.Factor.{FactorBounded}
+use Rattle.columns.proofs.Factor.{bound_steps-sound}
+use Rattle.columns.specs.Stored.{stored_steps}
+use Rattle.columns.proofs.Stored.{stored_steps-sound}
 use Rattle.selection.specs.Selection.{room, fill_steps}
 use Rattle.covariances.specs.Covariances.{operator}
 use Rattle.covariances_with_limit.specs.Covariances.{CovarianceCall, covariance_call, covariance_bounds, count_steps, operators_steps, covariance_steps}
@@ -136,21 +139,21 @@ entered-After-first_of : (t : goal.After-first_of) → Passed (entries-After-fir
 entered-After-first_of t = sym t.check_stored.ensures ∙ ap reply_of t.in-Accepted-check_stored.is
 
 pub check_fill-fill-requires : goal.check_fill-fill-requires
-check_fill-fill-requires c =     ((bounded c).small, stored_steps-sound _ (entered-After-check_operators-operators c))
+check_fill-fill-requires c = ((bounded c).small, stored_steps-sound _ (entered-After-check_operators-operators c))
 
 pub returns-in-Refused : goal.returns-in-Refused
 unfolding covariance_steps
-returns-in-Refused c =     sym (append-refused (bounds-In-Refused c) (entries-In-Refused c ++ later-In-Refused c) _ tt (sym c.check_all_bounds.ensures ∙ ap reply_of c.in-Refused.is))
+returns-in-Refused c = sym (append-refused (bounds-In-Refused c) (entries-In-Refused c ++ later-In-Refused c) _ tt (sym c.check_all_bounds.ensures ∙ ap reply_of c.in-Refused.is))
 
 pub returns-in-Refused-check_stored : goal.returns-in-Refused-check_stored
 unfolding covariance_steps
-returns-in-Refused-check_stored c =     sym
+returns-in-Refused-check_stored c = sym
     (append_passed (bounds-In-Refused-check_stored c) (entries-In-Refused-check_stored c ++ later-In-Refused-check_stored c) tt (within-In-Refused-check_stored c)
     ∙ append-refused (entries-In-Refused-check_stored c) (later-In-Refused-check_stored c) _ tt (sym c.check_stored.ensures ∙ ap reply_of c.in-Refused-check_stored.is))
 
 pub returns-in-Accepted-check_stored : goal.returns-in-Accepted-check_stored
 unfolding covariance_steps
-returns-in-Accepted-check_stored c =     verdicts (count_steps (handed-After-first_of c)) (operators_steps (handed-After-first_of c) ++ (fill-After-first_of c ++ output-After-first_of c)) c.first_of.ensures c.check_counts-counts.ensures
+returns-in-Accepted-check_stored c = verdicts (count_steps (handed-After-first_of c)) (operators_steps (handed-After-first_of c) ++ (fill-After-first_of c ++ output-After-first_of c)) c.first_of.ensures c.check_counts-counts.ensures
     (verdicts (operators_steps (handed-After-first_of c)) (fill-After-first_of c ++ output-After-first_of c) c.first_of-later.ensures c.check_operators-operators.ensures
     (verdicts (fill-After-first_of c) (output-After-first_of c) c.first_of-last.ensures c.check_fill-fill.ensures c.check_output.ensures))
     ∙ sym

@@ -1,13 +1,13 @@
 use mathlib.Core.List.{List, [], ◌∷◌, ◌++◌}
 use borrow.Author.Rules.{rules}
 use Rattle.refusal.specs.Steps.{Step}
-use Rattle.refusal.specs.FirstOf.{verdicts}
+use Rattle.refusal.proofs.FirstOf.{verdicts}
 use Rattle.columns.specs.Columns.{outside}
 use Rattle.columns.specs.Operator.{operator_rows, operator_steps}
 use Rattle.covariances_with_limit.proofs.checks.check_operators.Goals as goal
 
 pub returns : goal.returns
-returns c =     let a = c.args in
+returns c = let a = c.args in
     let firsts : List Step = operator_steps a.n a.a_row_starts.now a.a_columns.now a.a_weights in
     let seconds : List Step = operator_steps a.n a.b_row_starts.now a.b_columns.now a.b_weights in
     let rows : List Step =

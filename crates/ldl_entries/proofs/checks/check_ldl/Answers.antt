@@ -2,14 +2,17 @@ use mathlib.Core.Path.{◌≡◌, sym, ap, ◌∙◌}
 use mathlib.Core.List.{List, ◌++◌}
 use lib.ListN.{length}
 use borrow.Author.Rules.{rules}
-use Rattle.refusal.specs.Steps.{Step, verdict, Passed, append-refused, append_passed, passed_front}
-use Rattle.refusal.specs.FirstOf.{verdicts}
+use Rattle.refusal.specs.Steps.{Step, verdict, Passed}
+use Rattle.refusal.proofs.Steps.{append-refused, append_passed, passed_front}
+use Rattle.refusal.proofs.FirstOf.{verdicts}
 use Rattle.refusal.specs.Refusal.{reply_of}
 use Rattle.columns.specs.Columns.{bound_steps, factor_lists}
-use Rattle.columns.specs.Factor.{bound_steps-sound}
-use Rattle.columns.specs.Stored.{stored_steps, stored_steps-sound}
+use Rattle.columns.proofs.Factor.{bound_steps-sound}
+use Rattle.columns.specs.Stored.{stored_steps}
+use Rattle.columns.proofs.Stored.{stored_steps-sound}
 use native.Mathlib.Nat.{le_of_eq}
-use Rattle.columns.specs.Pivots.{pivot_list_steps, pivot_list_steps_long}
+use Rattle.columns.specs.Pivots.{pivot_list_steps}
+use Rattle.columns.proofs.Pivots.{pivot_list_steps_long}
 use Rattle.selection.specs.Selection.{room}
 use Rattle.selection.specs.RequestSteps.{request_bound_steps, request_steps}
 use Rattle.selection.specs.LdlCall.{ldl_fill_steps, ldl_steps}
@@ -196,32 +199,32 @@ pivots-pass-After-first_of : (t : goal.After-first_of) → Passed (listed-After-
 pivots-pass-After-first_of t = sym t.check_pivot_list.ensures ∙ ap reply_of t.in-Accepted-check_pivot_list.is
 
 pub check_ldl_fill-fill-requires : goal.check_ldl_fill-fill-requires
-check_ldl_fill-fill-requires c =     let a = c.args in (
-      (bound_steps-sound a.n (length a.rows.now) (passed_front _ (request_bound_steps (length a.request_rows.now)) (within-After-check_requests-requests c))).small,
-      stored_steps-sound _ (entered-After-check_requests-requests c),
-      le_of_eq (sym (pivot_list_steps_long a.n a.pivots.now (pivots-pass-After-check_requests-requests c))),
-    )
+check_ldl_fill-fill-requires c = let a = c.args in (
+  (bound_steps-sound a.n (length a.rows.now) (passed_front _ (request_bound_steps (length a.request_rows.now)) (within-After-check_requests-requests c))).small,
+  stored_steps-sound _ (entered-After-check_requests-requests c),
+  le_of_eq (sym (pivot_list_steps_long a.n a.pivots.now (pivots-pass-After-check_requests-requests c))),
+)
 
 pub returns-in-Refused : goal.returns-in-Refused
 unfolding ldl_steps
-returns-in-Refused c =     sym (append-refused (bounds-In-Refused c) (second-In-Refused c) _ tt (sym (bounds-told-In-Refused c) ∙ ap reply_of c.in-Refused.is))
+returns-in-Refused c = sym (append-refused (bounds-In-Refused c) (second-In-Refused c) _ tt (sym (bounds-told-In-Refused c) ∙ ap reply_of c.in-Refused.is))
 
 pub returns-in-Refused-check_stored : goal.returns-in-Refused-check_stored
 unfolding ldl_steps
-returns-in-Refused-check_stored c =     sym
+returns-in-Refused-check_stored c = sym
     (append_passed (bounds-In-Refused-check_stored c) (second-In-Refused-check_stored c) tt (within-In-Refused-check_stored c)
     ∙ append-refused (entries-In-Refused-check_stored c) (third-In-Refused-check_stored c) _ tt (sym c.check_stored.ensures ∙ ap reply_of c.in-Refused-check_stored.is))
 
 pub returns-in-Refused-check_pivot_list : goal.returns-in-Refused-check_pivot_list
 unfolding ldl_steps
-returns-in-Refused-check_pivot_list c =     sym
+returns-in-Refused-check_pivot_list c = sym
     (append_passed (bounds-In-Refused-check_pivot_list c) (second-In-Refused-check_pivot_list c) tt (within-In-Refused-check_pivot_list c)
     ∙ append_passed (entries-In-Refused-check_pivot_list c) (third-In-Refused-check_pivot_list c) tt (entered-In-Refused-check_pivot_list c)
     ∙ append-refused (listed-In-Refused-check_pivot_list c) (requests-In-Refused-check_pivot_list c ++ fill-In-Refused-check_pivot_list c) _ tt (sym c.check_pivot_list.ensures ∙ ap reply_of c.in-Refused-check_pivot_list.is))
 
 pub returns-in-Accepted-check_pivot_list : goal.returns-in-Accepted-check_pivot_list
 unfolding ldl_steps
-returns-in-Accepted-check_pivot_list c =     verdicts (requests-After-first_of c) (fill-After-first_of c) c.first_of.ensures c.check_requests-requests.ensures c.check_ldl_fill-fill.ensures
+returns-in-Accepted-check_pivot_list c = verdicts (requests-After-first_of c) (fill-After-first_of c) c.first_of.ensures c.check_requests-requests.ensures c.check_ldl_fill-fill.ensures
     ∙ sym
     (append_passed (bounds-After-first_of c) (second-After-first_of c) tt (within-After-first_of c)
     ∙ append_passed (entries-After-first_of c) (third-After-first_of c) tt (entered-After-first_of c)

@@ -4,7 +4,7 @@ use lib.ListN.{length}
 use Rattle.refusal.specs.Refusal.{reply_of}
 use Rattle.columns.specs.Columns.{start}
 use Rattle.columns.specs.Factor.{Column}
-use Rattle.result.specs.Laws.{column_faults-sound}
+use Rattle.result.proofs.Laws.{column_faults-sound}
 use Rattle.replay_lookups.proofs.searches.put_searches.Statement.{statement}
 use Rattle.replay_lookups.proofs.searches.put_searches.Tie as tie
 

@@ -8,9 +8,10 @@ use Rattle.refusal.specs.Bounds.{output_steps}
 use Rattle.run_sums.specs.Runs.{runs}
 use Rattle.refusal.specs.Refusal.{reply_of}
 use Rattle.result.specs.Lookup.{result_steps}
-use Rattle.result.specs.Laws.{result_steps-sound}
+use Rattle.result.proofs.Laws.{result_steps-sound}
 use Rattle.track_variances.specs.Track.{width_steps, run_steps}
-use Rattle.track_variances.specs.Laws.{Width, width_steps-sound, track_result, track_width, track_runs, track_room}
+use Rattle.track_variances.specs.Laws.{Width}
+use Rattle.track_variances.proofs.Laws.{width_steps-sound, track_result, track_width, track_runs, track_room}
 use Rattle.track_variances.proofs.checks.check_call.Goals as goal
 
 -- what has passed

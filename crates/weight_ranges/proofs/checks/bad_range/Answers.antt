@@ -4,7 +4,7 @@ use lib.Signed.{lt_z}
 use mir.Syntax.{w64}
 use mir.ValLaws.{to_z-of_z}
 use Rattle.columns.specs.WholeFactor.{whole_value}
-use Rattle.weight_ranges.specs.Laws.{bad_low, bad_high, bad_order}
+use Rattle.weight_ranges.proofs.Laws.{bad_low, bad_high, bad_order}
 use Rattle.weight_ranges.proofs.checks.bad_range.Goals as goal
 
 low_size-Then-size-gt-MAX_WEIGHT : (c : goal.Then-size-gt-MAX_WEIGHT) → c.size.result ≡ nat_abs (whole_value c.args.lows.now c.args.a)

@@ -5,9 +5,9 @@ use lib.ListN.{length}
 use Rattle.refusal.specs.Steps.{Passed}
 use Rattle.refusal.specs.Refusal.{reply_of}
 use Rattle.result.specs.Lookup.{dimension, result_steps}
-use Rattle.result.specs.Laws.{result_steps-sound}
+use Rattle.result.proofs.Laws.{result_steps-sound}
 use Rattle.weight_ranges.specs.Ranges.{range_row_steps, weight_steps}
-use Rattle.weight_ranges.specs.Laws.{range_result, range_row, range_weights, range_pairs, equal_lengths}
+use Rattle.weight_ranges.proofs.Laws.{range_result, range_row, range_weights, range_pairs, equal_lengths}
 use Rattle.weight_ranges.proofs.checks.check_call.Goals as goal
 
 result-passed-In_default : (c : goal.In_default) → let a = c.args in Passed (result_steps a.starts.now a.rows.now (length a.values.now))
