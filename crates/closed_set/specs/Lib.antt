@@ -3,5 +3,4 @@ pub mod ClosedSet
 pub mod Requests
 pub mod Size
 pub mod Examples
-pub mod FactorPattern
 pub mod KeptSet

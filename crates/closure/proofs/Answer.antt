@@ -7,11 +7,14 @@ use mathlib.Core.Path.{◌≡◌, refl, sym, ◌∙◌}
 use mathlib.Core.Bool.{Bool}
 use mathlib.Core.List.{List}
 use Rattle.lists.specs.Test.{same_truth}
-use Rattle.pairs.specs.ColumnOrder.{column_marking, set_size_cong, set_size_le}
+use Rattle.pairs.specs.ColumnOrder.{column_marking}
+use Rattle.pairs.proofs.ColumnOrder.{set_size_cong, set_size_le}
 use Rattle.columns.specs.Kept.{pattern}
-use Rattle.closed_set.specs.ClosedSet.{member, member_holds, member_closed, member_least, Pattern, Holds}
-use Rattle.closed_set.specs.Size.{closure_size, requested_pairs, requested_pairs_within}
-use Rattle.closed_set.specs.FactorPattern.{factor_pattern}
+use Rattle.closed_set.specs.ClosedSet.{member, Pattern, Holds}
+use Rattle.closed_set.proofs.ClosedSet.{member_holds, member_closed, member_least}
+use Rattle.closed_set.specs.Size.{closure_size, requested_pairs}
+use Rattle.closed_set.proofs.Size.{requested_pairs_within}
+use Rattle.closed_set.proofs.FactorPattern.{factor_pattern}
 use Rattle.selection.specs.Diagnosis.{closure_pairs}
 use Rattle.closure.specs.Queue.{MarkedWithin, QueueClosed}
 use Rattle.closure.specs.Closure.{ClosureInput, Requested, Closing, Closes}

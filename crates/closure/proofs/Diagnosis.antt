@@ -8,9 +8,10 @@ use mathlib.Core.List.{List}
 use lib.Dec.{leb}
 use borrow.Author.Tests.{leb-true, le-leb}
 use Rattle.lists.specs.Test.{same_truth}
-use Rattle.pairs.specs.Pair.{pair_total_small}
+use Rattle.pairs.proofs.Pair.{pair_total_small}
 use Rattle.columns.specs.Kept.{pattern}
-use Rattle.closed_set.specs.Size.{closure_size, requested_pairs, closure_size_most}
+use Rattle.closed_set.specs.Size.{closure_size, requested_pairs}
+use Rattle.closed_set.proofs.Size.{closure_size_most}
 use Rattle.diagnostics.specs.Diagnosis.{status_of, max_count, diagnosis}
 use Rattle.diagnostics.specs.declared.SelectedInverseDiagnostics.{SelectedInverseDiagnostics}
 use Rattle.diagnostics.specs.declared.SelectedInverseStatus.{SelectedInverseStatus}

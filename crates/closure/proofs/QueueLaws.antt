@@ -15,17 +15,19 @@ use lib.Seq.{get_or-set_same, get_or-set_other}
 use borrow.Author.Tests.{le-ltb, lt-ltb, ltb-true, eqb-true}
 use Rattle.lists.specs.Test.{and_left, and_both, or_cases, or_left, or_right}
 use Rattle.refusal.specs.Bounds.{max_dimension}
-use Rattle.pairs.specs.Pair.{pair_total, ordered, ordered_is, is_ordered}
+use Rattle.pairs.specs.Pair.{pair_total, ordered}
+use Rattle.pairs.proofs.Pair.{ordered_is, is_ordered}
 use Rattle.pairs.specs.Scratch.{queue_start, packed, row_of, column_of}
 use Rattle.pairs.specs.ColumnOrder.{column_marking}
 use Rattle.columns.specs.Columns.{start, row}
 use Rattle.columns.specs.Kept.{kept_below, pattern}
-use Rattle.columns.specs.Factor.{Factor, starts_end}
+use Rattle.columns.specs.Factor.{Factor}
+use Rattle.columns.proofs.Factor.{starts_end}
 use Rattle.closed_set.specs.ClosedSet.{Closed, Pattern, descends}
 use Rattle.closure.specs.Nested.{Nested, Stop, StopFound}
 use Rattle.marked_pairs.specs.MarkedPairs.{queue_word, Queued, Marked, InsertInput, Inserted, count_most}
 use Rattle.closure.specs.Queue.{MarkedWithin, Grown, QueueInput, ColumnEndInput, EndOf, after_span, EndColumnInput, ColumnEnded, QueueClosed}
-use Rattle.closed_set.specs.FactorPattern.{factor_pattern, entry_descends, descends_entry}
+use Rattle.closed_set.proofs.FactorPattern.{factor_pattern, entry_descends, descends_entry}
 
 -- ---- words that grow
 

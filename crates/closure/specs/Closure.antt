@@ -12,10 +12,13 @@ use Rattle.columns.specs.Kept.{nonzero, pattern}
 use Rattle.columns.specs.WholeFactor.{whole_nonzero, whole_pattern}
 use Rattle.kept_entries.specs.KeptBy.{kept_at, kept_floats, kept_wholes, factor_rows, pattern_same}
 use Rattle.closure.specs.Nested.{Unlisted}
-use Rattle.closed_set.specs.ClosedSet.{member, member_cong, Ranged}
-use Rattle.closed_set.specs.Size.{closure_size, closure_size_cong}
+use Rattle.closed_set.specs.ClosedSet.{member, Ranged}
+use Rattle.closed_set.proofs.ClosedSet.{member_cong}
+use Rattle.closed_set.specs.Size.{closure_size}
+use Rattle.closed_set.proofs.Size.{closure_size_cong}
 use Rattle.diagnostics.specs.declared.SelectedInverseDiagnostics.{SelectedInverseDiagnostics}
-use Rattle.selection.specs.Diagnosis.{closure_pairs, diagnosis_of, diagnosis_of_same}
+use Rattle.selection.specs.Diagnosis.{closure_pairs, diagnosis_of}
+use Rattle.selection.proofs.Diagnosis.{diagnosis_of_same}
 use Rattle.marked_pairs.specs.MarkedPairs.{Marked, ColumnsReached}
 
 -- a factor past its checks, a list for the stops of its columns, and words with `requested` marked pairs

@@ -9,9 +9,10 @@ use Rattle.lists.specs.Test.{any_in, any_in_below, and_right, and_both}
 use Rattle.refusal.specs.Bounds.{max_dimension}
 use Rattle.columns.specs.Columns.{start, row}
 use Rattle.columns.specs.Kept.{kept_below, pattern}
-use Rattle.columns.specs.Factor.{Factor, factor_column}
+use Rattle.columns.specs.Factor.{Factor}
+use Rattle.columns.proofs.Factor.{factor_column}
 use Rattle.closed_set.specs.ClosedSet.{descends}
-use Rattle.closed_set.specs.FactorPattern.{entry_descends, descends_entry}
+use Rattle.closed_set.proofs.FactorPattern.{entry_descends, descends_entry}
 use Rattle.closure.specs.Nested.{Nested, Stop, Stops, Unlisted, StopFound}
 
 -- q is the first place from s to below e that is kept below the diagonal of column c, e if none

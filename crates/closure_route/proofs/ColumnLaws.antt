@@ -11,13 +11,15 @@ use borrow.Author.Tests.{ltb-true, eqb-true, eq-eqb}
 use Rattle.lists.specs.Test.{and_left, same_truth}
 use Rattle.lists.specs.Select.{select_holds}
 use Rattle.pairs.specs.ColumnOrder.{set_size}
-use Rattle.closed_set.specs.ClosedSet.{descends, descends_at}
+use Rattle.closed_set.specs.ClosedSet.{descends}
+use Rattle.closed_set.proofs.ClosedSet.{descends_at}
 use Rattle.columns.specs.Columns.{start, row}
 use Rattle.columns.specs.Kept.{nonzero, kept_below, pattern}
-use Rattle.columns.specs.Factor.{Column, factor_column}
-use Rattle.columns.specs.Pattern.{pattern_at}
+use Rattle.columns.specs.Factor.{Column}
+use Rattle.columns.proofs.Factor.{factor_column}
+use Rattle.columns.proofs.Pattern.{pattern_at}
 use Rattle.entries.specs.Entries.{column_count, position}
-use Rattle.entries.specs.Position.{column_count_mono, position_first, position_below, position_rises, position_found}
+use Rattle.entries.proofs.Position.{column_count_mono, position_first, position_below, position_rises, position_found}
 use Rattle.closure_route.specs.Column.{SumTerms, SumColumn, sum_terms, sum_column, TermAt, term_position}
 use Rattle.closure_route.specs.Sums.{SumInput}
 use Rattle.closure_route.specs.Stored.{StoreSumsInput}

@@ -17,9 +17,10 @@ use Rattle.columns.specs.Columns.{start, row}
 use Rattle.columns.specs.Kept.{desc}
 use Rattle.takahashi.specs.Recurrence.{Lower, Solves, at}
 use Rattle.exact.specs.Exact.{floats}
-use Rattle.entries.specs.Position.{column_count_mono, position_first, position_in, position_below, position_rises}
+use Rattle.entries.proofs.Position.{column_count_mono, position_first, position_in, position_below, position_rises}
 use Rattle.closure_route.specs.Column.{sum_terms, sum_column}
-use Rattle.closure_route.specs.Sums.{inverse_at, sum_between, sum_between_cong, entry_sum}
+use Rattle.closure_route.specs.Sums.{inverse_at, sum_between, entry_sum}
+use Rattle.closure_route.proofs.Sums.{sum_between_cong}
 use Rattle.closure_route.specs.Stored.{StoreSumsInput, SumsStored}
 use Rattle.closure_route.specs.Finish.{SumsFinished, put_if, StoreDiagonalInput}
 use Rattle.closure_route.specs.Route.{RouteLists, route_set, ClosureRouteInput, SolvedFrom, ColumnsSolved}

@@ -10,3 +10,6 @@ pub mod FinishLaws
 pub mod RouteLaws
 pub mod ColumnLaws
 pub mod LastStepLaws
+pub mod Members
+pub mod Route
+pub mod Sums

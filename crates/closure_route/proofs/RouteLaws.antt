@@ -10,7 +10,7 @@ use lib.Ieee.{Float, nan}
 use Rattle.lists.specs.Overwrite.{overwrite}
 use Rattle.pairs.specs.ColumnOrder.{set_size}
 use Rattle.entries.specs.Entries.{entry_values}
-use Rattle.entries.specs.Position.{entry_values-overwrite}
+use Rattle.entries.proofs.Position.{entry_values-overwrite}
 use Rattle.closure_route.specs.Route.{RouteLists, route_set, ClosureRouteInput, SolvedFrom, ColumnsSolved, ColumnInput}
 
 -- ---- the columns, one after the other

@@ -15,7 +15,8 @@ use Rattle.lists.specs.Test.{any_in, any_in_below, any_in_all, any_in-hit, any_i
 use Rattle.columns.specs.Columns.{row, outside_at}
 use Rattle.columns.specs.Factor.{Ascends, Column, FirstFrom}
 use Rattle.closure_route.specs.Column.{SumColumn, sum_column, terms_of, sum_row, SumAt}
-use Rattle.closure_route.specs.Sums.{inverse_at, row_sum, entry_sum, sum_between_cong}
+use Rattle.closure_route.specs.Sums.{inverse_at, row_sum, entry_sum}
+use Rattle.closure_route.proofs.Sums.{sum_between_cong}
 use Rattle.closure_route.specs.Stored.{StoreSumsInput, SumsStored, SumsInput}
 
 -- ---- rows that ascend

@@ -10,4 +10,3 @@ pub mod Lower
 pub mod Upper
 pub mod Finish
 pub mod Route
-pub mod Members

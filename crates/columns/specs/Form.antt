@@ -11,7 +11,6 @@ use Rattle.lists.specs.Sum.{sum_to, sum_to_none, sum_to_next, sum_to_eq}
 use Rattle.columns.specs.Columns.{value}
 use Rattle.columns.specs.Kept.{f0, nonzero, diag, pattern, kept_pair, factor_pairs}
 use Rattle.columns.specs.Diagonal.{Diagonals}
-use Rattle.columns.specs.Pattern.{factor_pairs-pattern}
 
 -- L * Lᵀ, or L * D * Lᵀ with a list of pivots
 pub data Form : Type 0 where
@@ -49,34 +48,6 @@ module _ (n : ℕ) (starts rows : List ℕ) (values : List Float) where
   Divisors cholesky = Diagonals n starts rows values
   Divisors (pivoted pivots) = Pivots n pivots
 
-  -- past 6 the pairs that count as kept are those of the pattern, in either form
-  pub kept_pairs-pattern : (form : Form) → Divisors form → kept_pairs form ≡ pattern_pairs n (pattern starts rows (nonzero values))
-  unfolding pattern_pairs
-  kept_pairs-pattern cholesky D = factor_pairs-pattern (nonzero values) D.diagonal
-  kept_pairs-pattern (pivoted pivots) D = refl
-
 -- (r, c) is a pair of the pattern: on the diagonal, kept there or not, or kept below it
 abbrev pub pattern_pair : List ℕ → List ℕ → (ℕ → Bool) → ℕ → ℕ → Bool
 pattern_pair starts rows nz r c = eqb r c || kept_pair starts rows nz r c
-
-module _ (starts rows : List ℕ) (nz : ℕ → Bool) where
-  pub pattern_pair_diagonal : (c : ℕ) → pattern_pair starts rows nz c c ≡ true
-  pattern_pair_diagonal c = ap (λ (b : Bool). b || kept_pair starts rows nz c c) (eq-eqb c c refl)
-
-  pub pattern_pair_below : (r c : ℕ) → c < r → pattern_pair starts rows nz r c ≡ kept_pair starts rows nz r c
-  pattern_pair_below r c h = ap (λ (b : Bool). b || kept_pair starts rows nz r c) (ne_eqb r c (λ e. absurd (omega (arith, e))))
-
--- the first c columns of a pattern, and one more
-module _ (desc : ℕ → List ℕ) where
-  pub pattern_pairs_none : pattern_pairs 0 desc ≡ 0
-  unfolding pattern_pairs
-  pattern_pairs_none = sum_to_none (λ c. 1 + length (desc c))
-
-  pub pattern_pairs_next : (c : ℕ) → pattern_pairs (c + 1) desc ≡ pattern_pairs c desc + (1 + length (desc c))
-  unfolding pattern_pairs
-  pattern_pairs_next c = sum_to_next (λ c. 1 + length (desc c)) c
-
--- equal patterns have as many pairs
-pub pattern_pairs_cong : (n : ℕ) (desc desc' : ℕ → List ℕ) → ((c : ℕ) → c < n → desc c ≡ desc' c) → pattern_pairs n desc ≡ pattern_pairs n desc'
-unfolding pattern_pairs
-pattern_pairs_cong n desc desc' same = sum_to_eq (λ c. 1 + length (desc c)) (λ c. 1 + length (desc' c)) n (λ c h. ap (λ (l : List ℕ). 1 + length l) (same c h))

@@ -28,11 +28,6 @@ nonzero values p = ne (value values p) f0
 abbrev pub not_finite : List Float → ℕ → Bool
 not_finite values p = not (finite (value values p))
 
--- as code tests it by ==
-pub nonzero-not : (values : List Float) (p : ℕ) {b : Bool} → eq (value values p) f0 ≡ b → nonzero values p ≡ not b
-unfolding ne eq
-nonzero-not values p e = ap not e
-
 -- the stored entry at p
 abbrev pub entry : List ℕ → List Float → ℕ → Entry Float
 entry rows values p = record { row = row rows p; value = value values p }
@@ -87,12 +82,3 @@ module _ (starts rows : List ℕ) (values : List Float) where
   -- the descendants of column c, each with its value
   abbrev pub desc : ℕ → List (Entry Float)
   desc c = map (entry rows values) (desc_places starts rows (nonzero values) c)
-
-module _ (starts rows : List ℕ) (nz : ℕ → Bool) where
-  pub factor_pairs_none : factor_pairs starts rows nz 0 ≡ 0
-  unfolding factor_pairs
-  factor_pairs_none = sum_to_none (kept_count starts rows nz)
-
-  pub factor_pairs_next : (c : ℕ) → factor_pairs starts rows nz (c + 1) ≡ factor_pairs starts rows nz c + kept_count starts rows nz c
-  unfolding factor_pairs
-  factor_pairs_next c = sum_to_next (kept_count starts rows nz) c

@@ -4,7 +4,6 @@ pub mod Factor
 pub mod Kept
 pub mod Stored
 pub mod Diagonal
-pub mod Pattern
 pub mod Form
 pub mod Pivots
 pub mod WholeFactor
@@ -12,5 +11,4 @@ pub mod UnitDiagonals
 pub mod Numbers
 pub mod Operator
 pub mod Examples
-pub mod WholeExamples
 pub mod OperatorPair

@@ -40,7 +40,3 @@ module _ (starts rows : List ℕ) (values : List ℤ) where
   -- the descendants of column c, each with its value
   abbrev pub whole_desc : ℕ → List (Entry ℤ)
   whole_desc c = map (whole_stored rows values) (desc_places starts rows (whole_nonzero values) c)
-
-pub one_is : (z : ℤ) → is_one z ≡ true → z ≡ pos 1
-one_is (pos n) e = ap pos (eqb-true n 1 e)
-one_is (negsuc n) e = absurd (false≢true e)

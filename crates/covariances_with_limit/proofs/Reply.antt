@@ -10,19 +10,21 @@ use lib.Ieee.{Float, nan}
 use borrow.Author.Tests.{leb-true}
 use Rattle.lists.specs.Overwrite.{overwrite, cleared}
 use Rattle.refusal.specs.Steps.{Step, Passed}
-use Rattle.pairs.specs.Scratch.{scratch_words_room}
+use Rattle.pairs.proofs.Scratch.{scratch_words_room}
 use Rattle.pairs.specs.Positions.{inverse_at}
 use Rattle.columns.specs.Kept.{nonzero, pattern}
-use Rattle.closed_set.specs.ClosedSet.{Holds, member_holds}
-use Rattle.closed_set.specs.Size.{closure_size_most}
-use Rattle.closed_set.specs.FactorPattern.{factor_pattern}
+use Rattle.closed_set.specs.ClosedSet.{Holds}
+use Rattle.closed_set.proofs.ClosedSet.{member_holds}
+use Rattle.closed_set.proofs.Size.{closure_size_most}
+use Rattle.closed_set.proofs.FactorPattern.{factor_pattern}
 use Rattle.entries.specs.Entries.{entry_values}
 use Rattle.entries.specs.Position.{Positioned}
 use Rattle.selection.specs.Selection.{Selection, Lent, room_of, scratch_words, selected_set, selected_size, selected_complete, selected_table, lists, filling_of}
-use Rattle.selection.specs.Selection.{ResultLists, complete_values}
+use Rattle.selection.specs.Selection.{ResultLists}
+use Rattle.selection.proofs.Selection.{complete_values}
 use Rattle.quadratic_form.specs.RowValue.{row_pair_values}
 use Rattle.operator_values.specs.Reading.{RowPairValuesInput}
-use Rattle.operator_values.specs.Filled.{filled_pairs_reading, filled_pairs_values}
+use Rattle.operator_values.proofs.Filled.{filled_pairs_reading, filled_pairs_values}
 use Rattle.covariances_with_limit.specs.Covariances.{CovarianceCall, covariance_selection, covariance_steps, covariance_values, AcceptedCovariances}
 
 module _ (x : CovarianceCall) (lent : Lent) (output : List Float) where

@@ -5,16 +5,20 @@ use Rattle.std.proofs.Common.{subst, ltb-false, leb-false, eqb-true}
 use Rattle.std.proofs.lemmas.Bool.{not-false}
 use Rattle.lists.specs.Test.{any_below}
 use Rattle.refusal.specs.Bounds.{max_entries, output_steps}
-use Rattle.refusal.specs.Steps.{Step, Passed, passed_clear, passed_front, passed_back}
-use Rattle.refusal.specs.Groups.{grouped, AllPassed, groups_passed}
+use Rattle.refusal.specs.Steps.{Step, Passed}
+use Rattle.refusal.proofs.Steps.{passed_clear, passed_front, passed_back}
+use Rattle.refusal.specs.Groups.{grouped, AllPassed}
+use Rattle.refusal.proofs.Groups.{groups_passed}
 use Rattle.columns.specs.Columns.{FactorLists, factor_lists, outside_at, outside, bound_steps}
-use Rattle.columns.specs.Factor.{bound_steps-sound}
+use Rattle.columns.proofs.Factor.{bound_steps-sound}
 use Rattle.columns.specs.Stored.{stored_steps}
-use Rattle.columns.specs.Operator.{operator_rows, operator_bound_steps, operator_steps, operator_steps-sound}
+use Rattle.columns.specs.Operator.{operator_rows, operator_bound_steps, operator_steps}
+use Rattle.columns.proofs.Operator.{operator_steps-sound}
 use Rattle.selection.specs.Selection.{Selection, selection, Lent, Room, room_of, fill_steps, selected_table, Accepted}
-use Rattle.selection.specs.Call.{fill_accepted}
+use Rattle.selection.proofs.Call.{fill_accepted}
 use Rattle.diagnostics.specs.declared.Selected.{Selected}
-use Rattle.request_marks.specs.CrossRequests.{cross_requested, cross_requested_ranged, OperatorPairs}
+use Rattle.request_marks.specs.CrossRequests.{cross_requested, OperatorPairs}
+use Rattle.request_marks.proofs.CrossRequests.{cross_requested_ranged}
 use Rattle.quadratic_form.specs.RowValue.{row_pair_values}
 use Rattle.operator_values.specs.Output.{SelectedOutput}
 use Rattle.covariances.specs.Covariances.{Operator}

@@ -10,9 +10,9 @@ use Rattle.std.specs.Float.Ieee.{nan}
 use Rattle.lists.specs.Tabulate.{tabulate_at, tabulate-length}
 use Rattle.lists.specs.Overwrite.{overwrite_at}
 use Rattle.refusal.specs.Steps.{Step, answered, Passed}
-use Rattle.refusal.specs.Told.{told_passed, told_answer}
+use Rattle.refusal.proofs.Told.{told_passed, told_answer}
 use Rattle.columns.specs.Columns.{start, value}
-use Rattle.columns.specs.Factor.{starts_end}
+use Rattle.columns.proofs.Factor.{starts_end}
 use Rattle.integers.specs.Matrix.{Matrix}
 use Rattle.integers.specs.Inverse.{Inverse, WholeInverse}
 use Rattle.takahashi.specs.Entries.{Entry}
@@ -25,12 +25,16 @@ use Rattle.diagnostics.specs.declared.SelectedInverseStatus.TheVariants.{Complet
 use Rattle.diagnostics.specs.declared.Selected.{Selected}
 use Rattle.diagnostics.specs.Selected.{selected_reply_of}
 use Rattle.selection.specs.Selection.{Selection, Lent, room_of, selected_answer, selected_table, ResultLists, filling_of}
-use Rattle.exact_entries.specs.DyadicEntries.{DyadicCall, ReadsMultiples, dyadic_entries}
-use Rattle.exact_entries.specs.ExactEntries.{ExactCall, ReadsBack, exact_entries, exact_either, exact_symmetric}
-use Rattle.request_marks.specs.CrossRequests.{cross_requested_lem}
+use Rattle.exact_entries.specs.DyadicEntries.{DyadicCall, ReadsMultiples}
+use Rattle.exact_entries.proofs.DyadicEntries.{dyadic_entries}
+use Rattle.exact_entries.specs.ExactEntries.{ExactCall, ReadsBack}
+use Rattle.exact_entries.proofs.ExactEntries.{exact_entries, exact_either, exact_symmetric}
+use Rattle.request_marks.proofs.CrossRequests.{cross_requested_lem}
 use Rattle.quadratic_form.specs.RowValue.{term_column, row_pair_value, row_pair_values}
-use Rattle.quadratic_form.specs.ExactCross.{bilinear, bilinear-exchanged, RowsWithin, cross_value_exact}
-use Rattle.operator_values.specs.Output.{output_after, after_complete}
+use Rattle.quadratic_form.specs.ExactCross.{bilinear, RowsWithin}
+use Rattle.quadratic_form.proofs.ExactCross.{bilinear-exchanged, cross_value_exact}
+use Rattle.operator_values.specs.Output.{output_after}
+use Rattle.operator_values.proofs.Output.{after_complete}
 use Rattle.covariances.specs.ExactCovariances.{first_place, place_count}
 use Rattle.covariances_with_limit.specs.Covariances.{CovarianceCall, covariance_selection, covariance_steps, covariance_values, Covariances}
 use Rattle.covariances_with_limit.specs.Covariances.{AcceptedCovariances, covariance_accepted}

@@ -23,19 +23,23 @@ use Rattle.columns.specs.Form.{cholesky}
 use Rattle.columns.specs.Operator.{operator_steps}
 use Rattle.columns.specs.Examples.{whole, f2_starts, f2_rows, f2_values}
 use Rattle.exact.specs.Multiple.{Multiple, Whole}
-use Rattle.exact.specs.Examples.{f2_entries, f2_matrix, f2-inverse, sixteenths-diag, sixteenths, sixteenths-z, sixteenths_matrix, sixteenths-inverse}
+use Rattle.exact.specs.Examples.{f2_entries, f2_matrix, sixteenths-diag, sixteenths, sixteenths-z, sixteenths_matrix}
+use Rattle.exact.proofs.Examples.{f2-inverse, sixteenths-inverse}
 use Rattle.closed_set.specs.ClosedSet.{reach, member, request}
 use Rattle.entries.specs.Entries.{float_table}
 use Rattle.diagnostics.specs.Diagnosis.{diagnosis}
 use Rattle.diagnostics.specs.declared.SelectedInverseStatus.TheVariants.{Complete, ClosureTooLarge}
 use Rattle.diagnostics.specs.declared.Selected.TheVariants.{Answered}
 use Rattle.selection.specs.Diagnosis.{diagnosis_of}
-use Rattle.selection.specs.Selection.{room_of, room_steps, default_limit, selected_answer, lists_passed, filling_of, Lent, lists}
+use Rattle.selection.specs.Selection.{room_of, room_steps, default_limit, selected_answer, filling_of, Lent, lists}
+use Rattle.selection.proofs.Selection.{lists_passed}
 use Rattle.exact_entries.specs.Recurrence.{found}
 use Rattle.exact_entries.specs.DyadicEntries.{DyadicCall, ReadsMultiples}
 use Rattle.exact_entries.specs.ExactEntries.{ExactCall}
-use Rattle.exact_entries.specs.Worked.{f2_diagonals, f2_exact, f2_lent, f2_cleared}
-use Rattle.exact_entries.specs.DyadicWorked.{sixteenths_values, sixteenths_dyadic, sixteenth}
+use Rattle.exact_entries.specs.Worked.{f2_lent, f2_cleared}
+use Rattle.exact_entries.proofs.Worked.{f2_diagonals, f2_exact}
+use Rattle.exact_entries.specs.DyadicWorked.{sixteenths_values, sixteenth}
+use Rattle.exact_entries.proofs.DyadicWorked.{sixteenths_dyadic}
 use Rattle.request_marks.specs.CrossRequests.{cross_requested}
 use Rattle.quadratic_form.specs.CrossValue.{add_terms, add_places}
 use Rattle.quadratic_form.specs.RowValue.{term_column, row_pair_values}

@@ -1,1 +1,4 @@
 pub mod ListLaws
+pub mod Answer
+pub mod Laws
+pub mod Worked

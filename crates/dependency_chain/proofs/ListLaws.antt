@@ -9,17 +9,20 @@ use lib.Ieee.{Float}
 use lib.ListN.{length, get_or}
 use borrow.Author.Tests.{lt-ltb, le-ltb}
 use Rattle.lists.specs.Overwrite.{overwrite, overwrite_none, cleared}
-use Rattle.refusal.specs.Steps.{Step, Reply, refused, answered, verdict, after, settle, Passed, first_hit, first_skip, first_end, first_refused, first_passed}
-use Rattle.refusal.specs.Steps.{append-refused, append_passed, after_refused, after_passed}
+use Rattle.refusal.specs.Steps.{Step, Reply, refused, answered, verdict, after, settle, Passed}
+use Rattle.refusal.proofs.Steps.{first_hit, first_skip, first_end, first_refused, first_passed}
+use Rattle.refusal.proofs.Steps.{append-refused, append_passed, after_refused, after_passed}
 use Rattle.pairs.specs.Pair.{pair_total}
-use Rattle.pairs.specs.Scratch.{chain_words, chain_words_levels}
+use Rattle.pairs.specs.Scratch.{chain_words}
+use Rattle.pairs.proofs.Scratch.{chain_words_levels}
 use Rattle.pairs.specs.ColumnOrder.{column_place}
 use Rattle.columns.specs.Kept.{nonzero, pattern}
 use Rattle.closed_set.specs.ClosedSet.{Pattern, Ranged}
-use Rattle.closed_set.specs.Requests.{requested, requested_ranged}
-use Rattle.closed_set.specs.FactorPattern.{factor_pattern}
+use Rattle.closed_set.specs.Requests.{requested}
+use Rattle.closed_set.proofs.Requests.{requested_ranged}
+use Rattle.closed_set.proofs.FactorPattern.{factor_pattern}
 use Rattle.chains.specs.ChainOf.{chain_of}
-use Rattle.selection.specs.Selection.{cleared_same}
+use Rattle.selection.proofs.Selection.{cleared_same}
 use Rattle.levels.specs.Levels.{level_word}
 use Rattle.levels.specs.Closing.{AllLevels}
 use Rattle.levels.specs.Back.{levels_chain, levels_chain_lem, level_most}

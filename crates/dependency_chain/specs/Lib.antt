@@ -3,4 +3,3 @@ pub mod Reply
 pub mod Chain
 pub mod Laws
 pub mod Answer
-pub mod Worked

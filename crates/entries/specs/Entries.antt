@@ -4,7 +4,8 @@ use Rattle.std.specs.Prelude.{ℕ, ◌+◌, ◌≡◌, Bool, List, length, Float
 use Rattle.lists.specs.Select.{tally}
 use Rattle.lists.specs.Tabulate.{tabulate, tabulate-length}
 use Rattle.lists.specs.Cells.{cells, cell_count}
-use Rattle.pairs.specs.ColumnOrder.{by_column, column_first, column_end, set_size, set_size-length}
+use Rattle.pairs.specs.ColumnOrder.{by_column, column_first, column_end, set_size}
+use Rattle.pairs.proofs.ColumnOrder.{set_size-length}
 use Rattle.columns.specs.Columns.{value}
 use Rattle.columns.specs.Kept.{diag, desc}
 use Rattle.columns.specs.Form.{Form, cholesky, pivoted}
@@ -52,12 +53,3 @@ diagonal_step (pivoted pivots) = pivot_on
 abbrev pub form_table : Form → ℕ → List ℕ → List ℕ → List Float → ℕ → ℕ → Float
 form_table cholesky n starts rows values = float_table n starts rows values
 form_table (pivoted pivots) n starts rows values = pivot_table n starts rows values pivots
-
-pub entry_starts-length : (n : ℕ) (S : ℕ → ℕ → Bool) → length (entry_starts n S) ≡ n + 1
-entry_starts-length n S = tabulate-length (column_count n S) (n + 1)
-
-pub entry_rows_length : (n : ℕ) (S : ℕ → ℕ → Bool) → length (entry_rows n S) ≡ set_size n S
-entry_rows_length n S = set_size-length n S _
-
-pub entry_values-length : {A : Type 0} (n : ℕ) (S : ℕ → ℕ → Bool) (Z : ℕ → ℕ → A) → length (entry_values n S Z) ≡ set_size n S
-entry_values-length n S Z = set_size-length n S _

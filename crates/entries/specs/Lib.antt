@@ -1,5 +1,4 @@
 -- The entries of a selected inverse as lists.
 pub mod Entries
 pub mod Position
-pub mod Descendants
 pub mod WholeTable

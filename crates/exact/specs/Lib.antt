@@ -2,11 +2,9 @@
 pub mod Multiple
 pub mod Exact
 pub mod Factor
-pub mod SelectedInverse
 pub mod ExactCase
 pub mod PivotCase
 pub mod PivotMultiples
 pub mod Checked
 pub mod Exceeds
 pub mod Examples
-pub mod CheckedExamples

@@ -1,6 +1,5 @@
 -- What reads back after a call, and the exact case.
 pub mod ReadBack
-pub mod Columns
 pub mod Recurrence
 pub mod DyadicEntries
 pub mod PivotEntries

@@ -12,7 +12,7 @@ use Rattle.lists.specs.Test.{any_in, any_in-hit, any_in_found, same_truth, and_l
 use Rattle.columns.specs.Columns.{row}
 use Rattle.columns.specs.Kept.{kept}
 use Rattle.columns.specs.Factor.{Column, FirstFrom}
-use Rattle.columns.specs.Diagonal.{first_from_from, first_from_dropped}
+use Rattle.columns.proofs.Diagonal.{first_from_from, first_from_dropped}
 
 -- what passes the test is not 0
 module _ (nz test : ℕ → Bool) (not_zero_lem : (p : ℕ) → test p ≡ true → nz p ≡ true)

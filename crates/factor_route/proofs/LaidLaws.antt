@@ -9,7 +9,8 @@ use lib.ListN.{length, get_or}
 use Rattle.refusal.specs.Bounds.{max_dimension}
 use Rattle.takahashi.specs.Recurrence.{Entry}
 use Rattle.scatter.specs.Scatter.{row_at, RowsMarked, ClosedPattern, Laid}
-use Rattle.scatter.specs.ClosedPattern.{degree_small, cell, cell_is, cell_fits, cell_up, starts_le, next_le}
+use Rattle.scatter.specs.ClosedPattern.{cell}
+use Rattle.scatter.proofs.ClosedPattern.{degree_small, cell_is, cell_fits, cell_up, starts_le, next_le}
 use Rattle.factor_route.specs.Walk.{DescendantsMarked, StandsAt, ColumnWalk, Walk, start_of, end_of}
 
 module _ {T : Type 0} (none : T) (n : ℕ) (desc : ℕ → List (Entry T)) (P : ClosedPattern none n desc) (starts rows : List ℕ) (L : Laid none n desc starts rows) where

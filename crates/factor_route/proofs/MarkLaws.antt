@@ -16,8 +16,8 @@ use Rattle.takahashi.specs.Recurrence.{Entry}
 use Rattle.exact.specs.Multiple.{zero_float}
 use Rattle.columns.specs.Columns.{row, value}
 use Rattle.columns.specs.Kept.{f0, nonzero, entry, kept_below}
-use Rattle.scatter.specs.Scatter.{clear_none}
-use Rattle.scatter.specs.Marks.{marks_none, marks_more, weigh_none, weigh_more, clear_more}
+use Rattle.scatter.proofs.Scatter.{clear_none}
+use Rattle.scatter.proofs.Marks.{marks_none, marks_more, weigh_none, weigh_more, clear_more}
 use Rattle.factor_route.specs.ColumnMarks.{desc_between, is_descendant, EntryMarked, ColumnMarked, Stored}
 
 -- the literal 0.0

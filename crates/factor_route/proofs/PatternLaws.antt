@@ -18,11 +18,14 @@ use Rattle.lists.specs.Cells.{cells, cell_count, cell_count_next, cell_count_mon
 use Rattle.pairs.specs.ColumnOrder.{by_column, column_first, column_end, set_size}
 use Rattle.columns.specs.Kept.{nonzero, desc, pattern}
 use Rattle.columns.specs.Factor.{Factor}
-use Rattle.columns.specs.Form.{pattern_pair, pattern_pair_below}
-use Rattle.columns.specs.Pattern.{desc-pattern, pattern_above, pattern_inside, pattern_rises, kept_pair-pattern, kept_pair_below}
-use Rattle.closed_set.specs.ClosedSet.{Closed, descends_at}
-use Rattle.closed_set.specs.KeptSet.{pattern_pair_column}
-use Rattle.entries.specs.Entries.{column_count, entry_starts, entry_rows, entry_values, entry_starts-length, entry_rows_length}
+use Rattle.columns.specs.Form.{pattern_pair}
+use Rattle.columns.proofs.Form.{pattern_pair_below}
+use Rattle.columns.proofs.Pattern.{desc-pattern, pattern_above, pattern_inside, pattern_rises, kept_pair-pattern, kept_pair_below}
+use Rattle.closed_set.specs.ClosedSet.{Closed}
+use Rattle.closed_set.proofs.ClosedSet.{descends_at}
+use Rattle.closed_set.proofs.KeptSet.{pattern_pair_column}
+use Rattle.entries.specs.Entries.{column_count, entry_starts, entry_rows, entry_values}
+use Rattle.entries.proofs.Entries.{entry_starts-length, entry_rows_length}
 use Rattle.takahashi.specs.Recurrence.{Entry}
 use Rattle.scatter.specs.Scatter.{blank, row_at, ClosedPattern, Laid, column_values, columns_values}
 

@@ -14,15 +14,15 @@ use Rattle.takahashi.specs.Recurrence.{Entry, table}
 use Rattle.columns.specs.Columns.{start}
 use Rattle.columns.specs.Kept.{nonzero, desc}
 use Rattle.columns.specs.Form.{Form, divisor, pattern_pair}
-use Rattle.columns.specs.Factor.{factor_column, starts_end}
+use Rattle.columns.proofs.Factor.{factor_column, starts_end}
 use Rattle.entries.specs.Entries.{entry_values, form_table}
 use Rattle.exact.specs.Exact.{floats}
 use Rattle.exact.specs.Multiple.{zero_float}
 use Rattle.scatter.specs.Scatter.{weigh, clear, unmarks, Between, stepped, ClosedPattern, Laid, Known, Filled, column_values}
-use Rattle.scatter.specs.Marks.{weigh_long, marks_marked, unmarks-empties}
-use Rattle.scatter.specs.ClosedPattern.{degree, degree_small, width, next_le}
-use Rattle.scatter.specs.Column.{sums_cleared, column_right}
-use Rattle.scatter.specs.Values.{columns_none, columns_next, filled_end}
+use Rattle.scatter.proofs.Marks.{weigh_long, marks_marked, unmarks-empties}
+use Rattle.scatter.proofs.ClosedPattern.{degree, degree_small, width, next_le}
+use Rattle.scatter.proofs.Column.{sums_cleared, column_right}
+use Rattle.scatter.proofs.Values.{columns_none, columns_next, filled_end}
 use Rattle.factor_route.specs.ColumnMarks.{desc_between, ColumnMarked, Stored}
 use Rattle.factor_route.specs.Walk.{DescendantsMarked, Walk, ValuesEnough, ColumnsAre, Scattered}
 use Rattle.factor_route.proofs.PatternLaws.{kept_pattern, kept_values, kept_laid, kept_size}

@@ -10,7 +10,8 @@ use lib.ListN.{get_or, set}
 use lib.Ieee.{Float, nan}
 use Rattle.exact.specs.Exact.{floats}
 use Rattle.scatter.specs.Scatter.{terms_at, Between}
-use Rattle.scatter.specs.Sums.{Walking, terms_next, walking_enter, walking_met, walking_back, walking_leave, at_below, at_above}
+use Rattle.scatter.specs.Sums.{Walking}
+use Rattle.scatter.proofs.Sums.{terms_next, walking_enter, walking_met, walking_back, walking_leave, at_below, at_above}
 use Rattle.factor_route.specs.Walk.{DescendantsMarked, MarkAt, MarkAhead, StandsAt, ColumnWalk, PairWalk, ColumnIs, PairIs, Scattered}
 
 -- ---- the next mark

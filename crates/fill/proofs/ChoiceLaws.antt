@@ -8,13 +8,15 @@ use mathlib.Core.List.{List}
 use lib.ListN.{take}
 use lib.Ieee.{Float}
 use Rattle.lists.specs.Overwrite.{overwrite}
-use Rattle.pairs.specs.ColumnOrder.{column_marking, set_size_cong}
+use Rattle.pairs.specs.ColumnOrder.{column_marking}
+use Rattle.pairs.proofs.ColumnOrder.{set_size_cong}
 use Rattle.columns.specs.Kept.{nonzero, pattern}
-use Rattle.columns.specs.Form.{Form, pattern_pair, kept_pairs-pattern}
+use Rattle.columns.specs.Form.{Form, pattern_pair}
+use Rattle.columns.proofs.Form.{kept_pairs-pattern}
 use Rattle.closed_set.specs.ClosedSet.{Closed, Pattern}
-use Rattle.closed_set.specs.FactorPattern.{factor_pattern}
+use Rattle.closed_set.proofs.FactorPattern.{factor_pattern}
 use Rattle.entries.specs.Entries.{entry_values, form_table}
-use Rattle.entries.specs.Position.{entry_starts_cong, entry_rows_cong, entry_values_cong}
+use Rattle.entries.proofs.Position.{entry_starts_cong, entry_rows_cong, entry_values_cong}
 use Rattle.factor_route.specs.Route.{RouteInput}
 use Rattle.fill.specs.Agree.{same_pairs}
 use Rattle.fill.proofs.AgreeLaws.{same_pairs-agree}

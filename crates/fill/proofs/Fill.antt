@@ -11,31 +11,38 @@ use borrow.Author.Tests.{leb-true}
 use Rattle.columns.specs.Columns.{factor_lists}
 use Rattle.lists.specs.Overwrite.{overwrite, overwrite_front, cleared}
 use Rattle.refusal.specs.Bounds.{max_dimension}
-use Rattle.pairs.specs.Pair.{pair_total, pair_total_small}
-use Rattle.pairs.specs.Scratch.{queue_start, scratch_words_queue, scratch_words_room}
-use Rattle.pairs.specs.ColumnOrder.{column_marking, set_size, set_size_cong}
+use Rattle.pairs.specs.Pair.{pair_total}
+use Rattle.pairs.proofs.Pair.{pair_total_small}
+use Rattle.pairs.specs.Scratch.{queue_start}
+use Rattle.pairs.proofs.Scratch.{scratch_words_queue, scratch_words_room}
+use Rattle.pairs.specs.ColumnOrder.{column_marking, set_size}
+use Rattle.pairs.proofs.ColumnOrder.{set_size_cong}
 use Rattle.columns.specs.Kept.{nonzero, pattern}
 use Rattle.columns.specs.Factor.{Factor}
 use Rattle.columns.specs.Form.{Form, cholesky, pivoted, kept_pairs}
-use Rattle.closed_set.specs.KeptSet.{factor_pairs_most, pattern_pairs_most}
+use Rattle.closed_set.proofs.KeptSet.{factor_pairs_most, pattern_pairs_most}
 use Rattle.closed_set.specs.ClosedSet.{Pattern}
-use Rattle.closed_set.specs.Size.{closure_size_most}
-use Rattle.entries.specs.Entries.{entry_starts, entry_rows, entry_values, entry_starts-length, entry_rows_length}
-use Rattle.entries.specs.Position.{Positioned, position_cong, entry_starts_cong, entry_rows_cong, entry_values_cong}
+use Rattle.closed_set.proofs.Size.{closure_size_most}
+use Rattle.entries.specs.Entries.{entry_starts, entry_rows, entry_values}
+use Rattle.entries.proofs.Entries.{entry_starts-length, entry_rows_length}
+use Rattle.entries.specs.Position.{Positioned}
+use Rattle.entries.proofs.Position.{position_cong, entry_starts_cong, entry_rows_cong, entry_values_cong}
 use Rattle.diagnostics.specs.declared.SelectedInverseDiagnostics.{SelectedInverseDiagnostics}
 use Rattle.diagnostics.specs.declared.SelectedInverseStatus.TheVariants.{Complete, ClosureTooLarge}
 use Rattle.marked_pairs.specs.MarkedPairs.{ColumnsReached}
 use Rattle.closure.specs.Closure.{Closing}
-use Rattle.closed_set.specs.FactorPattern.{factor_pattern}
+use Rattle.closed_set.proofs.FactorPattern.{factor_pattern}
 use Rattle.layout.specs.Layout.{LayOutInput, LaidOut}
-use Rattle.closure_route.specs.Route.{route_lists, ClosureRouteInput, laid_same, laid_route}
-use Rattle.closure_route.specs.Members.{marked_size, marked_closed}
+use Rattle.closure_route.specs.Route.{route_lists, ClosureRouteInput}
+use Rattle.closure_route.proofs.Route.{laid_same, laid_route}
+use Rattle.closure_route.proofs.Members.{marked_size, marked_closed}
 use Rattle.fill.specs.Routes.{RoutesInput}
 use Rattle.diagnostics.specs.Diagnosis.{max_count}
 use Rattle.selection.specs.Diagnosis.{diagnosis_of}
 use Rattle.selection.specs.Selection.{Selection, selecting, Lent, room_of, Accepted, scratch_words, selected_set, selected_size, selected_complete, selected_answer, selected_table, lists, filling_of, selected_pattern}
-use Rattle.selection.specs.Selection.{ResultLists, lists_passed, cleared_same, nothing-refused}
-use Rattle.selection.specs.Status.{status_tells, factor_pairs_are, closure_pairs_are}
+use Rattle.selection.specs.Selection.{ResultLists}
+use Rattle.selection.proofs.Selection.{lists_passed, cleared_same, nothing-refused}
+use Rattle.selection.proofs.Status.{status_tells, factor_pairs_are, closure_pairs_are}
 
 module _ (x : Selection) where
   abbrev pat : ℕ → List ℕ

@@ -11,12 +11,14 @@ use lib.ListN.{length}
 use lib.Ieee.{Float, ne, eq}
 use borrow.Author.Tests.{leb-true, eqb-true, eq-eqb, le-leb, lt-leb, not-false}
 use Rattle.lists.specs.Test.{any, any_in, any_below, any_in_below, any_in_found, any_in-hit, and_left, and_right, and_both, not_so, or_cases, or_neither_left, or_neither_right}
-use Rattle.pairs.specs.ColumnOrder.{column_marking, set_size, set_size_cong}
+use Rattle.pairs.specs.ColumnOrder.{column_marking, set_size}
+use Rattle.pairs.proofs.ColumnOrder.{set_size_cong}
 use Rattle.columns.specs.Columns.{start, row}
 use Rattle.columns.specs.Kept.{f0, nonzero, kept, kept_row, kept_pair}
-use Rattle.columns.specs.Form.{pattern_pair, pattern_pair_diagonal}
-use Rattle.columns.specs.Factor.{factor_column, starts_end}
-use Rattle.closed_set.specs.KeptSet.{pattern_pairs_size}
+use Rattle.columns.specs.Form.{pattern_pair}
+use Rattle.columns.proofs.Form.{pattern_pair_diagonal}
+use Rattle.columns.proofs.Factor.{factor_column, starts_end}
+use Rattle.closed_set.proofs.KeptSet.{pattern_pairs_size}
 use Rattle.fill.specs.Agree.{same_pairs}
 use Rattle.fill.proofs.AgreeLaws.{same_pairs-agree, same_pairs_all, same_pairs_missing, set_size_same}
 use Rattle.fill.specs.KeptPattern.{ChoiceInput, unmarked_entry, unmarked_at, unmarked_between, ChoiceColumnInput}

@@ -6,14 +6,15 @@ use Rattle.lists.specs.Overwrite.{cleared}
 use Rattle.diagnostics.specs.declared.SelectedInverseDiagnostics.{SelectedInverseDiagnostics}
 use Rattle.refusal.specs.Steps.{Step, Passed}
 use Rattle.pairs.specs.Pair.{pair_total}
-use Rattle.pairs.specs.Scratch.{queue_start, scratch_words_queue}
+use Rattle.pairs.specs.Scratch.{queue_start}
+use Rattle.pairs.proofs.Scratch.{scratch_words_queue}
 use Rattle.marked_pairs.specs.MarkedPairs.{Marked, MarkedPairs}
 use Rattle.closure.specs.Closure.{Requested, marked_set, marked_requested}
 use Rattle.columns.specs.Columns.{FactorLists}
 use Rattle.columns.specs.Form.{Form}
 use Rattle.entries.specs.Position.{Positioned}
 use Rattle.selection.specs.Selection.{selecting, lists, Lent, room_of, scratch_words, Accepted, selected_set, selected_complete, selected_answer, ResultLists, filling_of}
-use Rattle.selection.specs.Selection.{lists_passed, passed_starts, passed_rows, passed_values, passed_scratch, nothing-refused, cleared_same}
+use Rattle.selection.proofs.Selection.{lists_passed, passed_starts, passed_rows, passed_values, passed_scratch, nothing-refused, cleared_same}
 
 -- a call past its checks, with the requested pairs marked in the scratch
 pub record FillInput (form : Form) (factor : FactorLists Float) (requested limit : ℕ) (lent : Lent) : Type 0 where

@@ -6,7 +6,8 @@ use Rattle.std.proofs.lemmas.Bool.{not-false}
 use Rattle.std.specs.Float.Ieee.Scale.{finite}
 use Rattle.lists.specs.Test.{any_below, any_all}
 use Rattle.refusal.specs.Bounds.{max_entries}
-use Rattle.refusal.specs.Steps.{Passed, passed_clear, clear_passed}
+use Rattle.refusal.specs.Steps.{Passed}
+use Rattle.refusal.proofs.Steps.{passed_clear, clear_passed}
 use Rattle.columns.specs.Columns.{value}
 use Rattle.columns.specs.Kept.{not_finite}
 use Rattle.floor.specs.declared.variance_floor.VarianceFloor.{VarianceFloor}

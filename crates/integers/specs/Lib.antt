@@ -4,6 +4,5 @@ pub mod Sum
 pub mod Matrix
 pub mod Inverse
 pub mod PivotInverse
-pub mod Order
 pub mod MinMax
 pub mod Size

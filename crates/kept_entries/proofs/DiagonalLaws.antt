@@ -11,7 +11,7 @@ use Rattle.lists.specs.Test.{any_in, any_in_all, any_in-hit}
 use Rattle.columns.specs.Columns.{row}
 use Rattle.columns.specs.Kept.{kept_diagonal}
 use Rattle.columns.specs.Factor.{Column, FirstFrom}
-use Rattle.columns.specs.Diagonal.{first_from_only}
+use Rattle.columns.proofs.Diagonal.{first_from_only}
 use Rattle.columns.specs.WholeFactor.{whole_value, whole_nonzero, whole_one}
 use Rattle.columns.specs.UnitDiagonals.{other_than_one}
 use Rattle.kept_entries.specs.DiagonalIs.{DiagonalIs}

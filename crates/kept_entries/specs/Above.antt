@@ -5,7 +5,8 @@ use Rattle.std.proofs.Common.{arith, add-one, sym, ap, subst, ◌∙◌, ltb-fal
 use Rattle.lists.specs.Test.{any, any_in, any_below, any_in_below}
 use Rattle.lists.specs.Select.{tally, select_cong, tally_join, tally_none}
 use Rattle.columns.specs.Columns.{start, row}
-use Rattle.columns.specs.Kept.{kept, kept_count, factor_pairs, factor_pairs_none, factor_pairs_next}
+use Rattle.columns.specs.Kept.{kept, kept_count, factor_pairs}
+use Rattle.columns.proofs.Kept.{factor_pairs_none, factor_pairs_next}
 use Rattle.columns.specs.Factor.{Starts}
 
 -- the entry at p is above the diagonal of column c

@@ -10,7 +10,8 @@ use Rattle.lists.specs.Select.{select_cong}
 use Rattle.lists.specs.Sum.{sum_to_eq}
 use Rattle.columns.specs.Columns.{start, row}
 use Rattle.columns.specs.Kept.{nonzero, kept, kept_below, kept_count, pattern, factor_pairs}
-use Rattle.columns.specs.Factor.{Factor, starts_end}
+use Rattle.columns.specs.Factor.{Factor}
+use Rattle.columns.proofs.Factor.{starts_end}
 use Rattle.columns.specs.WholeFactor.{whole_nonzero}
 
 -- the value at p is not 0: by the floats where no whole number is lent, else by these

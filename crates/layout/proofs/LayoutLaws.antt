@@ -18,18 +18,23 @@ use Rattle.lists.specs.Overwrite.{filled, filled_none, filled_more, filled_at}
 use Rattle.lists.specs.Cells.{cells, cells_none, cells_next, cells-length}
 use Rattle.bits.specs.Bits.{bit_at, bit_words}
 use Rattle.refusal.specs.Bounds.{max_dimension}
-use Rattle.pairs.specs.Pair.{pair_total, max_pairs, pair_total_small}
-use Rattle.pairs.specs.Scratch.{queue_start, queue_start_words}
-use Rattle.pairs.specs.ColumnOrder.{col_start, col_start_next, col_start_mono, col_start_total, col_start_least, column_place, column_place_column, column_place_below}
-use Rattle.pairs.specs.ColumnOrder.{column_marking, by_column, column_first, column_end, set_size, set_size_most}
+use Rattle.pairs.specs.Pair.{pair_total, max_pairs}
+use Rattle.pairs.proofs.Pair.{pair_total_small}
+use Rattle.pairs.specs.Scratch.{queue_start}
+use Rattle.pairs.proofs.Scratch.{queue_start_words}
+use Rattle.pairs.specs.ColumnOrder.{col_start, column_place}
+use Rattle.pairs.proofs.ColumnOrder.{col_start_next, col_start_mono, col_start_total, col_start_least, column_place_column, column_place_below}
+use Rattle.pairs.specs.ColumnOrder.{column_marking, by_column, column_first, column_end, set_size}
+use Rattle.pairs.proofs.ColumnOrder.{set_size_most}
 use Rattle.marked_pairs.specs.MarkedPairs.{ColumnsReached}
 use Rattle.set_bits.specs.Listed.{NumbersListed}
 use Rattle.set_bits.specs.BitsListed.{bits_test, ListBitsInput}
 use Rattle.set_bits.specs.Counted.{max_bits}
 use Rattle.layout.specs.ColumnRows.{column_test, ListColumnInput, ColumnListed}
 use Rattle.entries.specs.Entries.{column_count, position}
-use Rattle.entries.specs.Position.{column_count_none, column_count_next, column_count_mono, tally-strict, select-tally}
-use Rattle.layout.specs.Layout.{LayPositionsInput, PositionsLaid, LayColumnInput, ColumnPlaced, ColumnLaid, ReachedColumn, LayOutInput, LaidOut, LayFirstsInput, FirstsLaid, marks_same}
+use Rattle.entries.proofs.Position.{column_count_none, column_count_next, column_count_mono, tally-strict, select-tally}
+use Rattle.layout.specs.Layout.{LayPositionsInput, PositionsLaid, LayColumnInput, ColumnPlaced, ColumnLaid, ReachedColumn, LayOutInput, LaidOut, LayFirstsInput, FirstsLaid}
+use Rattle.layout.proofs.Layout.{marks_same}
 
 pub positions_none : (base shift first : ℕ) (rows s : List ℕ) → PositionsLaid base shift first first rows s s
 positions_none base shift first rows s = record { long = refl; placed = λ q h l. absurd (omega arith); others = λ w d. refl }

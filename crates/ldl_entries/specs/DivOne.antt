@@ -5,9 +5,11 @@ use Rattle.std.proofs.Common.{mul-one, one-mul, zero-mul, mul_assoc, mul_comm, m
 use Rattle.std.proofs.Math.Nat.{pow-succ', eq_of_mul-eq-mul_right}
 use Rattle.std.proofs.Math.Decide.{dec_le}
 use Rattle.std.specs.Prelude.{◌≡◌, refl, Bool, true, false, cond, ◌&&◌, List, [], ◌∷◌, T, eqb, ℤ, pos, negsuc, neg_ℤ, nat_abs, Float}
-use Rattle.integers.specs.Integer.{signed, *ℤ-idr}
+use Rattle.integers.specs.Integer.{signed}
+use Rattle.integers.proofs.Integer.{*ℤ-idr}
 use Rattle.takahashi.specs.Recurrence.{Entry, run, dot}
-use Rattle.exact.specs.Multiple.{Whole, zero_float, one_float, multiple_mul}
+use Rattle.exact.specs.Multiple.{Whole, zero_float, one_float}
+use Rattle.exact.proofs.Multiple.{multiple_mul}
 use Rattle.exact.specs.Exact.{floats, float_off, float_on}
 use Rattle.exact.specs.PivotCase.{pivot_off, pivot_on}
 use Rattle.std.proofs.Math.Dec.{ltb, leb, ltb→lt}

@@ -5,12 +5,13 @@ use Rattle.std.proofs.Common.{lt_of_le_of_lt, sym, ap, ◌∙◌}
 use Rattle.columns.specs.Columns.{value}
 use Rattle.columns.specs.Kept.{diag, desc}
 use Rattle.columns.specs.Factor.{Factor}
-use Rattle.takahashi.specs.Recurrence.{Entry, Lower, Solves, dot, at, lower_closed, solves_unique}
+use Rattle.takahashi.specs.Recurrence.{Entry, Lower, Solves, dot, at}
+use Rattle.takahashi.proofs.Recurrence.{lower_closed, solves_unique}
 use Rattle.exact.specs.Multiple.{Whole}
 use Rattle.exact.specs.Exact.{floats}
 use Rattle.exact.specs.PivotCase.{pivot_off, pivot_on}
 use Rattle.entries.specs.Entries.{float_table, pivot_table}
-use Rattle.entries.specs.Descendants.{desc_rows, float_solves, pivot_solves}
+use Rattle.entries.proofs.Descendants.{desc_rows, float_solves, pivot_solves}
 use Rattle.ldl_entries.specs.DivOne.{dot_fits, off_same, on_same}
 
 -- every pivot is 1; the other factor has the same descendants, with their values, and ones on its diagonal

@@ -3,8 +3,9 @@
 -- Assumes nothing.
 use Rattle.std.specs.Prelude.{ℕ, ◌^◌, ◌≡◌, List, ℤ, pos}
 use Rattle.std.proofs.Common.{sym, ◌∙◌}
-use Rattle.refusal.specs.Steps.{Step, answered, Passed, first_passed}
-use Rattle.refusal.specs.Told.{told_passed, told_answer}
+use Rattle.refusal.specs.Steps.{Step, answered, Passed}
+use Rattle.refusal.proofs.Steps.{first_passed}
+use Rattle.refusal.proofs.Told.{told_passed, told_answer}
 use Rattle.diagnostics.specs.declared.SelectedInverseDiagnostics.{SelectedInverseDiagnostics}
 use Rattle.diagnostics.specs.declared.Selected.{Selected}
 use Rattle.diagnostics.specs.Selected.{selected_reply_of}
@@ -15,11 +16,15 @@ use Rattle.takahashi.specs.Entries.{Entry}
 use Rattle.exact.specs.Factor.{factor}
 use Rattle.exact.specs.ExactCase.{ones}
 use Rattle.selection.specs.Selection.{Lent, room_of, selected_answer, selected_table}
-use Rattle.selection.specs.LdlCall.{LdlCall, ldl_selection, ldl_steps, ldl_accepted}
-use Rattle.exact_entries.specs.Recurrence.{ReadsRecurrence, reads_recurrence}
-use Rattle.exact_entries.specs.ExactEntries.{ExactCall, ReadsBack, exact_entries}
+use Rattle.selection.specs.LdlCall.{LdlCall, ldl_selection, ldl_steps}
+use Rattle.selection.proofs.LdlCall.{ldl_accepted}
+use Rattle.exact_entries.specs.Recurrence.{ReadsRecurrence}
+use Rattle.exact_entries.proofs.Recurrence.{reads_recurrence}
+use Rattle.exact_entries.specs.ExactEntries.{ExactCall, ReadsBack}
+use Rattle.exact_entries.proofs.ExactEntries.{exact_entries}
 use Rattle.exact_entries.specs.DyadicEntries.{ReadsMultiples}
-use Rattle.exact_entries.specs.PivotEntries.{DyadicPivots, pivots_entries}
+use Rattle.exact_entries.specs.PivotEntries.{DyadicPivots}
+use Rattle.exact_entries.proofs.PivotEntries.{pivots_entries}
 use Rattle.ldl_entries.specs.LdlEntries.{LdlEntries}
 
 module _ (x : LdlCall) (lent : Lent) {reply : Selected} {left : Lent} (C : LdlEntries x lent reply left) where

@@ -8,9 +8,12 @@ use Rattle.columns.specs.Form.{cholesky, pivoted}
 use Rattle.closed_set.specs.Requests.{requested}
 use Rattle.diagnostics.specs.declared.Selected.{Selected}
 use Rattle.selection.specs.Selection.{Lent, room_of, ResultLists, filling_of}
-use Rattle.selection.specs.Call.{Call, call, selection_of, selected_steps, accepted}
-use Rattle.selection.specs.LdlCall.{LdlCall, ldl_call, ldl_steps, ldl_accepted}
-use Rattle.selection.specs.SamePositions.{SameLists, same_lists}
+use Rattle.selection.specs.Call.{Call, call, selection_of, selected_steps}
+use Rattle.selection.proofs.Call.{accepted}
+use Rattle.selection.specs.LdlCall.{LdlCall, ldl_call, ldl_steps}
+use Rattle.selection.proofs.LdlCall.{ldl_accepted}
+use Rattle.selection.specs.SamePositions.{SameLists}
+use Rattle.selection.proofs.SamePositions.{same_lists}
 use Rattle.ldl_entries.specs.LdlEntries.{LdlEntries}
 
 module _ (n dimension limit : ℕ) (request_rows request_columns starts rows : List ℕ) (values pivots : List Float) (starts' rows' : List ℕ) (values' : List Float)

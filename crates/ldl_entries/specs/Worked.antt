@@ -10,7 +10,8 @@ use Rattle.lists.specs.Sum.{sum_to}
 use Rattle.lists.specs.Cells.{cells, cell_count}
 use Rattle.lists.specs.Tabulate.{tabulate}
 use Rattle.lists.specs.Overwrite.{overwrite, filled}
-use Rattle.refusal.specs.Steps.{Passed, answered, first, first_passed}
+use Rattle.refusal.specs.Steps.{Passed, answered, first}
+use Rattle.refusal.proofs.Steps.{first_passed}
 use Rattle.bits.specs.Bits.{bit_words}
 use Rattle.pairs.specs.Pair.{pair_total}
 use Rattle.pairs.specs.Scratch.{scratch_words}
@@ -22,7 +23,8 @@ use Rattle.columns.specs.Pivots.{float_one, pivot_list_steps, pivot_steps}
 use Rattle.columns.specs.UnitDiagonals.{unit_steps}
 use Rattle.columns.specs.Examples.{whole, f2_starts, f2_rows, f2_values}
 use Rattle.exact.specs.Multiple.{Whole}
-use Rattle.exact.specs.Examples.{columns₂, f2_entries, f2_matrix, f2-inverse}
+use Rattle.exact.specs.Examples.{f2_entries, f2_matrix}
+use Rattle.exact.proofs.Examples.{columns₂, f2-inverse}
 use Rattle.closed_set.specs.ClosedSet.{reach, member}
 use Rattle.closed_set.specs.Requests.{requested}
 use Rattle.entries.specs.Entries.{float_table, pivot_table}
@@ -34,13 +36,17 @@ use Rattle.diagnostics.specs.declared.Selected.TheVariants.{Answered}
 use Rattle.diagnostics.specs.Selected.{selected_reply_of}
 use Rattle.selection.specs.Diagnosis.{diagnosis_of}
 use Rattle.selection.specs.RequestSteps.{request_steps}
-use Rattle.selection.specs.Selection.{Lent, lists, ResultLists, room_of, room_steps, selected_answer, selected_table, lists_passed, filling_of}
-use Rattle.selection.specs.LdlCall.{LdlCall, ldl_call, ldl_selection, ldl_steps, ldl_units, ldl_accepted}
+use Rattle.selection.specs.Selection.{Lent, lists, ResultLists, room_of, room_steps, selected_answer, selected_table, filling_of}
+use Rattle.selection.proofs.Selection.{lists_passed}
+use Rattle.selection.specs.LdlCall.{LdlCall, ldl_call, ldl_selection, ldl_steps}
+use Rattle.selection.proofs.LdlCall.{ldl_units, ldl_accepted}
 use Rattle.exact_entries.specs.Recurrence.{ReadsRecurrence}
 use Rattle.exact_entries.specs.ExactEntries.{ExactCall}
-use Rattle.exact_entries.specs.Worked.{f2_diagonals, f2_exact, f2_lent, f2_lists, F2Left, f2_found, F2ReadsBack, f2_passed, f2_left, f2_below, f2_cleared}
+use Rattle.exact_entries.specs.Worked.{f2_lent, f2_lists, F2Left, f2_found, F2ReadsBack, f2_cleared}
+use Rattle.exact_entries.proofs.Worked.{f2_diagonals, f2_exact, f2_passed, f2_left, f2_below}
 use Rattle.exact_entries.specs.DyadicEntries.{ReadsMultiples}
-use Rattle.exact_entries.specs.PivotWorked.{two-four, quarters_pivots, quarters_entries, quarters-z, quarters_dyadic, quarters_matrix, quarters-inverse}
+use Rattle.exact_entries.specs.PivotWorked.{two-four, quarters_pivots, quarters_entries, quarters-z, quarters_matrix}
+use Rattle.exact_entries.proofs.PivotWorked.{quarters_dyadic, quarters-inverse}
 use Rattle.ldl_entries.specs.LdlEntries.{LdlEntries}
 use Rattle.ldl_entries.specs.LdlReply.{ldl_passed, ldl_answers, ldl_answer, ldl_recurrence, ldl_exact, ldl_dyadic}
 use Rattle.ldl_entries.specs.LdlSame.{pivots_same, families_same}

@@ -10,10 +10,11 @@ use borrow.Author.Tests.{leb-false}
 use Rattle.lists.specs.Test.{any, any_below, any_in_below, same_truth, not_so, or_left, or_right}
 use Rattle.columns.specs.Columns.{start, row, outside_at}
 use Rattle.columns.specs.Kept.{kept_below, pattern}
-use Rattle.columns.specs.Factor.{Factor, FirstFrom, factor_column}
+use Rattle.columns.specs.Factor.{Factor, FirstFrom}
+use Rattle.columns.proofs.Factor.{factor_column}
 use Rattle.closed_set.specs.ClosedSet.{descends}
-use Rattle.closed_set.specs.FactorPattern.{entry_descends, descends_entry}
-use Rattle.chains.specs.Least.{least_most, least_is, least_none}
+use Rattle.closed_set.proofs.FactorPattern.{entry_descends, descends_entry}
+use Rattle.chains.proofs.Least.{least_most, least_is, least_none}
 use Rattle.levels.specs.Back.{above_at, beside_at, back_column, back_row}
 
 module _ {n : ℕ} {starts rows : List ℕ} {values : ℕ} (nz : ℕ → Bool) (F : Factor n starts rows values) (j d p : ℕ) (h : j < n)

@@ -18,7 +18,8 @@ use Rattle.lists.specs.Overwrite.{cleared, filled_at, filled-length, filled_late
 use Rattle.refusal.specs.Bounds.{max_dimension}
 use Rattle.pairs.specs.Pair.{pair_total, ordered}
 use Rattle.pairs.specs.Scratch.{packed, row_of, column_of}
-use Rattle.pairs.specs.ColumnOrder.{column_place, column_place_below, column_place_same, set_size, set_size_sum, set_size_cong, set_size_most}
+use Rattle.pairs.specs.ColumnOrder.{column_place, set_size}
+use Rattle.pairs.proofs.ColumnOrder.{column_place_below, column_place_same, set_size_sum, set_size_cong, set_size_most}
 use Rattle.levels.specs.Levels.{level_word, levelled, level_queue, raised, QueuedLevel, Levelled, Raised, raised_stays, raised_in, raised_other}
 
 module _ (n r c level : ℕ) (h : c ≤ r) (l : r < n) where

@@ -8,13 +8,17 @@ use Rattle.std.proofs.Math.Bool.{true, false, cond, ◌||◌}
 use mathlib.Core.List.{List, [], ◌∷◌, ◌++◌, append_assoc}
 use Rattle.std.proofs.Math.Decide.{dec_lt}
 use Rattle.lists.specs.Test.{same_truth, and_left, and_right, and_both, not_so}
-use Rattle.closed_set.specs.ClosedSet.{descends, reach, member, Needed, Pattern, Ranged, reach_needed, needed_range, needed_member, member_needed}
-use Rattle.chains.specs.Least.{least, least_most, least_cong}
-use Rattle.chains.specs.Distance.{distance, distance_most, reach-distance, distance-step, distance-reach}
+use Rattle.closed_set.specs.ClosedSet.{descends, reach, member, Needed, Pattern, Ranged}
+use Rattle.closed_set.proofs.ClosedSet.{reach_needed, needed_range, needed_member, member_needed}
+use Rattle.chains.specs.Least.{least}
+use Rattle.chains.proofs.Least.{least_most, least_cong}
+use Rattle.chains.specs.Distance.{distance}
+use Rattle.chains.proofs.Distance.{distance_most, reach-distance, distance-step, distance-reach}
 use Rattle.chains.specs.Levels.{level_at}
 use Rattle.chains.specs.Before.{above, beside, before_column, before_row}
-use Rattle.chains.specs.Chain.{length-snoc}
-use Rattle.chains.specs.ChainOf.{chain_back, chain_of, chain_of_none, chain_of_member, before_prior}
+use Rattle.chains.proofs.Chain.{length-snoc}
+use Rattle.chains.specs.ChainOf.{chain_back, chain_of}
+use Rattle.chains.proofs.ChainOf.{chain_of_none, chain_of_member, before_prior}
 
 module _ (desc : ℕ → List ℕ) (W : ℕ → ℕ → ℕ) where
   -- (c, j) has the level and (r, c) is a dependency of it; and so for (r, j)

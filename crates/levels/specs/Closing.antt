@@ -10,16 +10,21 @@ use Rattle.std.proofs.Math.Bool.{true, false, cond}
 use Rattle.std.proofs.lemmas.Bool.{false≢true}
 use Rattle.lists.specs.Test.{any, any_in, any-hit, any_found, any_in-hit, any_in_found, same_truth, and_left, and_right, and_both, not_so}
 use Rattle.refusal.specs.Bounds.{max_dimension}
-use Rattle.pairs.specs.Pair.{pair_total, ordered, ordered_is, is_ordered}
-use Rattle.pairs.specs.Scratch.{row_of, column_of, packed, row_packed, column_packed}
+use Rattle.pairs.specs.Pair.{pair_total, ordered}
+use Rattle.pairs.proofs.Pair.{ordered_is, is_ordered}
+use Rattle.pairs.specs.Scratch.{row_of, column_of, packed}
+use Rattle.pairs.proofs.Scratch.{row_packed, column_packed}
 use Rattle.columns.specs.Columns.{start, row}
 use Rattle.columns.specs.Kept.{kept_below, pattern}
 use Rattle.columns.specs.Factor.{Factor}
-use Rattle.closed_set.specs.ClosedSet.{descends_at, descends_found, reach, member, Pattern, Ranged, Needed, Leads, needed_range}
-use Rattle.closed_set.specs.FactorPattern.{entry_descends, descends_entry}
+use Rattle.closed_set.specs.ClosedSet.{reach, member, Pattern, Ranged, Needed, Leads}
+use Rattle.closed_set.proofs.ClosedSet.{descends_at, descends_found, needed_range}
+use Rattle.closed_set.proofs.FactorPattern.{entry_descends, descends_entry}
 use Rattle.closed_set.specs.Requests.{Requests}
-use Rattle.chains.specs.Distance.{distance, reach-distance, distance-request}
-use Rattle.chains.specs.Levels.{level_at, After, reach_level, level_last, level_at_own, level_at_stays, level_at_new}
+use Rattle.chains.specs.Distance.{distance}
+use Rattle.chains.proofs.Distance.{reach-distance, distance-request}
+use Rattle.chains.specs.Levels.{level_at, After}
+use Rattle.chains.proofs.Levels.{reach_level, level_last, level_at_own, level_at_stays, level_at_new}
 use Rattle.levels.specs.Levels.{level_word, level_queue, Levelled, raised, Raised, raised_stays, raised_in, raised_out}
 
 -- (x, y) is a dependency of (a, b)

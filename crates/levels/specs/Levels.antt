@@ -7,7 +7,8 @@ use Rattle.lists.specs.Test.{any, any_in, any_next, any_in_next}
 use Rattle.refusal.specs.Bounds.{max_dimension}
 use Rattle.pairs.specs.Pair.{pair_total, ordered}
 use Rattle.pairs.specs.Scratch.{packed, row_of, column_of}
-use Rattle.pairs.specs.ColumnOrder.{column_place, set_size, set_size_most}
+use Rattle.pairs.specs.ColumnOrder.{column_place, set_size}
+use Rattle.pairs.proofs.ColumnOrder.{set_size_most}
 
 -- the level of (r, c), 0 for none
 abbrev pub level_word : ℕ → List ℕ → ℕ → ℕ → ℕ

@@ -15,11 +15,15 @@ use borrow.Author.Tests.{eqb-true, eq-eqb, ne_eqb}
 use Rattle.lists.specs.Test.{same_truth, and_left, and_right, and_both, or_cases, or_left, or_right}
 use Rattle.lists.specs.Sum.{bit, sum_to_zero, sum_to_one}
 use Rattle.lists.specs.Overwrite.{cleared, filled_at, filled-length, filled_later}
-use Rattle.bits.specs.Bits.{bit_at, bit_words, with_bit, bit-clear, bit_same, bit_set, word_below}
+use Rattle.bits.specs.Bits.{bit_at, bit_words, with_bit}
+use Rattle.bits.proofs.Bits.{bit-clear, bit_same, bit_set, word_below}
 use Rattle.refusal.specs.Bounds.{max_dimension}
-use Rattle.pairs.specs.Pair.{pair_total, ordered, ordered_turned}
-use Rattle.pairs.specs.Scratch.{queue_start, queue_start_words, queue_start_mark, packed, row_of, column_of}
-use Rattle.pairs.specs.ColumnOrder.{column_place, column_marking, column_place_below, column_place_same, set_size, set_size_sum, set_size_cong, set_size_most}
+use Rattle.pairs.specs.Pair.{pair_total, ordered}
+use Rattle.pairs.proofs.Pair.{ordered_turned}
+use Rattle.pairs.specs.Scratch.{queue_start, packed, row_of, column_of}
+use Rattle.pairs.proofs.Scratch.{queue_start_words, queue_start_mark}
+use Rattle.pairs.specs.ColumnOrder.{column_place, column_marking, set_size}
+use Rattle.pairs.proofs.ColumnOrder.{column_place_below, column_place_same, set_size_sum, set_size_cong, set_size_most}
 use Rattle.marked_pairs.specs.MarkedPairs.{queue_word, Queued, Marked, Gained, MarkedPairs, Inserted, also_cong}
 
 -- ---- one pair

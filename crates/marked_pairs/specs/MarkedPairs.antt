@@ -7,7 +7,8 @@ use Rattle.lists.specs.Test.{any, any_in, any_next, any_in_next}
 use Rattle.refusal.specs.Bounds.{max_dimension}
 use Rattle.pairs.specs.Pair.{pair_total, ordered}
 use Rattle.pairs.specs.Scratch.{queue_start, packed, row_of, column_of}
-use Rattle.pairs.specs.ColumnOrder.{column_marking, set_size, set_size_most}
+use Rattle.pairs.specs.ColumnOrder.{column_marking, set_size}
+use Rattle.pairs.proofs.ColumnOrder.{set_size_most}
 
 -- word j of the queue
 abbrev pub queue_word : ℕ → List ℕ → ℕ → ℕ

@@ -160,39 +160,6 @@ file_rows text = request_rows (file_requests text)
 abbrev pub file_columns : List ℕ → List ℕ
 file_columns text = request_columns (file_requests text)
 
--- ---- laws
--- entries stand for their pairs: as many requests, repeats kept
-pub stand_entries : (n : ℕ) (es : List (List (List ℕ))) → 0 < length es → stand_for n es ≡ map pair_of es
-stand_entries n [] h = absurd (not-suc-le-zero h)
-stand_entries n (e ∷ es) h = refl
-
--- no entries stand for every diagonal pair
-pub stand_diagonals : (n : ℕ) (es : List (List (List ℕ))) → length es ≡ 0 → stand_for n es ≡ every_diagonal n
-stand_diagonals n [] h = refl
-stand_diagonals n (e ∷ es) h = absurd (omega arith)
-
 -- how many requests so many entries stand for
 abbrev pub request_count : ℕ → ℕ → ℕ
 request_count n entries = cond (eqb entries 0) n entries
-
-pub requests_count : (n : ℕ) (es : List (List (List ℕ))) → length (stand_for n es) ≡ request_count n (length es)
-requests_count n [] = tabulate-length diagonal_pair n
-requests_count n (e ∷ es) =
-    length-map (e ∷ es) pair_of ∙ sym (ap (λ (b : Bool). cond b n (length (e ∷ es))) (ne_eqb (length (e ∷ es)) 0 (λ q. omega (arith, q))))
-
-pub requests_most : (n : ℕ) (es : List (List (List ℕ))) (most : ℕ) → n ≤ most → length es ≤ most → length (stand_for n es) ≤ most
-requests_most n [] most h l = omega (arith, tabulate-length diagonal_pair n)
-requests_most n (e ∷ es) most h l = omega (arith, length-map (e ∷ es) pair_of)
-
--- lists of bytes are the same exactly if they are equal
-pub same_bytes_equal : (s t : List ℕ) → same_bytes s t ≡ true → s ≡ t
-unfolding same_bytes
-same_bytes_equal [] [] h = refl
-same_bytes_equal [] (b ∷ t) h = absurd (false≢true h)
-same_bytes_equal (a ∷ s) [] h = absurd (false≢true h)
-same_bytes_equal (a ∷ s) (b ∷ t) h = ap₂ ◌∷◌ (eqb-true a b (and_left (eqb a b) (same_bytes s t) h)) (same_bytes_equal s t (and_right (eqb a b) (same_bytes s t) h))
-
-pub same_bytes_itself : (s : List ℕ) → same_bytes s s ≡ true
-unfolding same_bytes
-same_bytes_itself [] = refl
-same_bytes_itself (a ∷ s) = and_both _ _ (eq-eqb a a refl) (same_bytes_itself s)

@@ -1,6 +1,5 @@
 -- Matrix Market's coordinate files of requests.
 pub mod Text
-pub mod Members
 pub mod File
 pub mod Decimal
 pub mod FileOf

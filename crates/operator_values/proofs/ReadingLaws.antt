@@ -5,7 +5,7 @@ use native.Mathlib.Omega.{arith}
 use mathlib.Core.List.{List}
 use lib.ListN.{length, get_or}
 use Rattle.columns.specs.Columns.{start}
-use Rattle.columns.specs.Factor.{starts_end}
+use Rattle.columns.proofs.Factor.{starts_end}
 use Rattle.columns.specs.Operator.{operator_rows}
 use Rattle.operator_values.specs.Reading.{CrossValueInput, OperatorValuesInput, RowPairValuesInput}
 

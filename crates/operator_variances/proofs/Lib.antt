@@ -1,2 +1,5 @@
 -- What the proofs of several functions share.
 pub mod Reply
+pub mod ExactVariances
+pub mod Transformed
+pub mod Worked

@@ -3,16 +3,20 @@
 use Rattle.std.specs.Prelude.{ℕ, ◌≤◌, not, List, [], ◌∷◌, ◌++◌, eqb, length, Float}
 use Rattle.std.proofs.Common.{ltb-false}
 use Rattle.refusal.specs.Bounds.{output_steps}
-use Rattle.refusal.specs.Steps.{Step, Passed, passed_clear, passed_front}
-use Rattle.refusal.specs.Groups.{grouped, AllPassed, groups_passed}
+use Rattle.refusal.specs.Steps.{Step, Passed}
+use Rattle.refusal.proofs.Steps.{passed_clear, passed_front}
+use Rattle.refusal.specs.Groups.{grouped, AllPassed}
+use Rattle.refusal.proofs.Groups.{groups_passed}
 use Rattle.columns.specs.Columns.{FactorLists, factor_lists, bound_steps}
-use Rattle.columns.specs.Factor.{bound_steps-sound}
+use Rattle.columns.proofs.Factor.{bound_steps-sound}
 use Rattle.columns.specs.Stored.{stored_steps}
-use Rattle.columns.specs.Operator.{operator_rows, operator_bound_steps, operator_steps, OperatorRows, operator_steps-sound}
+use Rattle.columns.specs.Operator.{operator_rows, operator_bound_steps, operator_steps, OperatorRows}
+use Rattle.columns.proofs.Operator.{operator_steps-sound}
 use Rattle.selection.specs.Selection.{Selection, selection, Lent, Room, room_of, default_limit, fill_steps, selected_table, Accepted}
-use Rattle.selection.specs.Call.{fill_accepted}
+use Rattle.selection.proofs.Call.{fill_accepted}
 use Rattle.diagnostics.specs.declared.Selected.{Selected}
-use Rattle.request_marks.specs.OperatorRequests.{operator_requested, operator_requested_ranged}
+use Rattle.request_marks.specs.OperatorRequests.{operator_requested}
+use Rattle.request_marks.proofs.OperatorRequests.{operator_requested_ranged}
 use Rattle.quadratic_form.specs.RowValue.{operator_values}
 use Rattle.operator_values.specs.Output.{SelectedOutput}
 
@@ -74,19 +78,3 @@ pub record AcceptedTransformed (x : TransformedCall) (lengths : Room) (output : 
   pub accepted : Accepted (transformed_selection x) lengths
   pub operator : OperatorRows x.factor.n x.row_starts x.columns (length x.weights)
   pub room : operator_rows x.row_starts ≤ output
-
-module _ (x : TransformedCall) (lengths : Room) (output : ℕ) (p : Passed (transformed_steps x lengths output)) where
-  passed : AllPassed (transformed_groups x lengths output)
-  unfolding transformed_steps
-  passed = groups_passed (transformed_groups x lengths output) p
-
-  pub transformed_accepted : AcceptedTransformed x lengths output
-  transformed_accepted =
-      let bounds = bound_steps x.factor.n (length x.factor.rows) in
-      let B = bound_steps-sound x.factor.n (length x.factor.rows) (passed_front bounds (operator_bound_steps x.row_starts x.columns) passed.0) in
-      let O = operator_steps-sound x.factor.n x.row_starts x.columns (length x.weights) passed.1.1.1.0 in
-      record {
-        accepted = fill_accepted (transformed_selection x) lengths B passed.1.0 (operator_requested_ranged O) passed.1.1.1.1.0;
-        operator = O;
-        room = ltb-false _ _ (passed_clear (output_steps (operator_rows x.row_starts) output) passed.1.1.1.1.1.0).0;
-      }

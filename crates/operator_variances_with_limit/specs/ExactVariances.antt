@@ -7,7 +7,7 @@ use Rattle.std.specs.Float.{nan}
 use Rattle.lists.specs.Tabulate.{tabulate_at, tabulate-length}
 use Rattle.lists.specs.Overwrite.{overwrite_at}
 use Rattle.refusal.specs.Steps.{Step, answered, Passed}
-use Rattle.refusal.specs.Told.{told_passed, told_answer}
+use Rattle.refusal.proofs.Told.{told_passed, told_answer}
 use Rattle.columns.specs.Columns.{start, value}
 use Rattle.columns.specs.Operator.{operator_rows}
 use Rattle.integers.specs.Matrix.{Matrix}
@@ -23,12 +23,16 @@ use Rattle.diagnostics.specs.declared.SelectedInverseStatus.TheVariants.{Complet
 use Rattle.diagnostics.specs.declared.Selected.{Selected}
 use Rattle.diagnostics.specs.Selected.{selected_reply_of}
 use Rattle.selection.specs.Selection.{Lent, room_of, selected_answer, selected_table, ResultLists, filling_of}
-use Rattle.exact_entries.specs.DyadicEntries.{DyadicCall, ReadsMultiples, dyadic_entries}
-use Rattle.exact_entries.specs.ExactEntries.{ExactCall, ReadsBack, exact_entries, exact_either}
-use Rattle.request_marks.specs.OperatorRequests.{places_requested}
-use Rattle.operator_values.specs.Output.{output_after, after_complete}
+use Rattle.exact_entries.specs.DyadicEntries.{DyadicCall, ReadsMultiples}
+use Rattle.exact_entries.proofs.DyadicEntries.{dyadic_entries}
+use Rattle.exact_entries.specs.ExactEntries.{ExactCall, ReadsBack}
+use Rattle.exact_entries.proofs.ExactEntries.{exact_entries, exact_either}
+use Rattle.request_marks.proofs.OperatorRequests.{places_requested}
+use Rattle.operator_values.specs.Output.{output_after}
+use Rattle.operator_values.proofs.Output.{after_complete}
 use Rattle.quadratic_form.specs.RowValue.{term_column, row_value, operator_values, operator_value}
-use Rattle.quadratic_form.specs.ExactRow.{quadratic, RowWithin, row_value_exact}
+use Rattle.quadratic_form.specs.ExactRow.{quadratic, RowWithin}
+use Rattle.quadratic_form.proofs.ExactRow.{row_value_exact}
 use Rattle.operator_variances_with_limit.specs.Transformed.{TransformedCall, transformed_selection, transformed_steps, transformed_values}
 use Rattle.operator_variances_with_limit.specs.Transformed.{TransformedDiagonal, AcceptedTransformed, transformed_accepted}
 

@@ -24,22 +24,26 @@ use Rattle.columns.specs.Operator.{operator_steps}
 use Rattle.columns.specs.OperatorPair.{operator_pair}
 use Rattle.columns.specs.Examples.{whole, f2_starts, f2_rows, f2_values}
 use Rattle.exact.specs.Multiple.{Multiple, Whole}
-use Rattle.exact.specs.Examples.{columns₂, f2_entries, f2_matrix, f2-inverse, sixteenths-diag, sixteenths, sixteenths-z, sixteenths_matrix, sixteenths-inverse}
+use Rattle.exact.specs.Examples.{f2_entries, f2_matrix, sixteenths-diag, sixteenths, sixteenths-z, sixteenths_matrix}
+use Rattle.exact.proofs.Examples.{columns₂, f2-inverse, sixteenths-inverse}
 use Rattle.closed_set.specs.ClosedSet.{reach, member, request}
 use Rattle.entries.specs.Entries.{float_table}
 use Rattle.diagnostics.specs.Diagnosis.{diagnosis}
 use Rattle.diagnostics.specs.declared.SelectedInverseStatus.TheVariants.{Complete, ClosureTooLarge}
 use Rattle.diagnostics.specs.declared.Selected.TheVariants.{Answered}
 use Rattle.selection.specs.Diagnosis.{diagnosis_of}
-use Rattle.selection.specs.Selection.{lists, room_of, room_steps, default_limit, selected_answer, lists_passed, filling_of}
+use Rattle.selection.specs.Selection.{lists, room_of, room_steps, default_limit, selected_answer, filling_of}
+use Rattle.selection.proofs.Selection.{lists_passed}
 use Rattle.exact_entries.specs.DyadicEntries.{DyadicCall}
 use Rattle.exact_entries.specs.ExactEntries.{ExactCall}
-use Rattle.exact_entries.specs.Worked.{f2_diagonals, f2_exact, f2_lent, f2_cleared, f2_lists}
-use Rattle.exact_entries.specs.DyadicWorked.{sixteenths_values, sixteenths_dyadic, sixteenths_lists, sixteenths_found, SixteenthsRead}
+use Rattle.exact_entries.specs.Worked.{f2_lent, f2_cleared, f2_lists}
+use Rattle.exact_entries.proofs.Worked.{f2_diagonals, f2_exact}
+use Rattle.exact_entries.specs.DyadicWorked.{sixteenths_values, sixteenths_lists, sixteenths_found, SixteenthsRead}
+use Rattle.exact_entries.proofs.DyadicWorked.{sixteenths_dyadic}
 use Rattle.request_marks.specs.OperatorRequests.{operator_requested}
 use Rattle.quadratic_form.specs.CrossValue.{add_terms, add_places}
 use Rattle.quadratic_form.specs.RowValue.{operator_values}
-use Rattle.quadratic_form.specs.Examples.{f2_row_within}
+use Rattle.quadratic_form.proofs.Examples.{f2_row_within}
 use Rattle.operator_variances_with_limit.specs.Transformed.{TransformedCall, transformed_call, transformed_selection, transformed_steps, TransformedDiagonal, transformed_accepted}
 use Rattle.operator_variances_with_limit.specs.ExactVariances.{ExactRow, TransformedExact, transformed_exact_reply, transformed_dyadic_reply}
 

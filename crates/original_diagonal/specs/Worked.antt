@@ -15,7 +15,7 @@ use Rattle.refusal.specs.Steps.{refused, answered, first, after, each, Passed}
 use Rattle.bits.specs.Bits.{bit_words}
 use Rattle.pairs.specs.Pair.{pair_total}
 use Rattle.pairs.specs.Scratch.{scratch_words}
-use Rattle.pairs.specs.ColumnOrder.{set_size_cong}
+use Rattle.pairs.proofs.ColumnOrder.{set_size_cong}
 use Rattle.columns.specs.Columns.{bound_steps, broken_steps, starts_steps, rows_steps, column_steps}
 use Rattle.columns.specs.Stored.{finite_steps, stored_steps, factor_steps}
 use Rattle.columns.specs.Diagonal.{diagonal_steps}
@@ -23,9 +23,11 @@ use Rattle.columns.specs.Kept.{nonzero, pattern, factor_pairs}
 use Rattle.columns.specs.Form.{cholesky}
 use Rattle.columns.specs.Examples.{whole, f2_starts, f2_rows, f2_values}
 use Rattle.exact.specs.Multiple.{Multiple, Whole}
-use Rattle.exact.specs.Examples.{f2_entries, f2_matrix, f2-inverse, sixteenths-diag, sixteenths, sixteenths-z, sixteenths_matrix, sixteenths-inverse}
-use Rattle.closed_set.specs.ClosedSet.{descends, Needed, request, dependency, reach, member, descends_at, needed_member}
-use Rattle.closed_set.specs.FactorPattern.{factor_pattern}
+use Rattle.exact.specs.Examples.{f2_entries, f2_matrix, sixteenths-diag, sixteenths, sixteenths-z, sixteenths_matrix}
+use Rattle.exact.proofs.Examples.{f2-inverse, sixteenths-inverse}
+use Rattle.closed_set.specs.ClosedSet.{descends, Needed, request, dependency, reach, member}
+use Rattle.closed_set.proofs.ClosedSet.{descends_at, needed_member}
+use Rattle.closed_set.proofs.FactorPattern.{factor_pattern}
 use Rattle.entries.specs.Entries.{float_table}
 use Rattle.factor_order.specs.Permutation.{reordered}
 use Rattle.diagnostics.specs.Diagnosis.{diagnosis}
@@ -34,11 +36,14 @@ use Rattle.diagnostics.specs.declared.Selected.{Selected}
 use Rattle.diagnostics.specs.declared.Selected.TheVariants.{Answered}
 use Rattle.diagnostics.specs.Selected.{selected_reply_of}
 use Rattle.selection.specs.Diagnosis.{diagnosis_of}
-use Rattle.selection.specs.Selection.{Lent, lists, room, room_of, room_steps, Accepted, selected_set, selected_size, selected_answer, lists_passed, filling_of}
+use Rattle.selection.specs.Selection.{Lent, lists, room, room_of, room_steps, Accepted, selected_set, selected_size, selected_answer, filling_of}
+use Rattle.selection.proofs.Selection.{lists_passed}
 use Rattle.exact_entries.specs.DyadicEntries.{DyadicCall}
 use Rattle.exact_entries.specs.ExactEntries.{ExactCall}
-use Rattle.exact_entries.specs.Worked.{f2_diagonals, f2_exact, f2_lent, f2_lists}
-use Rattle.exact_entries.specs.DyadicWorked.{sixteenths_values, sixteenths_dyadic, sixteenth, sixteenths_lists}
+use Rattle.exact_entries.specs.Worked.{f2_lent, f2_lists}
+use Rattle.exact_entries.proofs.Worked.{f2_diagonals, f2_exact}
+use Rattle.exact_entries.specs.DyadicWorked.{sixteenths_values, sixteenth, sixteenths_lists}
+use Rattle.exact_entries.proofs.DyadicWorked.{sixteenths_dyadic}
 use Rattle.request_marks.specs.DiagonalMarks.{diagonal_pairs}
 use Rattle.original_diagonal.specs.Original.{OriginalCall, original_call, original_selection, original_steps, OriginalDiagonal, original_accepted}
 use Rattle.original_diagonal.specs.ExactDiagonal.{OriginalExact, OriginalMultiples, within_reply, beyond-reply, original_exact_reply, original_dyadic_reply}

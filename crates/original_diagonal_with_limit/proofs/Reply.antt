@@ -11,23 +11,26 @@ use lib.Ieee.{Float, nan}
 use borrow.Author.Tests.{leb-true}
 use Rattle.lists.specs.Tabulate.{tabulate, tabulate_at, tabulate_cong}
 use Rattle.lists.specs.Overwrite.{overwrite, overwrite_at, overwrite-length}
-use Rattle.refusal.specs.Steps.{Step, answered, refused, verdict, Passed, append-refused, append_passed, first_hit, first_skip, first_end, first_passed}
-use Rattle.refusal.specs.Steps.{after_refused, after_passed}
+use Rattle.refusal.specs.Steps.{Step, answered, refused, verdict, Passed}
+use Rattle.refusal.proofs.Steps.{append-refused, append_passed, first_hit, first_skip, first_end, first_passed}
+use Rattle.refusal.proofs.Steps.{after_refused, after_passed}
 use Rattle.refusal.specs.Refusal.{refusal_number}
 use Rattle.refusal.specs.declared.Refusal.{Refusal}
 use Rattle.refusal.specs.declared.Refusal.TheVariants.{NotCovered}
 use Rattle.columns.specs.Kept.{nonzero}
-use Rattle.closed_set.specs.ClosedSet.{member_holds}
-use Rattle.closed_set.specs.Size.{closure_size_most}
-use Rattle.closed_set.specs.FactorPattern.{factor_pattern}
-use Rattle.entries.specs.Entries.{column_count, position, entry_starts, entry_values, entry_starts-length, entry_values-length}
-use Rattle.entries.specs.Position.{position_first, position_below, entry_values_at}
+use Rattle.closed_set.proofs.ClosedSet.{member_holds}
+use Rattle.closed_set.proofs.Size.{closure_size_most}
+use Rattle.closed_set.proofs.FactorPattern.{factor_pattern}
+use Rattle.entries.specs.Entries.{column_count, position, entry_starts, entry_values}
+use Rattle.entries.proofs.Entries.{entry_starts-length, entry_values-length}
+use Rattle.entries.proofs.Position.{position_first, position_below, entry_values_at}
 use Rattle.factor_order.specs.Permutation.{index, reordered}
 use Rattle.diagnostics.specs.declared.SelectedInverseDiagnostics.{SelectedInverseDiagnostics}
 use Rattle.selection.specs.Selection.{selected_pattern, Selection, Lent, room_of, selected_set, selected_size, selected_complete, selected_answer, selected_table, filling_of}
-use Rattle.selection.specs.Selection.{ResultLists, lists_refused, complete_starts, complete_values}
+use Rattle.selection.specs.Selection.{ResultLists}
+use Rattle.selection.proofs.Selection.{lists_refused, complete_starts, complete_values}
 use Rattle.diagnostics.specs.declared.Selected.TheVariants.{Answered, Refused}
-use Rattle.request_marks.specs.DiagonalMarks.{diagonal_requested, diagonals_ranged}
+use Rattle.request_marks.proofs.DiagonalMarks.{diagonal_requested, diagonals_ranged}
 use Rattle.original_diagonal.specs.Original.{WriteOriginalInput, first_entries}
 use Rattle.original_diagonal_with_limit.specs.Original.{OriginalCall, original_selection, original_steps, factor_diagonal, OriginalDiagonal}
 use Rattle.original_diagonal_with_limit.specs.Original.{AcceptedOriginal, original_inside}

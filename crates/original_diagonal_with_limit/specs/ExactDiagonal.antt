@@ -6,8 +6,9 @@ use Rattle.std.specs.Float.{nan}
 use Rattle.std.proofs.lemmas.Bool.{lt-leb, not-false}
 use Rattle.lists.specs.Tabulate.{tabulate_at}
 use Rattle.lists.specs.Overwrite.{overwrite_at}
-use Rattle.refusal.specs.Steps.{Step, refused, answered, Passed, after_passed, first_hit, first_passed, append_passed, passed_append, passed_front, passed_back, passed_clear, clear_passed}
-use Rattle.refusal.specs.Told.{told_passed, told_answer}
+use Rattle.refusal.specs.Steps.{Step, refused, answered, Passed}
+use Rattle.refusal.proofs.Steps.{after_passed, first_hit, first_passed, append_passed, passed_append, passed_front, passed_back, passed_clear, clear_passed}
+use Rattle.refusal.proofs.Told.{told_passed, told_answer}
 use Rattle.integers.specs.Matrix.{Matrix}
 use Rattle.integers.specs.Inverse.{Inverse, WholeInverse}
 use Rattle.takahashi.specs.Entries.{Entry}
@@ -16,17 +17,19 @@ use Rattle.exact.specs.Factor.{factor}
 use Rattle.exact.specs.ExactCase.{ones}
 use Rattle.closed_set.specs.ClosedSet.{request}
 use Rattle.factor_order.specs.Permutation.{index, reordered}
-use Rattle.factor_order.specs.Laws.{reordered-length, reordered_at}
+use Rattle.factor_order.proofs.Laws.{reordered-length, reordered_at}
 use Rattle.diagnostics.specs.declared.SelectedInverseDiagnostics.{SelectedInverseDiagnostics}
 use Rattle.diagnostics.specs.declared.SelectedInverseStatus.TheVariants.{Complete}
 use Rattle.diagnostics.specs.declared.Selected.{Selected}
 use Rattle.diagnostics.specs.Selected.{selected_reply_of}
 use Rattle.selection.specs.Selection.{Lent, room_of, selected_size, selected_complete, selected_answer, selected_table, ResultLists, filling_of}
-use Rattle.selection.specs.Status.{selected_complete_lem}
+use Rattle.selection.proofs.Status.{selected_complete_lem}
 use Rattle.exact_entries.specs.Recurrence.{InClosedSet}
-use Rattle.exact_entries.specs.DyadicEntries.{DyadicCall, ReadsMultiples, dyadic_at, dyadic_entries}
-use Rattle.exact_entries.specs.ExactEntries.{ExactCall, ReadsBack, exact_entries, exact_at}
-use Rattle.request_marks.specs.DiagonalMarks.{diagonal_requested}
+use Rattle.exact_entries.specs.DyadicEntries.{DyadicCall, ReadsMultiples}
+use Rattle.exact_entries.proofs.DyadicEntries.{dyadic_at, dyadic_entries}
+use Rattle.exact_entries.specs.ExactEntries.{ExactCall, ReadsBack}
+use Rattle.exact_entries.proofs.ExactEntries.{exact_entries, exact_at}
+use Rattle.request_marks.proofs.DiagonalMarks.{diagonal_requested}
 use Rattle.original_diagonal_with_limit.specs.Original.{OriginalCall, original_selection, original_steps, covered_steps, factor_diagonal, original_after}
 use Rattle.original_diagonal_with_limit.specs.Original.{OriginalDiagonal, AcceptedOriginal, original_accepted, original_inside}
 

@@ -7,19 +7,23 @@ use Rattle.std.proofs.lemmas.Bool.{not-false}
 use Rattle.refusal.specs.Bounds.{output_steps}
 use Rattle.lists.specs.Tabulate.{tabulate}
 use Rattle.lists.specs.Overwrite.{overwrite}
-use Rattle.refusal.specs.Steps.{Step, Reply, first, after, Passed, passed_clear, passed_front, passed_back}
-use Rattle.refusal.specs.Groups.{grouped, AllPassed, groups_passed}
+use Rattle.refusal.specs.Steps.{Step, Reply, first, after, Passed}
+use Rattle.refusal.proofs.Steps.{passed_clear, passed_front, passed_back}
+use Rattle.refusal.specs.Groups.{grouped, AllPassed}
+use Rattle.refusal.proofs.Groups.{groups_passed}
 use Rattle.columns.specs.Columns.{FactorLists, factor_lists}
-use Rattle.columns.specs.Stored.{factor_steps, factor_steps_bounded, factor_steps_stored}
+use Rattle.columns.specs.Stored.{factor_steps}
+use Rattle.columns.proofs.Stored.{factor_steps_bounded, factor_steps_stored}
 use Rattle.factor_order.specs.Permutation.{index, order_steps, permutation_steps, reordered, Permutation}
-use Rattle.factor_order.specs.Laws.{passed_distinct, distinct_permutation}
+use Rattle.factor_order.proofs.Laws.{passed_distinct, distinct_permutation}
 use Rattle.diagnostics.specs.declared.SelectedInverseDiagnostics.{SelectedInverseDiagnostics}
 use Rattle.selection.specs.Selection.{Selection, selection, Lent, Room, room_of, fill_steps, selected_complete, selected_answer, selected_table, Accepted, filling_of}
 use Rattle.selection.specs.Selection.{ResultLists}
-use Rattle.selection.specs.Call.{fill_accepted}
+use Rattle.selection.proofs.Call.{fill_accepted}
 use Rattle.diagnostics.specs.declared.Selected.{Selected}
 use Rattle.diagnostics.specs.Selected.{selected_reply_of}
-use Rattle.request_marks.specs.DiagonalMarks.{diagonal_pairs, diagonals_ranged}
+use Rattle.request_marks.specs.DiagonalMarks.{diagonal_pairs}
+use Rattle.request_marks.proofs.DiagonalMarks.{diagonals_ranged}
 
 -- what a call is handed to read: a factor, a permutation, orig_to_perm, and a limit
 pub record OriginalCall : Type 0 where

@@ -3,9 +3,12 @@
 use Rattle.std.specs.Prelude.{ℕ, ◌+◌, ◌≤◌, ◌<◌, min, max, ◌≡◌, List, length, get_or}
 use Rattle.std.proofs.Common.{arith, ap, ap₂}
 use Rattle.refusal.specs.Bounds.{max_dimension}
-use Rattle.pairs.specs.Pair.{pair_total, max_pairs, pair_total_small}
-use Rattle.pairs.specs.Scratch.{queue_start, queue_start_small}
-use Rattle.pairs.specs.ColumnOrder.{col_start, col_start_mono, col_start_total, column_place, column_place_below}
+use Rattle.pairs.specs.Pair.{pair_total, max_pairs}
+use Rattle.pairs.proofs.Pair.{pair_total_small}
+use Rattle.pairs.specs.Scratch.{queue_start}
+use Rattle.pairs.proofs.Scratch.{queue_start_small}
+use Rattle.pairs.specs.ColumnOrder.{col_start, column_place}
+use Rattle.pairs.proofs.ColumnOrder.{col_start_mono, col_start_total, column_place_below}
 use Rattle.pairs.specs.Positions.{position_word, position_at}
 
 -- a pair of n columns, and scratch of as many words as the positions need

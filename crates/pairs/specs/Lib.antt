@@ -4,4 +4,3 @@ pub mod Marks
 pub mod ColumnOrder
 pub mod Scratch
 pub mod Positions
-pub mod Examples

@@ -16,14 +16,3 @@ position_at n s i k = get_or s (position_word n i k) 0
 -- the inverse's entry at that position, of a list of any elements; a blank past its end
 abbrev pub inverse_at : {W : Type 0} → W → ℕ → List ℕ → List W → ℕ → ℕ → W
 inverse_at blank n s inverse i k = get_or inverse (position_at n s i k) blank
-
--- the pair in either order
-pub position_at_ordered : (n : ℕ) (s : List ℕ) (i k : ℕ) → position_at n s (max i k) (min i k) ≡ position_at n s i k
-position_at_ordered n s i k =
-    let e : max (max i k) (min i k) ≡ max i k = omega arith in
-    let f : min (max i k) (min i k) ≡ min i k = omega arith in
-    ap₂ (λ (r c : ℕ). get_or s (queue_start n + column_place n r c) 0) e f
-
-pub inverse_at_ordered : {W : Type 0} (blank : W) (n : ℕ) (s : List ℕ) (inverse : List W) (i k : ℕ)
-    → inverse_at blank n s inverse (max i k) (min i k) ≡ inverse_at blank n s inverse i k
-inverse_at_ordered blank n s inverse i k = ap (λ (p : ℕ). get_or inverse p blank) (position_at_ordered n s i k)

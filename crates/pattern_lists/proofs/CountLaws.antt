@@ -6,7 +6,8 @@ use mathlib.Core.Path.{◌≡◌, sym, ap, ap₂, ◌∙◌}
 use mathlib.Core.List.{List}
 use lib.ListN.{length}
 use Rattle.lists.specs.Select.{tally, select_gap, tally_none, tally_join, tally_most}
-use Rattle.bits.specs.Bits.{bit_at, bit_words, bit-clear}
+use Rattle.bits.specs.Bits.{bit_at, bit_words}
+use Rattle.bits.proofs.Bits.{bit-clear}
 use Rattle.set_bits.specs.Zeros.{Zeros}
 use Rattle.pattern_lists.specs.Listing.{CountInput}
 

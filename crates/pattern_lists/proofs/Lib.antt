@@ -3,3 +3,6 @@ pub mod RowLaws
 pub mod ListedPairs
 pub mod PatternLists
 pub mod Pattern
+pub mod Laws
+pub mod Listing
+pub mod PatternMarks

@@ -7,7 +7,8 @@ use mathlib.Core.List.{List}
 use lib.ListN.{length}
 use borrow.Author.Tests.{lt-ltb, le-ltb}
 use Rattle.lists.specs.Overwrite.{overwrite, cleared}
-use Rattle.refusal.specs.Steps.{Step, refused, answered, verdict, Passed, first_hit, first_skip, first_end, first_refused, first_passed, after_refused, after_passed}
+use Rattle.refusal.specs.Steps.{Step, refused, answered, verdict, Passed}
+use Rattle.refusal.proofs.Steps.{first_hit, first_skip, first_end, first_refused, first_passed, after_refused, after_passed}
 use Rattle.refusal.specs.declared.Refusal.TheVariants.{TooShort}
 use Rattle.pairs.specs.Pair.{pair_count, pair_rows, pair_columns}
 use Rattle.pattern_lists.specs.ListedMarks.{pair_output_steps, ListedMarks}

@@ -6,7 +6,8 @@ use mathlib.Core.Bool.{Bool}
 use mathlib.Core.List.{List, [], ◌∷◌}
 use lib.ListN.{length}
 use Rattle.lists.specs.Overwrite.{overwrite}
-use Rattle.refusal.specs.Steps.{Step, refused, after, settle, verdict, Passed, first_refused, after_refused, append-refused, append_passed}
+use Rattle.refusal.specs.Steps.{Step, refused, after, settle, verdict, Passed}
+use Rattle.refusal.proofs.Steps.{first_refused, after_refused, append-refused, append_passed}
 use Rattle.refusal.specs.Refusal.{refusal_number}
 use Rattle.refusal.specs.declared.Refusal.{Refusal}
 use Rattle.pairs.specs.Pair.{pair_count, pair_rows, pair_columns}

@@ -10,11 +10,14 @@ use lib.Seq.{length-take-le}
 use borrow.Author.Tests.{lt-ltb, le-ltb}
 use Rattle.lists.specs.Tabulate.{tabulate, tabulate-length}
 use Rattle.lists.specs.Overwrite.{overwrite, filled, cleared, filled_at, filled-length, filled_all}
-use Rattle.refusal.specs.Steps.{first, after, settle, first_hit, first_skip, first_end, first_refused, after_refused, after_passed}
+use Rattle.refusal.specs.Steps.{first, after, settle}
+use Rattle.refusal.proofs.Steps.{first_hit, first_skip, first_end, first_refused, after_refused, after_passed}
 use Rattle.refusal.specs.declared.Refusal.TheVariants.{TooShort}
 use Rattle.pairs.specs.Scratch.{mark_words}
-use Rattle.pairs.specs.Pair.{pair_count, pair_rows, pair_columns, pair_count_cong, pair_rows_cong, pair_columns_cong}
-use Rattle.pairs.specs.Marks.{Added, marking, marking_none, pair_marked}
+use Rattle.pairs.specs.Pair.{pair_count, pair_rows, pair_columns}
+use Rattle.pairs.proofs.Pair.{pair_count_cong, pair_rows_cong, pair_columns_cong}
+use Rattle.pairs.specs.Marks.{Added, marking}
+use Rattle.pairs.proofs.Marks.{marking_none, pair_marked}
 use Rattle.pattern_lists.specs.ListedMarks.{pair_output_steps, ListedMarks}
 use Rattle.pattern_lists.specs.declared.listed.PatternPairs.{PatternPairs}
 use Rattle.pattern_lists.specs.declared.listed.PatternPairs.TheVariants.{Refused}

@@ -10,8 +10,10 @@ use lib.Seq.{ext_get_or}
 use Rattle.lists.specs.Tabulate.{tabulate, tabulate-length, tabulate_at}
 use Rattle.lists.specs.Select.{select, tally, select_none, select_gap, select_join, select_cong, get_d_mapped}
 use Rattle.lists.specs.Overwrite.{splice, splice_none}
-use Rattle.bits.specs.Bits.{bit_at, bit_words, bit-clear, bit_words_most}
-use Rattle.pairs.specs.Pair.{pair_total, pair_total_next, pair_total_mono, pair_total_small}
+use Rattle.bits.specs.Bits.{bit_at, bit_words}
+use Rattle.bits.proofs.Bits.{bit-clear, bit_words_most}
+use Rattle.pairs.specs.Pair.{pair_total}
+use Rattle.pairs.proofs.Pair.{pair_total_next, pair_total_mono, pair_total_small}
 use Rattle.pairs.specs.Marks.{marking}
 use Rattle.set_bits.specs.Zeros.{Zeros}
 use Rattle.set_bits.specs.Listed.{NumbersListed}

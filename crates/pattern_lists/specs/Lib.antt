@@ -4,4 +4,3 @@ pub mod PatternMarks
 pub mod ListedMarks
 pub mod PatternLists
 pub mod PatternCalls
-pub mod Laws

@@ -6,7 +6,8 @@ use mathlib.Core.List.{List}
 use lib.ListN.{length}
 use lib.Ieee.{Float, nan}
 use Rattle.lists.specs.Overwrite.{overwrite}
-use Rattle.refusal.specs.Steps.{refused, answered, verdict, Passed, both_refused, both_passed}
+use Rattle.refusal.specs.Steps.{refused, answered, verdict, Passed}
+use Rattle.refusal.proofs.Steps.{both_refused, both_passed}
 use Rattle.factor_order.specs.Permutation.{invert_steps, permute_steps, marked_steps, inverse_of, reordered}
 use Rattle.permutation.specs.PermutationCalls.{PermutationInverted, ValuesReordered, MarkedValuesReordered}
 

@@ -12,7 +12,8 @@ use lib.Seq.{get_or-set_same, get_or-set_other}
 use borrow.Author.Tests.{le-leb, lt-leb, eq-eqb, ne_eqb}
 use Rattle.lists.specs.Test.{any_none, any_next}
 use Rattle.refusal.specs.Bounds.{max_dimension}
-use Rattle.refusal.specs.Steps.{refused, each, verdict, Passed, first_hit, first_skip, first_end, each_none, each_more}
+use Rattle.refusal.specs.Steps.{refused, each, verdict, Passed}
+use Rattle.refusal.proofs.Steps.{first_hit, first_skip, first_end, each_none, each_more}
 use Rattle.factor_order.specs.Permutation.{index, among, inverse_steps, element_steps}
 
 -- before element i: no fault so far, and the indices seen are marked

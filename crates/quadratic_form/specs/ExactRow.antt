@@ -6,7 +6,7 @@ use Rattle.takahashi.specs.Recurrence.{at}
 use Rattle.exact.specs.Multiple.{Whole}
 use Rattle.exact.specs.Exact.{floats}
 use Rattle.quadratic_form.specs.RowValue.{row_value}
-use Rattle.quadratic_form.specs.ExactCross.{bilinear, RowsWithin, cross_value_exact}
+use Rattle.quadratic_form.specs.ExactCross.{bilinear, RowsWithin}
 
 -- vᵀXv: k gives the column of a place of the operator, v its weight; the row has `size` places, from s on
 abbrev pub quadratic : (ℕ → ℕ) → (ℕ → ℤ) → (ℕ → ℕ → ℤ) → ℕ → ℕ → ℤ
@@ -20,9 +20,3 @@ RowWithin k v X s size = RowsWithin k k v v X s size s size
 pub record WholeRow (k : ℕ → ℕ) (w : ℕ → Float) (Z : ℕ → ℕ → Float) (v : ℕ → ℤ) (X : ℕ → ℕ → ℤ) (s size : ℕ) : Type 0 where
   pub weights : (i : ℕ) → i < size → Whole (w (s + i)) (v (s + i))
   pub entries : (i j : ℕ) → i < size → j < size → Whole (at Z (k (s + i)) (k (s + j))) (X (k (s + i)) (k (s + j)))
-
--- the row's value is the exact one
-pub row_value_exact : (k : ℕ → ℕ) (w : ℕ → Float) (Z : ℕ → ℕ → Float) (v : ℕ → ℤ) (X : ℕ → ℕ → ℤ) (s e : ℕ)
-    → WholeRow k w Z v X s (e - s) → RowWithin k v X s (e - s) → Whole (row_value floats k w Z s e) (quadratic k v X s (e - s))
-row_value_exact k w Z v X s e W B =
-    cross_value_exact k k w w Z v v X s e s e (record { first = W.weights; second = W.weights; entries = W.entries }) B

@@ -1,7 +1,5 @@
 -- The value of two operators' rows, vᵀXu, and of a row with itself, vᵀXv.
 pub mod CrossValue
 pub mod RowValue
-pub mod Exchange
 pub mod ExactCross
 pub mod ExactRow
-pub mod Examples

@@ -36,8 +36,3 @@ row_pair_value aStarts aColumns aWeights bStarts bColumns bWeights Z i j =
 unfoldable pub row_pair_values : List ℕ → List ℕ → List Float → List ℕ → List ℕ → List Float → List ℕ → List ℕ → (ℕ → ℕ → Float) → List Float
 row_pair_values aStarts aColumns aWeights bStarts bColumns bWeights a_rows b_rows Z =
     tabulate (λ p. row_pair_value aStarts aColumns aWeights bStarts bColumns bWeights Z (get_or a_rows p 0) (get_or b_rows p 0)) (length a_rows)
-
--- a row with itself: its variance, with the same bits
-pub row_pair_value_same : (row_starts columns : List ℕ) (weights : List Float) (Z : ℕ → ℕ → Float) (i : ℕ)
-    → row_pair_value row_starts columns weights row_starts columns weights Z i i ≡ operator_value row_starts columns weights Z i
-row_pair_value_same row_starts columns weights Z i = refl

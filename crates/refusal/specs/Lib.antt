@@ -2,6 +2,5 @@
 pub mod Steps
 pub mod Groups
 pub mod FirstOf
-pub mod Told
 pub mod Refusal
 pub mod Bounds

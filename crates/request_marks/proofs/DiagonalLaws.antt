@@ -9,7 +9,8 @@ use mathlib.Core.Logic.{⊎_elim}
 use lib.Dec.{eqb, ltb}
 use borrow.Author.Tests.{eqb-true, eq-eqb, ltb-true, lt-ltb, le-ltb}
 use Rattle.lists.specs.Test.{and_left, and_right, or_cases, or_left, or_right, same_truth}
-use Rattle.pairs.specs.Pair.{ordered, ordered_is, is_ordered}
+use Rattle.pairs.specs.Pair.{ordered}
+use Rattle.pairs.proofs.Pair.{ordered_is, is_ordered}
 use Rattle.request_marks.specs.DiagonalMarks.{diagonal_pairs}
 
 -- no diagonal, and one more

@@ -6,7 +6,7 @@ use mathlib.Core.List.{List}
 use lib.ListN.{get_or}
 use Rattle.refusal.specs.Bounds.{max_dimension}
 use Rattle.columns.specs.Columns.{start}
-use Rattle.columns.specs.Factor.{starts_end}
+use Rattle.columns.proofs.Factor.{starts_end}
 use Rattle.columns.specs.Operator.{operator_rows, OperatorRows}
 use Rattle.marked_pairs.specs.MarkedPairs.{Marked, InsertInput}
 use Rattle.request_marks.specs.OperatorMarks.{RowInput}

@@ -12,15 +12,6 @@ use Rattle.closed_set.specs.ClosedSet.{Ranged}
 abbrev pub diagonal_pairs : ℕ → ℕ → ℕ → Bool
 diagonal_pairs n r c = ltb r n && eqb r c
 
-pub diagonal_requested : (n j : ℕ) → j < n → diagonal_pairs n j j ≡ true
-diagonal_requested n j l = ap₂ ◌&&◌ (lt-ltb j n l) (eq-eqb j j refl)
-
-pub diagonals_ranged : (n : ℕ) → Ranged n (diagonal_pairs n)
-diagonals_ranged n = record {
-  ordered = λ r c e. let q = eqb-true r c (and_right (ltb r n) (eqb r c) e) in omega arith;
-  inside = λ r c e. ltb-true r n (and_left (ltb r n) (eqb r c) e);
-}
-
 -- a dimension within its bound, and words for the pairs' marks
 pub record DiagonalsInput (n : ℕ) (s : List ℕ) : Type 0 where
   pub small : n ≤ max_dimension

@@ -4,4 +4,3 @@ pub mod DiagonalMarks
 pub mod OperatorRequests
 pub mod OperatorMarks
 pub mod CrossRequests
-pub mod Examples

@@ -6,3 +6,4 @@ pub mod EntryLaws
 pub mod StoreLaws
 pub mod RequestLaws
 pub mod ReaderLaws
+pub mod ReadLists

@@ -10,11 +10,13 @@ use borrow.Author.Tests.{lt-ltb, le-ltb, eq-eqb, ne_eqb}
 use Rattle.lists.specs.Every.{some}
 use Rattle.lists.specs.Overwrite.{overwrite}
 use Rattle.refusal.specs.Bounds.{max_dimension}
-use Rattle.refusal.specs.Steps.{Reply, refused, answered, Step, verdict, Passed, first_hit, first_skip, first_end, first_refused, first_passed}
-use Rattle.refusal.specs.Steps.{append-refused, append_passed, after_refused, after_passed}
+use Rattle.refusal.specs.Steps.{Reply, refused, answered, Step, verdict, Passed}
+use Rattle.refusal.proofs.Steps.{first_hit, first_skip, first_end, first_refused, first_passed}
+use Rattle.refusal.proofs.Steps.{append-refused, append_passed, after_refused, after_passed}
 use Rattle.matrix_market.specs.Text.{lines, fields}
 use Rattle.matrix_market.specs.File.{header, same_bytes, first_line, later_lines, from_size, body, line_entries, size_fields, entries, number, dimension_of}
-use Rattle.matrix_market.specs.File.{stand_for, file_requests, request_rows, request_columns, file_rows, file_columns, malformed, outside_entry, request_count, requests_count}
+use Rattle.matrix_market.specs.File.{stand_for, file_requests, request_rows, request_columns, file_rows, file_columns, malformed, outside_entry, request_count}
+use Rattle.matrix_market.proofs.File.{requests_count}
 use Rattle.matrix_market.specs.File.{file_size_steps, file_entry_steps, file_room_steps, file_steps, file_answer}
 use Rattle.file_lines.specs.Scan.{rest_of}
 use Rattle.file_lines.specs.Places.{fields_at}

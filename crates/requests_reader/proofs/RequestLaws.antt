@@ -10,7 +10,8 @@ use borrow.Author.Tests.{eq-eqb, ne_eqb}
 use Rattle.lists.specs.Select.{map_snoc}
 use Rattle.lists.specs.Tabulate.{tabulate}
 use Rattle.lists.specs.Overwrite.{overwrite, filled, filled_none, filled_more}
-use Rattle.matrix_market.specs.File.{diagonal_pair, every_diagonal, request_rows, request_columns, stand_for, stand_entries, stand_diagonals, request_count}
+use Rattle.matrix_market.specs.File.{diagonal_pair, every_diagonal, request_rows, request_columns, stand_for, request_count}
+use Rattle.matrix_market.proofs.File.{stand_entries, stand_diagonals}
 use Rattle.requests_reader.specs.EntryLines.{entries_from, pairs_from, StoreEntriesInput, RequestsStored}
 
 -- ---- how many

@@ -8,7 +8,8 @@ use mathlib.Core.List.{List}
 use lib.Dec.{eqb, ltb}
 use borrow.Author.Tests.{eq-eqb, ne_eqb, lt-ltb, le-ltb}
 use Rattle.refusal.specs.Bounds.{max_dimension, max_entries}
-use Rattle.refusal.specs.Steps.{Step, refused, verdict, first_hit, first_skip, first_end}
+use Rattle.refusal.specs.Steps.{Step, refused, verdict}
+use Rattle.refusal.proofs.Steps.{first_hit, first_skip, first_end}
 use Rattle.matrix_market.specs.File.{are_numbers, number, file_size_steps}
 use Rattle.file_lines.specs.Places.{fields_at, TripleAt}
 use Rattle.requests_reader.specs.HeaderLines.{SizeRead}

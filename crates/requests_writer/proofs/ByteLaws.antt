@@ -16,7 +16,8 @@ use Rattle.pairs.specs.Pair.{max_pairs}
 use Rattle.pairs.specs.ColumnOrder.{by_column, column_first, column_end, set_size}
 use Rattle.matrix_market.specs.Text.{joined}
 use Rattle.matrix_market.specs.File.{header}
-use Rattle.matrix_market.specs.Decimal.{decimal, decimal_one, decimal_more, decimal_some, decimal_most, decimal_short, decimal_longer}
+use Rattle.matrix_market.specs.Decimal.{decimal}
+use Rattle.matrix_market.proofs.Decimal.{decimal_one, decimal_more, decimal_some, decimal_most, decimal_short, decimal_longer}
 use Rattle.matrix_market.specs.FileOf.{spaced, size_line, entry_line, file_of}
 use Rattle.requests_writer.specs.Lines.{Wrote, entry_bytes, rows_bytes, columns_bytes, head_bytes, line_most, head_most}
 

@@ -13,9 +13,11 @@ use Rattle.lists.specs.Overwrite.{splice, splice_first, overwrite_front, splice-
 use Rattle.lists.specs.Cells.{cell_count, cell_count_next, cell_count_mono}
 use Rattle.bits.specs.Bits.{bit_at, bit_words}
 use Rattle.refusal.specs.Bounds.{max_dimension}
-use Rattle.pairs.specs.Pair.{pair_total, max_pairs, pair_total_small}
+use Rattle.pairs.specs.Pair.{pair_total, max_pairs}
+use Rattle.pairs.proofs.Pair.{pair_total_small}
 use Rattle.pairs.specs.Scratch.{mark_words}
-use Rattle.pairs.specs.ColumnOrder.{by_column, column_first, column_end, column_marking, col_start, col_start_next, col_start_mono, col_start_total, set_size, set_size_sum, set_size_most}
+use Rattle.pairs.specs.ColumnOrder.{by_column, column_first, column_end, column_marking, col_start, set_size}
+use Rattle.pairs.proofs.ColumnOrder.{col_start_next, col_start_mono, col_start_total, set_size_sum, set_size_most}
 use Rattle.set_bits.specs.Listed.{NumbersListed}
 use Rattle.set_bits.specs.BitsListed.{bits_test, ListBitsInput}
 use Rattle.requests_writer.specs.Lines.{rows_bytes, columns_bytes, RowsInside}

@@ -2,3 +2,9 @@ pub mod ByteLaws
 pub mod MarkLaws
 pub mod ColumnLaws
 pub mod WriterLaws
+pub mod Answer
+pub mod Canonical
+pub mod Marked
+pub mod RoundTrip
+pub mod Worked
+pub mod Writer

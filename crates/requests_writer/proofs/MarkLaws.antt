@@ -8,11 +8,14 @@ use mathlib.Core.List.{List}
 use lib.ListN.{length, get_or, length-set}
 use Rattle.lists.specs.Test.{any_none, any_next}
 use Rattle.lists.specs.Overwrite.{cleared, filled_at, filled-length}
-use Rattle.bits.specs.Bits.{with_bit, bit-clear, bit_set, word_below}
+use Rattle.bits.specs.Bits.{with_bit}
+use Rattle.bits.proofs.Bits.{bit-clear, bit_set, word_below}
 use Rattle.pairs.specs.Pair.{pair_total, ordered}
-use Rattle.pairs.specs.ColumnOrder.{column_place, column_marking, column_place_below}
+use Rattle.pairs.specs.ColumnOrder.{column_place, column_marking}
+use Rattle.pairs.proofs.ColumnOrder.{column_place_below}
 use Rattle.closed_set.specs.Requests.{requested}
-use Rattle.requests_writer.specs.Marked.{MarkInput, MarkedRequests, requested_to, place_ordered}
+use Rattle.requests_writer.specs.Marked.{MarkInput, MarkedRequests, requested_to}
+use Rattle.requests_writer.proofs.Marked.{place_ordered}
 
 pub record MarkedTo (n : ℕ) (rows columns marks₀ marks : List ℕ) (k : ℕ) : Type 0 where
   pub sets : (r c : ℕ) → c ≤ r → r < n → column_marking n marks r c ≡ requested_to rows columns k r c

@@ -10,16 +10,18 @@ use borrow.Author.Tests.{lt-ltb, le-ltb}
 use Rattle.lists.specs.Tabulate.{tabulate, tabulate-length}
 use Rattle.lists.specs.Overwrite.{overwrite, splice, splice_first, filled, cleared, filled_all}
 use Rattle.refusal.specs.Steps.{Step, refused, answered, first, after, settle, verdict, Passed}
-use Rattle.refusal.specs.Steps.{first_hit, first_skip, first_end, first_refused, first_passed, after_refused, after_passed, append-refused, append_passed}
+use Rattle.refusal.proofs.Steps.{first_hit, first_skip, first_end, first_refused, first_passed, after_refused, after_passed, append-refused, append_passed}
 use Rattle.refusal.specs.Refusal.{refusal_number}
 use Rattle.refusal.specs.declared.Refusal.{Refusal}
 use Rattle.refusal.specs.declared.Refusal.TheVariants.{TooShort}
 use Rattle.pairs.specs.Scratch.{mark_words}
 use Rattle.pairs.specs.ColumnOrder.{column_marking}
 use Rattle.closed_set.specs.Requests.{requested}
-use Rattle.matrix_market.specs.FileOf.{file_of, file_cong}
+use Rattle.matrix_market.specs.FileOf.{file_of}
+use Rattle.matrix_market.proofs.FileOf.{file_cong}
 use Rattle.requests_writer.specs.Marked.{MarkInput, MarkedRequests}
-use Rattle.requests_writer.specs.Writer.{write_checks, requests_file, output_step, mark_steps, SetWritten, RequestsWritten, write_checks_requests, write_checks_below, write_checks_small}
+use Rattle.requests_writer.specs.Writer.{write_checks, requests_file, output_step, mark_steps, SetWritten, RequestsWritten}
+use Rattle.requests_writer.proofs.Writer.{write_checks_requests, write_checks_below, write_checks_small}
 use Rattle.requests_writer.specs.declared.WrittenRequests.{WrittenRequests}
 use Rattle.requests_writer.specs.declared.WrittenRequests.TheVariants.{Written, Refused}
 

@@ -3,8 +3,6 @@ pub mod Place
 pub mod Digits
 pub mod Looks
 pub mod Lookup
-pub mod Laws
-pub mod Coverage
 pub mod Counted
 pub mod Halving
 pub mod Examples

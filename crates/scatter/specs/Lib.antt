@@ -4,4 +4,3 @@ pub mod ClosedPattern
 pub mod Sums
 pub mod Marks
 pub mod Column
-pub mod Values

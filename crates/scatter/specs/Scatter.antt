@@ -119,36 +119,3 @@ column_values {W} Z desc c = Z c c ∷ map (λ (e : Entry W). Z e.row c) (desc c
 unfoldable pub columns_values : {W : Type 0} → (ℕ → ℕ → W) → (ℕ → List (Entry W)) → ℕ → List W
 columns_values Z desc zero = []
 columns_values Z desc (suc k) = columns_values Z desc k ++ column_values Z desc k
-
--- ---- one turn more
-pub clear_none : {W : Type 0} (x : W) (sums : List W) → sums ≡ clear x sums 0
-unfolding clear
-clear_none x sums = refl
-
-pub unmarks_none : (rows : List ℕ) (a : ℕ) (marker : List ℕ) → marker ≡ unmarks rows a marker 0
-unfolding unmarks
-unmarks_none rows a marker = refl
-
-pub unmarks_next : (rows : List ℕ) (a : ℕ) (marker : List ℕ) (p : ℕ)
-    → unmarks rows a marker (p + 1) ≡ set (unmarks rows a marker p) (get_or rows (a + p) 0) max_dimension
-unfolding unmarks
-unmarks_next rows a marker p = rw add-one
-
-module _ (A : Arithmetic) (off on : A.Carrier → A.Carrier → A.Carrier) (none : A.Carrier) (d : A.Carrier) where
-  pub steps_none : (sums part : List A.Carrier) → part ≡ steps A off on none d sums part 0
-  unfolding steps
-  steps_none sums part = refl
-
-  pub steps_next : (sums part : List A.Carrier) (p : ℕ)
-      → steps A off on none d sums part (p + 1) ≡ set (steps A off on none d sums part p) (p + 1) (off d (get_or sums p none))
-  unfolding steps
-  steps_next sums part p = rw add-one
-
-  pub step_sum_none : (weights sums : List A.Carrier) → A.zero ≡ step_sum A off on none d weights sums 0
-  unfolding step_sum
-  step_sum_none weights sums = refl
-
-  pub step_sum_next : (weights sums : List A.Carrier) (p : ℕ) → step_sum A off on none d weights sums (p + 1)
-      ≡ A.plus (step_sum A off on none d weights sums p) (A.times (get_or weights p none) (off d (get_or sums p none)))
-  unfolding step_sum
-  step_sum_next weights sums p = rw add-one

@@ -7,13 +7,15 @@ use mathlib.Core.List.{List, ◌++◌}
 use lib.ListN.{length}
 use lib.Dec.{ltb}
 use borrow.Author.Tests.{lt-ltb}
-use Rattle.refusal.specs.Steps.{Step, answered, refused, verdict, Passed, first_refused, first_passed, append-refused, first_hit, first_skip}
+use Rattle.refusal.specs.Steps.{Step, answered, refused, verdict, Passed}
+use Rattle.refusal.proofs.Steps.{first_refused, first_passed, append-refused, first_hit, first_skip}
 use Rattle.refusal.specs.Refusal.{refusal_number}
 use Rattle.refusal.specs.declared.Refusal.{Refusal}
 use Rattle.refusal.specs.Bounds.{max_dimension, max_entries}
 use Rattle.columns.specs.Columns.{bound_steps}
 use Rattle.diagnostics.specs.declared.SelectedInverseDiagnostics.{SelectedInverseDiagnostics}
-use Rattle.selection.specs.Selection.{Lent, room_of, selected_answer, filling_of, ResultLists, lists_refused}
+use Rattle.selection.specs.Selection.{Lent, room_of, selected_answer, filling_of, ResultLists}
+use Rattle.selection.proofs.Selection.{lists_refused}
 use Rattle.selection.specs.RequestSteps.{request_bound_steps}
 use Rattle.selection.specs.Call.{Call, selection_of, selected_steps}
 use Rattle.diagnostics.specs.declared.Selected.TheVariants.{Answered, Refused}

@@ -2,8 +2,9 @@
 -- Assumes nothing.
 use Rattle.std.specs.Prelude.{ℕ, ◌^◌, ◌≡◌, List, ℤ, pos}
 use Rattle.std.proofs.Common.{sym, ◌∙◌}
-use Rattle.refusal.specs.Steps.{Step, answered, Passed, first_passed}
-use Rattle.refusal.specs.Told.{told_passed, told_answer}
+use Rattle.refusal.specs.Steps.{Step, answered, Passed}
+use Rattle.refusal.proofs.Steps.{first_passed}
+use Rattle.refusal.proofs.Told.{told_passed, told_answer}
 use Rattle.diagnostics.specs.declared.SelectedInverseDiagnostics.{SelectedInverseDiagnostics}
 use Rattle.diagnostics.specs.declared.Selected.{Selected}
 use Rattle.diagnostics.specs.Selected.{selected_reply_of}
@@ -14,8 +15,10 @@ use Rattle.exact.specs.Factor.{factor}
 use Rattle.exact.specs.ExactCase.{ones}
 use Rattle.selection.specs.Selection.{Lent, room_of, selected_answer}
 use Rattle.selection.specs.Call.{Call, selection_of, selected_steps}
-use Rattle.exact_entries.specs.DyadicEntries.{DyadicCall, ReadsMultiples, dyadic_call}
-use Rattle.exact_entries.specs.ExactEntries.{ExactCall, ReadsBack, exact_call}
+use Rattle.exact_entries.specs.DyadicEntries.{DyadicCall, ReadsMultiples}
+use Rattle.exact_entries.proofs.DyadicEntries.{dyadic_call}
+use Rattle.exact_entries.specs.ExactEntries.{ExactCall, ReadsBack}
+use Rattle.exact_entries.proofs.ExactEntries.{exact_call}
 use Rattle.selected.specs.Selected.{SelectedEntries}
 
 module _ (x : Call) (lent : Lent) {reply : Selected} {left : Lent} (C : SelectedEntries x lent reply left) where

@@ -3,9 +3,11 @@
 -- Assumes nothing.
 use Rattle.std.specs.Prelude.{◌≡◌, refl, pos, negsuc, ◌*ℤ◌, Float}
 use Rattle.std.proofs.Common.{sym, ap, ◌∙◌}
-use Rattle.refusal.specs.Steps.{answered, first_passed}
+use Rattle.refusal.specs.Steps.{answered}
+use Rattle.refusal.proofs.Steps.{first_passed}
 use Rattle.exact.specs.Multiple.{Multiple, Whole}
-use Rattle.exact.specs.Examples.{f2_entries, f2_matrix, f2-inverse, sixteenths-diag, sixteenths, sixteenths-z, sixteenths_matrix, sixteenths-inverse}
+use Rattle.exact.specs.Examples.{f2_entries, f2_matrix, sixteenths-diag, sixteenths, sixteenths-z, sixteenths_matrix}
+use Rattle.exact.proofs.Examples.{f2-inverse, sixteenths-inverse}
 use Rattle.diagnostics.specs.Diagnosis.{diagnosis}
 use Rattle.diagnostics.specs.declared.SelectedInverseDiagnostics.{SelectedInverseDiagnostics}
 use Rattle.diagnostics.specs.declared.SelectedInverseStatus.TheVariants.{Complete}
@@ -14,9 +16,12 @@ use Rattle.diagnostics.specs.declared.Selected.TheVariants.{Answered}
 use Rattle.diagnostics.specs.Selected.{selected_reply_of}
 use Rattle.selection.specs.Selection.{room_of, selected_answer, Lent}
 use Rattle.selection.specs.Call.{selection_of, selected_steps}
-use Rattle.exact_entries.specs.Worked.{f2_lent, f2_found, F2ReadsBack, f2-call, f2_passed, f2-call_exact, f2_left, f2_answer, f2_below, f2_complete, f2_lists}
-use Rattle.exact_entries.specs.DyadicWorked.{sixteenths-call, sixteenths_passed, sixteenths-call_dyadic, sixteenths_left, sixteenths_lists, sixteenths_answer, sixteenths_below}
-use Rattle.exact_entries.specs.DyadicWorked.{sixteenths_complete, sixteenths_found, SixteenthsRead}
+use Rattle.exact_entries.specs.Worked.{f2_lent, f2_found, F2ReadsBack, f2-call, f2_lists}
+use Rattle.exact_entries.proofs.Worked.{f2_passed, f2-call_exact, f2_left, f2_answer, f2_below, f2_complete}
+use Rattle.exact_entries.specs.DyadicWorked.{sixteenths-call, sixteenths_lists}
+use Rattle.exact_entries.proofs.DyadicWorked.{sixteenths_passed, sixteenths-call_dyadic, sixteenths_left, sixteenths_answer, sixteenths_below}
+use Rattle.exact_entries.specs.DyadicWorked.{sixteenths_found, SixteenthsRead}
+use Rattle.exact_entries.proofs.DyadicWorked.{sixteenths_complete}
 use Rattle.selected.specs.Selected.{SelectedEntries}
 use Rattle.selected.specs.ExactReply.{passed_reply, exact_reply, dyadic_reply}
 

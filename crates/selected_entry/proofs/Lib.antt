@@ -1,2 +1,3 @@
 -- What the proof of the one function rests on.
 pub mod Read
+pub mod Worked

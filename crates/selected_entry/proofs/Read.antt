@@ -9,7 +9,7 @@ use lib.ListN.{length, take, drop}
 use lib.Ieee.{Float}
 use borrow.Author.Tests.{leb-true, leb-false}
 use Rattle.refusal.specs.Steps.{Step, Reply, refused, verdict, Passed}
-use Rattle.refusal.specs.Told.{told-refused, told_passed, told_answer}
+use Rattle.refusal.proofs.Told.{told-refused, told_passed, told_answer}
 use Rattle.refusal.specs.Bounds.{max_dimension}
 use Rattle.refusal.specs.declared.Refusal.{Refusal}
 use Rattle.diagnostics.specs.declared.SelectedInverseDiagnostics.{SelectedInverseDiagnostics}
@@ -19,14 +19,16 @@ use Rattle.result.specs.Lookup.{lookup}
 use Rattle.lookup.specs.Reply.{entry_reply}
 use Rattle.lookup.specs.declared.ordered.Entry.{Entry}
 use Rattle.selection.specs.Selection.{Lent, room_of, selected_complete, selected_answer, ResultLists, filling_of}
-use Rattle.selection.specs.Call.{Call, selection_of, selected_steps, accepted}
-use Rattle.selection.specs.Status.{status_tells, selected_complete_lem}
+use Rattle.selection.specs.Call.{Call, selection_of, selected_steps}
+use Rattle.selection.proofs.Call.{accepted}
+use Rattle.selection.proofs.Status.{status_tells, selected_complete_lem}
 use Rattle.selected.specs.Selected.{SelectedEntries}
 use Rattle.diagnostics.specs.declared.Selected.{Selected}
 use Rattle.diagnostics.specs.declared.Selected.TheVariants as reply
-use Rattle.exact_entries.specs.Recurrence.{found, found_entries}
-use Rattle.exact_entries.specs.DyadicEntries.{dyadic_call}
-use Rattle.exact_entries.specs.ExactEntries.{exact_call}
+use Rattle.exact_entries.specs.Recurrence.{found}
+use Rattle.exact_entries.proofs.Recurrence.{found_entries}
+use Rattle.exact_entries.proofs.DyadicEntries.{dyadic_call}
+use Rattle.exact_entries.proofs.ExactEntries.{exact_call}
 use Rattle.selected_entry.specs.declared.SelectedEntry.TheVariants.{Found, ClosureTooLarge, Refused}
 use Rattle.selected_entry.specs.declared.SelectedEntry.{SelectedEntry}
 use Rattle.selected_entry.specs.SelectedEntry.{refused_with, too_large, looked, entry_answer, ReadEntry, LookUpInput, LookedAt, LookUpResult}

@@ -2,7 +2,6 @@
 pub mod RequestSteps
 pub mod Diagnosis
 pub mod Selection
-pub mod Status
 pub mod Call
 pub mod LdlCall
 pub mod SamePositions

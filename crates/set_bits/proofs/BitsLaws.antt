@@ -9,7 +9,8 @@ use mathlib.Core.List.{List}
 use lib.Dec.{eqb}
 use lib.ListN.{length, get_or}
 use Rattle.lists.specs.Select.{tally, select_cong, tally_join, tally_mono}
-use Rattle.bits.specs.Bits.{digit, bit_at, bit_words, bit-clear, bit_shifted}
+use Rattle.bits.specs.Bits.{digit, bit_at, bit_words}
+use Rattle.bits.proofs.Bits.{bit-clear, bit_shifted}
 use Rattle.set_bits.specs.Zeros.{Zeros}
 use Rattle.set_bits.specs.Listed.{NumbersListed}
 use Rattle.set_bits.proofs.ListedLaws.{listed_none, listed_cong, listed_gap, listed_join}

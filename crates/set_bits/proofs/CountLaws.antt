@@ -12,7 +12,8 @@ use lib.ListN.{get_or}
 use lib.Pow.{shr_lt}
 use Rattle.lists.specs.Sum.{bit, sum_to, sum_to_none, sum_to_add, sum_to_eq}
 use Rattle.lists.specs.Select.{tally, tally_sum, tally_join, tally_none, tally_most}
-use Rattle.bits.specs.Bits.{digit, digit_shift, bit_at, bit_words, bit_shifted}
+use Rattle.bits.specs.Bits.{digit, bit_at, bit_words}
+use Rattle.bits.proofs.Bits.{digit_shift, bit_shifted}
 use Rattle.set_bits.specs.Counted.{digit_test}
 
 single : (f : ℕ → ℕ) → sum_to f 1 ≡ f 0

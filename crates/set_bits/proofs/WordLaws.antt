@@ -10,7 +10,8 @@ use lib.Dec.{eqb}
 use lib.ListN.{length, set}
 use lib.Pow.{shr-shr}
 use borrow.Author.Tests.{eq-eqb}
-use Rattle.bits.specs.Bits.{digit, digit_zero, digit_shift, Lowest}
+use Rattle.bits.specs.Bits.{digit, Lowest}
+use Rattle.bits.proofs.Bits.{digit_zero, digit_shift}
 use Rattle.set_bits.specs.Listed.{NumbersListed}
 use Rattle.set_bits.proofs.ListedLaws.{listed_none, listed_gap, listed_room, listed_more}
 use Rattle.set_bits.specs.WordNumbers.{word_test, ListWordInput}

@@ -1,4 +1,3 @@
 -- The recurrence of Takahashi, Fagan and Chin for entries of an inverse.
-pub mod Choice
 pub mod Entries
 pub mod Recurrence

@@ -4,6 +4,4 @@ pub mod Sizes
 pub mod Close
 pub mod Slots
 pub mod Laws
-pub mod Promise
 pub mod Exact
-pub mod Worked

@@ -2,7 +2,5 @@
 pub mod Ranges
 pub mod Sizes
 pub mod Repeats
-pub mod Laws
 pub mod Promise
 pub mod Exact
-pub mod Worked

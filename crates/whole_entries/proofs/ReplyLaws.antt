@@ -15,17 +15,20 @@ use Rattle.refusal.specs.Bounds.{max_dimension, max_entries}
 use Rattle.refusal.specs.Refusal.{refusal_number}
 use Rattle.refusal.specs.declared.Refusal.{Refusal}
 use Rattle.refusal.specs.declared.Refusal.TheVariants.{NumberTooLarge}
-use Rattle.refusal.specs.Steps.{Step, Passed, refused, verdict, settle, after, first_hit, first_skip, append-refused, append_passed, first_passed, after_passed, after_refused, clear_passed}
-use Rattle.pairs.specs.Pair.{pair_total, pair_total_small}
-use Rattle.pairs.specs.Scratch.{queue_start, scratch_words_queue, scratch_words_room}
+use Rattle.refusal.specs.Steps.{Step, Passed, refused, verdict, settle, after}
+use Rattle.refusal.proofs.Steps.{first_hit, first_skip, append-refused, append_passed, first_passed, after_passed, after_refused, clear_passed}
+use Rattle.pairs.specs.Pair.{pair_total}
+use Rattle.pairs.proofs.Pair.{pair_total_small}
+use Rattle.pairs.specs.Scratch.{queue_start}
+use Rattle.pairs.proofs.Scratch.{scratch_words_queue, scratch_words_room}
 use Rattle.pairs.specs.ColumnOrder.{column_marking, set_size}
 use Rattle.columns.specs.Columns.{bound_steps}
 use Rattle.columns.specs.Kept.{factor_pairs}
 use Rattle.columns.specs.WholeFactor.{whole_nonzero}
-use Rattle.closed_set.specs.FactorPattern.{factor_pattern}
-use Rattle.closed_set.specs.KeptSet.{factor_pairs_most}
-use Rattle.closed_set.specs.Size.{closure_size_most}
-use Rattle.closure_route.specs.Members.{marked_size, marked_closed}
+use Rattle.closed_set.proofs.FactorPattern.{factor_pattern}
+use Rattle.closed_set.proofs.KeptSet.{factor_pairs_most}
+use Rattle.closed_set.proofs.Size.{closure_size_most}
+use Rattle.closure_route.proofs.Members.{marked_size, marked_closed}
 use Rattle.diagnostics.specs.Diagnosis.{max_count}
 use Rattle.diagnostics.specs.Selected.{selected_reply_of}
 use Rattle.diagnostics.specs.declared.SelectedInverseDiagnostics.{SelectedInverseDiagnostics}
@@ -33,15 +36,16 @@ use Rattle.diagnostics.specs.declared.SelectedInverseStatus.{SelectedInverseStat
 use Rattle.diagnostics.specs.declared.SelectedInverseStatus.TheVariants.{Complete, ClosureTooLarge}
 use Rattle.diagnostics.specs.declared.Selected.{Selected}
 use Rattle.diagnostics.specs.declared.Selected.TheVariants.{Answered, Refused}
-use Rattle.entries.specs.Position.{entry_starts_cong, entry_rows_cong, entry_values_cong}
+use Rattle.entries.proofs.Position.{entry_starts_cong, entry_rows_cong, entry_values_cong}
 use Rattle.entries.specs.WholeTable.{exceeds}
 use Rattle.marked_pairs.specs.MarkedPairs.{MarkedPairs}
 use Rattle.closure.specs.Closure.{ClosureInput, Requested, Closing, Diagnoses}
 use Rattle.closure.specs.Nested.{Unlisted}
 use Rattle.selection.specs.Diagnosis.{diagnosis_of}
 use Rattle.selection.specs.RequestSteps.{request_bound_steps}
-use Rattle.selection.specs.Selection.{scratch_words, cleared_same, filled_starts, filled_rows, filled_values}
-use Rattle.selection.specs.Status.{diagnosis_tells}
+use Rattle.selection.specs.Selection.{scratch_words, filled_starts, filled_rows, filled_values}
+use Rattle.selection.proofs.Selection.{cleared_same}
+use Rattle.selection.proofs.Status.{diagnosis_tells}
 use Rattle.whole_selection.specs.Call.{WholeCall, WholeLent, whole_lent, whole_room_of, work_places, whole_requests, whole_descendants, whole_set, whole_size, whole_complete, whole_answer, whole_filling, check_steps, exceed_steps, whole_steps, WholeEntries}
 use Rattle.whole_selection.specs.Accepted.{WholeAccepted}
 use Rattle.whole_entries.specs.Filling.{CompleteInput, CompleteDone, Uncleared}

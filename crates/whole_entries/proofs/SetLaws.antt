@@ -11,17 +11,21 @@ use lib.IntN.{ℤ, pos}
 use Rattle.lists.specs.Test.{any, any_in, any_cong}
 use Rattle.lists.specs.Tabulate.{tabulate, tabulate_at, tabulate-length}
 use Rattle.lists.specs.Overwrite.{overwrite, overwrite_at, filled}
-use Rattle.pairs.specs.ColumnOrder.{column_marking, set_size, set_size_cong}
+use Rattle.pairs.specs.ColumnOrder.{column_marking, set_size}
+use Rattle.pairs.proofs.ColumnOrder.{set_size_cong}
 use Rattle.takahashi.specs.Entries.{Entry}
 use Rattle.columns.specs.Columns.{FactorLists}
 use Rattle.columns.specs.WholeFactor.{whole_value, whole_nonzero, whole_desc}
-use Rattle.closed_set.specs.FactorPattern.{factor_pattern}
+use Rattle.closed_set.proofs.FactorPattern.{factor_pattern}
 use Rattle.exact.specs.Exceeds.{entry_exceeds, set_exceeds}
-use Rattle.entries.specs.Entries.{entry_values, entry_values-length}
-use Rattle.entries.specs.Position.{column_count_cong, position_cong, entry_starts_cong, entry_rows_cong, entry_values_cong}
-use Rattle.entries.specs.WholeTable.{whole_table, kept_exceeds, exceeds, kept_exceeds_none}
+use Rattle.entries.specs.Entries.{entry_values}
+use Rattle.entries.proofs.Entries.{entry_values-length}
+use Rattle.entries.proofs.Position.{column_count_cong, position_cong, entry_starts_cong, entry_rows_cong, entry_values_cong}
+use Rattle.entries.specs.WholeTable.{whole_table, kept_exceeds, exceeds}
+use Rattle.entries.proofs.WholeTable.{kept_exceeds_none}
 use Rattle.marked_pairs.specs.MarkedPairs.{ColumnsReached}
-use Rattle.layout.specs.Layout.{LayOutInput, LaidOut, LayFirstsInput, FirstsLaid, marks_same}
+use Rattle.layout.specs.Layout.{LayOutInput, LaidOut, LayFirstsInput, FirstsLaid}
+use Rattle.layout.proofs.Layout.{marks_same}
 use Rattle.whole_route.specs.Route.{WholeRouteInput, RouteDone}
 use Rattle.whole_selection.specs.Call.{WholeLent, whole_lent}
 use Rattle.whole_entries.specs.Filling.{SetInput, SetDone, CompleteInput, CompleteDone}

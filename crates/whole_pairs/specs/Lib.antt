@@ -1,4 +1,3 @@
 -- Pairs of a result of whole numbers: the entry, and 8 and 20 of many pairs.
 pub mod Worst
-pub mod Faults
 pub mod Entry

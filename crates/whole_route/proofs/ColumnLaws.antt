@@ -16,7 +16,7 @@ use Rattle.columns.specs.Columns.{start}
 use Rattle.columns.specs.WholeFactor.{whole_desc}
 use Rattle.exact.specs.Exceeds.{entry_exceeds, set_exceeds}
 use Rattle.entries.specs.Entries.{column_count, position}
-use Rattle.entries.specs.Position.{select-tally, column_count_next, column_count_none, column_count_mono, position_found, position_in, position_below, entry_values-overwrite}
+use Rattle.entries.proofs.Position.{select-tally, column_count_next, column_count_none, column_count_mono, position_found, position_in, position_below, entry_values-overwrite}
 use Rattle.entries.specs.WholeTable.{whole_table}
 use Rattle.layout.specs.ColumnRows.{column_test, ListColumnInput, ColumnListed}
 use Rattle.whole_route.specs.ColumnSums.{MostFrom, SizesWithin}

@@ -14,9 +14,10 @@ use lib.IntN.{ℤ, pos, nat_abs, ◌+ℤ◌, ◌*ℤ◌, +ℤ_idl, +ℤ_idr, zer
 use borrow.Author.Tests.{lt-ltb, le-ltb, ltb-true, eqb-true}
 use Rattle.lists.specs.Test.{and_left, and_both}
 use Rattle.lists.specs.Select.{one}
-use Rattle.integers.specs.Integer.{nat_abs_zero}
-use Rattle.integers.specs.Sum.{Σℤ, sum_cong, sum_zero, sum_add}
-use Rattle.integers.specs.Size.{size_sums}
+use Rattle.integers.proofs.Integer.{nat_abs_zero}
+use Rattle.integers.specs.Sum.{Σℤ}
+use Rattle.integers.proofs.Sum.{sum_cong, sum_zero, sum_add}
+use Rattle.integers.proofs.Size.{size_sums}
 use Rattle.refusal.specs.Steps.{refused, answered}
 use Rattle.pairs.specs.Scratch.{queue_start}
 use Rattle.pairs.specs.ColumnOrder.{col_start}
@@ -27,7 +28,8 @@ use Rattle.columns.specs.Kept.{kept_below}
 use Rattle.columns.specs.Factor.{FirstFrom}
 use Rattle.columns.specs.WholeFactor.{not_zero, whole_value, whole_nonzero, whole_stored}
 use Rattle.exact.specs.Multiple.{Small}
-use Rattle.exact.specs.Checked.{beyond, small_within, checked_run}
+use Rattle.exact.specs.Checked.{beyond, checked_run}
+use Rattle.exact.proofs.Checked.{small_within}
 use Rattle.closure_route.proofs.StoredLaws.{later_row, first_less}
 use Rattle.whole_route.specs.Sums.{with_entry, whole_sum}
 use Rattle.whole_route.proofs.SumLaws.{sum_none, sum_next}

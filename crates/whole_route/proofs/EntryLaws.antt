@@ -17,18 +17,23 @@ use Rattle.pairs.specs.ColumnOrder.{column_marking}
 use Rattle.columns.specs.Columns.{start, row}
 use Rattle.columns.specs.Kept.{kept_below, desc_places}
 use Rattle.columns.specs.Factor.{Factor}
-use Rattle.columns.specs.Pattern.{kept_below_kept}
+use Rattle.columns.proofs.Pattern.{kept_below_kept}
 use Rattle.columns.specs.WholeFactor.{whole_nonzero, whole_stored, whole_desc}
-use Rattle.takahashi.specs.Entries.{Each, Ascend, each_of_rows, ascend_rows}
-use Rattle.takahashi.specs.Recurrence.{at, at_sym, at_lower, run_each, dot, Lower, Solves}
+use Rattle.takahashi.specs.Entries.{Each, Ascend}
+use Rattle.takahashi.proofs.Entries.{each_of_rows, ascend_rows}
+use Rattle.takahashi.specs.Recurrence.{at, dot, Lower, Solves}
+use Rattle.takahashi.proofs.Recurrence.{at_sym, at_lower, run_each}
 use Rattle.exact.specs.Multiple.{Small}
 use Rattle.exact.specs.Exact.{integers}
-use Rattle.exact.specs.ExactCase.{ones, unit_off, unit_on, unit_table, unit_solves}
-use Rattle.exact.specs.Checked.{beyond, sum_exceeds, checked-run, checked_each}
+use Rattle.exact.specs.ExactCase.{ones, unit_off, unit_on, unit_table}
+use Rattle.exact.proofs.ExactCase.{unit_solves}
+use Rattle.exact.specs.Checked.{beyond, sum_exceeds}
+use Rattle.exact.proofs.Checked.{checked-run, checked_each}
 use Rattle.exact.specs.Exceeds.{entry_exceeds}
 use Rattle.entries.specs.Entries.{position}
-use Rattle.entries.specs.Position.{column_count_mono, position_in, position_below, position_rises}
-use Rattle.entries.specs.WholeTable.{whole_table, whole_desc-ascend}
+use Rattle.entries.proofs.Position.{column_count_mono, position_in, position_below, position_rises}
+use Rattle.entries.specs.WholeTable.{whole_table}
+use Rattle.entries.proofs.WholeTable.{whole_desc-ascend}
 use Rattle.whole_route.specs.Sums.{whole_inverse_at, whole_sum, WholeSumInput}
 use Rattle.whole_route.proofs.PairLaws.{Kept, row_below, column, row_inside, pair_member, read_place}
 use Rattle.whole_route.specs.Route.{last_step, EntryInput}

@@ -10,7 +10,7 @@ use mathlib.Core.List.{List, map}
 use lib.ListN.{length, get_or}
 use lib.IntN.{ℤ, pos, nat_abs}
 use Rattle.lists.specs.Select.{one}
-use Rattle.integers.specs.Integer.{nat_abs_*}
+use Rattle.integers.proofs.Integer.{nat_abs_*}
 use Rattle.refusal.specs.Steps.{Reply, answered}
 use Rattle.pairs.specs.ColumnOrder.{column_marking, set_size}
 use Rattle.columns.specs.Columns.{row}
@@ -19,7 +19,7 @@ use Rattle.columns.specs.Factor.{Column}
 use Rattle.columns.specs.WholeFactor.{whole_value, whole_nonzero, whole_stored}
 use Rattle.exact.specs.Checked.{plus_product, checked_run}
 use Rattle.entries.specs.Entries.{position}
-use Rattle.entries.specs.Position.{column_count_mono, position_rises}
+use Rattle.entries.proofs.Position.{column_count_mono, position_rises}
 use Rattle.whole_route.specs.Sums.{whole_inverse_at, with_entry, whole_sum}
 use Rattle.whole_route.specs.Route.{RowsInput}
 use Rattle.whole_route.specs.ColumnSums.{ColumnSums, column_sums, factor_place, BelowAt, CountsAt, WholeSumsInput, SumsDone, SizesWithin, SumsFit, MostFrom, sum_of, Summed}

@@ -15,12 +15,14 @@ use Rattle.pairs.specs.ColumnOrder.{column_marking, set_size}
 use Rattle.pairs.specs.Positions.{position_at}
 use Rattle.columns.specs.Columns.{start, row}
 use Rattle.columns.specs.Kept.{kept_below, pattern}
-use Rattle.columns.specs.Factor.{Column, factor_column}
-use Rattle.columns.specs.Pattern.{pattern_at}
+use Rattle.columns.specs.Factor.{Column}
+use Rattle.columns.proofs.Factor.{factor_column}
+use Rattle.columns.proofs.Pattern.{pattern_at}
 use Rattle.columns.specs.WholeFactor.{whole_nonzero}
-use Rattle.closed_set.specs.ClosedSet.{descends, descends_at}
+use Rattle.closed_set.specs.ClosedSet.{descends}
+use Rattle.closed_set.proofs.ClosedSet.{descends_at}
 use Rattle.entries.specs.Entries.{column_count, position}
-use Rattle.entries.specs.Position.{column_count_mono, position_below}
+use Rattle.entries.proofs.Position.{column_count_mono, position_below}
 use Rattle.whole_route.specs.Route.{WholeSet}
 
 module _ {n : ℕ} {starts rows : List ℕ} {values : List ℤ} {scratch : List ℕ} (W : WholeSet n starts rows values scratch) where

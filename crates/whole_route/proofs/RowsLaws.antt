@@ -10,15 +10,18 @@ use lib.ListN.{length, get_or, length-set}
 use lib.Seq.{get_or-set_same, get_or-set_other}
 use lib.IntN.{ℤ, pos}
 use Rattle.lists.specs.Test.{any_in_all, any_in-hit, and_both, or_neither_left}
-use Rattle.pairs.specs.ColumnOrder.{column_marking, set_size_most}
-use Rattle.pairs.specs.Pair.{max_pairs, pair_total_small}
-use Rattle.columns.specs.Factor.{neither_below}
+use Rattle.pairs.specs.ColumnOrder.{column_marking}
+use Rattle.pairs.proofs.ColumnOrder.{set_size_most}
+use Rattle.pairs.specs.Pair.{max_pairs}
+use Rattle.pairs.proofs.Pair.{pair_total_small}
+use Rattle.columns.proofs.Factor.{neither_below}
 use Rattle.columns.specs.WholeFactor.{whole_desc}
 use Rattle.exact.specs.Multiple.{Small}
-use Rattle.exact.specs.Checked.{beyond, within_small}
+use Rattle.exact.specs.Checked.{beyond}
+use Rattle.exact.proofs.Checked.{within_small}
 use Rattle.exact.specs.Exceeds.{entry_exceeds}
 use Rattle.entries.specs.Entries.{column_count, position}
-use Rattle.entries.specs.Position.{column_count_mono, position_in, position_below, position_rises}
+use Rattle.entries.proofs.Position.{column_count_mono, position_in, position_below, position_rises}
 use Rattle.entries.specs.WholeTable.{whole_table}
 use Rattle.refusal.specs.Steps.{answered}
 use Rattle.whole_route.specs.Sums.{whole_inverse_at, whole_sum}

@@ -12,8 +12,10 @@ use Rattle.refusal.specs.Steps.{Reply, refused, answered}
 use Rattle.columns.specs.Columns.{row}
 use Rattle.columns.specs.Kept.{kept_below}
 use Rattle.takahashi.specs.Entries.{Entry}
-use Rattle.exact.specs.Checked.{beyond, within_small}
-use Rattle.exact.specs.Checked.{plus_product, checked_run, checked_dot, checked-append}
+use Rattle.exact.specs.Checked.{beyond}
+use Rattle.exact.proofs.Checked.{within_small}
+use Rattle.exact.specs.Checked.{plus_product, checked_run, checked_dot}
+use Rattle.exact.proofs.Checked.{checked-append}
 use Rattle.columns.specs.WholeFactor.{whole_value, whole_nonzero, whole_stored}
 use Rattle.whole_route.specs.Sums.{with_entry, whole_sum, TermInput, WholeSumInput}
 use Rattle.whole_route.specs.Number.{SmallNumber}

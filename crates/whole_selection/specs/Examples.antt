@@ -27,42 +27,42 @@ use Rattle.selection.specs.Selection.{room_steps}
 use Rattle.whole_selection.specs.Call.{WholeCall, WholeRoom, whole_call, whole_room, whole_answer, work_steps, check_steps, exceed_steps, whole_steps}
 
 -- what a call replies whose lists have these lengths
-abbrev reply_in : WholeCall → WholeRoom → Reply SelectedInverseDiagnostics
+abbrev pub reply_in : WholeCall → WholeRoom → Reply SelectedInverseDiagnostics
 reply_in x lengths = first (whole_steps x lengths) (whole_answer x)
 
 -- F2 with l below the diagonal, a request and a limit, in lists that are long enough
-abbrev f2-call : ℤ → ℕ → ℕ → ℕ → WholeCall
+abbrev pub f2-call : ℤ → ℕ → ℕ → ℕ → WholeCall
 f2-call l row col limit = whole_call 2 f2_starts f2_rows (pos 1 ∷ l ∷ pos 1 ∷ []) 2 (row ∷ []) (col ∷ []) limit
 
-abbrev f2-reply : ℤ → ℕ → ℕ → ℕ → Reply SelectedInverseDiagnostics
+abbrev pub f2-reply : ℤ → ℕ → ℕ → ℕ → Reply SelectedInverseDiagnostics
 f2-reply l row col limit = reply_in (f2-call l row col limit) (whole_room 3 3 3 12 3)
 
 -- a factor of n columns with this request and limit, in lists of T places and so many words of scratch
-abbrev worked : ℕ → List ℕ → List ℕ → List ℤ → ℕ → ℕ → ℕ → ℕ → ℕ → Reply SelectedInverseDiagnostics
+abbrev pub worked : ℕ → List ℕ → List ℕ → List ℤ → ℕ → ℕ → ℕ → ℕ → ℕ → Reply SelectedInverseDiagnostics
 worked n starts rows values row col limit total words = reply_in (whole_call n starts rows values n (row ∷ []) (col ∷ []) limit) (whole_room (n + 1) total total words total)
 
 -- Z(3, 1) = -5, Z(3, 2) = z, and Z(3, 0) from them with 1 and 3
-abbrev product-of : ℤ → Reply SelectedInverseDiagnostics
+abbrev pub product-of : ℤ → Reply SelectedInverseDiagnostics
 product-of z =
     worked 4 (0 ∷ 3 ∷ 5 ∷ 7 ∷ 8 ∷ []) (0 ∷ 1 ∷ 2 ∷ 1 ∷ 3 ∷ 2 ∷ 3 ∷ 3 ∷ [])
     (pos 1 ∷ pos 1 ∷ pos 3 ∷ pos 1 ∷ pos 5 ∷ pos 1 ∷ neg_ℤ z ∷ pos 1 ∷ []) 3 0 4 10 27
 
 -- Z(4, 0) is minus the sum of 2 ^ 53, a and b in this order
-abbrev sum_of : ℤ → ℤ → Reply SelectedInverseDiagnostics
+abbrev pub sum_of : ℤ → ℤ → Reply SelectedInverseDiagnostics
 sum_of a b =
     worked 5 (0 ∷ 4 ∷ 6 ∷ 8 ∷ 10 ∷ 11 ∷ []) (0 ∷ 1 ∷ 2 ∷ 3 ∷ 1 ∷ 4 ∷ 2 ∷ 4 ∷ 3 ∷ 4 ∷ 4 ∷ [])
     (pos 1 ∷ pos 1 ∷ pos 1 ∷ pos 1 ∷ pos 1 ∷ negsuc (2 ^ 53 - 1) ∷ pos 1 ∷ neg_ℤ a ∷ pos 1 ∷ neg_ℤ b ∷ pos 1 ∷ []) 4 0 5 15 36
 
 -- F3 with these below its first diagonal: Z(0, 0) = 1 + a * a + b * b
-abbrev entry_of : ℕ → ℕ → Reply SelectedInverseDiagnostics
+abbrev pub entry_of : ℕ → ℕ → Reply SelectedInverseDiagnostics
 entry_of a b = worked 3 (0 ∷ 3 ∷ 4 ∷ 5 ∷ []) (0 ∷ 1 ∷ 2 ∷ 1 ∷ 2 ∷ []) (pos 1 ∷ pos a ∷ pos b ∷ pos 1 ∷ pos 1 ∷ []) 0 0 6 6 19
 
 -- n = 2 with an entry above the diagonal of column 1, below nothing
-abbrev above : ℤ → Reply SelectedInverseDiagnostics
+abbrev pub above : ℤ → Reply SelectedInverseDiagnostics
 above l = worked 2 (0 ∷ 1 ∷ 3 ∷ []) (0 ∷ 0 ∷ 1 ∷ []) (pos 1 ∷ l ∷ pos 1 ∷ []) 1 1 3 3 12
 
 -- n = 2 with one entry a column: row 1 in column 0, and this diagonal in column 1
-abbrev no_first : ℤ → ℕ → Reply SelectedInverseDiagnostics
+abbrev pub no_first : ℤ → ℕ → Reply SelectedInverseDiagnostics
 no_first d = λ request. worked 2 (0 ∷ 1 ∷ 2 ∷ []) (1 ∷ 1 ∷ []) (pos 1 ∷ d ∷ []) request 1 3 3 12
 
 pub record Replies : Type 0 where
@@ -102,35 +102,3 @@ pub record Replies : Type 0 where
   pub work_short : reply_in (f2-call (pos (2 ^ 53 + 1)) 0 0 3) (whole_room 3 3 3 12 2) ≡ refused 7
   -- the lesser of limit and T is enough
   pub work_least : reply_in (f2-call (pos 2) 1 1 1) (whole_room 3 1 1 12 1) ≡ answered (diagnosis 1 1 3 1 Complete)
-
-pub replies : Replies
-unfolding any any_in sum_to picked select cell_count factor_pairs reach member requested diagnosis_of
-    first pair_total bit_words scratch_words bound_steps broken_steps starts_steps rows_steps column_steps request_steps unit_steps missing_steps room_steps work_steps
-    check_steps exceed_steps set_exceeds whole_table
-replies = record {
-  f2_first = refl;
-  f2_limited = refl;
-  kept_alone = refl;
-  kept_alone_below = refl;
-  kept_edge = refl;
-  kept_edge_below = refl;
-  kept_limited = refl;
-  none_asked = refl;
-  entry_edge = refl;
-  entry_edge_below = refl;
-  product_alone = refl;
-  product_within = refl;
-  sum_alone = refl;
-  sum_within = refl;
-  entry_alone = refl;
-  entry_within = refl;
-  above_dropped = refl;
-  five_first = refl;
-  nineteen_first = refl;
-  six_left = refl;
-  nineteen_negative = refl;
-  starts_short = refl;
-  scratch_short = refl;
-  work_short = refl;
-  work_least = refl;
-}

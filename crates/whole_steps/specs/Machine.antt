@@ -7,9 +7,11 @@ use Rattle.std.specs.Int.Signed.{lt_z}
 use Rattle.std.specs.Int.{w64}
 use Rattle.std.proofs.lemmas.Int.{to_z-of_z}
 use Rattle.lists.specs.Test.{same_truth}
-use Rattle.integers.specs.Integer.{nat_abs_zero}
-use Rattle.integers.specs.Size.{SizeWithin, size_fits, size_more, size_is}
-use Rattle.columns.specs.WholeFactor.{is_one, one_is}
+use Rattle.integers.proofs.Integer.{nat_abs_zero}
+use Rattle.integers.specs.Size.{SizeWithin}
+use Rattle.integers.proofs.Size.{size_fits, size_more, size_is}
+use Rattle.columns.specs.WholeFactor.{is_one}
+use Rattle.columns.proofs.WholeFactor.{one_is}
 
 -- z, known to be y, fits
 pub fits_as : {z y : ℤ} {k : ℕ} → k ≤ 4611686018427387904 → z ≡ y → SizeWithin k y → SFits w64 z

@@ -1,7 +1,7 @@
 use mathlib.Core.Path.{◌≡◌, refl, ◌∙◌}
 use Rattle.columns.specs.Form.{form_of, divisor}
 use Rattle.exact.specs.PivotCase.{step_below, step_on}
-use Rattle.entries.specs.Descendants.{told_solves}
+use Rattle.entries.proofs.Descendants.{told_solves}
 use Rattle.closure_route.specs.Route.{RouteLists, route_lists}
 use Rattle.closure_route.proofs.LastStepLaws.{Ends, ends_read, sums_at, part_at, diagonal_at, solved_empty, solved_at}
 use Rattle.closure_route.proofs.takahashi_column.Goals as goal

@@ -3,8 +3,9 @@ use native.Mathlib.Nat.{add-zero}
 use lib.ListN.{length-drop}
 use lib.Seq.{length-take-le}
 use Rattle.refusal.specs.Steps.{answered}
-use Rattle.result.specs.Place.{sought_none, sought_here, sought_below, sought_above, part_rest, ascending-take, ascending-drop}
-use Rattle.result.specs.Looks.{looks, looks_none, looks_first, looks-middle, looks_below, looks_above}
+use Rattle.result.proofs.Place.{sought_none, sought_here, sought_below, sought_above, part_rest, ascending-take, ascending-drop}
+use Rattle.result.specs.Looks.{looks}
+use Rattle.result.proofs.Looks.{looks_none, looks_first, looks-middle, looks_below, looks_above}
 use Rattle.column_search.proofs.+search.Goals as goal
 
 -- the looks at a part whose first row is not r, nor its middle one

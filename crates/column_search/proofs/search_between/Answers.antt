@@ -3,8 +3,9 @@ use native.Mathlib.Omega.{arith}
 use mathlib.Core.Path.{◌≡◌, ◌∙◌}
 use lib.ListN.{take, drop, length-drop, length}
 use lib.Seq.{length-take-le}
-use Rattle.result.specs.Place.{ascends_part, sought-part}
-use Rattle.result.specs.Looks.{looks, looks_bounded}
+use Rattle.result.proofs.Place.{ascends_part, sought-part}
+use Rattle.result.specs.Looks.{looks}
+use Rattle.result.proofs.Looks.{looks_bounded}
 use Rattle.column_search.proofs.search_between.Goals as goal
 
 pub search-requires : goal.search-requires

@@ -8,16 +8,17 @@ use lib.Ieee.{Float}
 use Rattle.lists.specs.Overwrite.{overwrite, filled-length}
 use Rattle.refusal.specs.Steps.{Step, Passed}
 use Rattle.refusal.specs.Refusal.{reply_of}
-use Rattle.pairs.specs.Scratch.{scratch_words_room}
+use Rattle.pairs.proofs.Scratch.{scratch_words_room}
 use Rattle.columns.specs.Operator.{OperatorRows}
 use Rattle.diagnostics.specs.declared.SelectedInverseDiagnostics.{SelectedInverseDiagnostics}
 use Rattle.diagnostics.specs.declared.SelectedInverseStatus.TheVariants.{Complete, ClosureTooLarge}
 use Rattle.selection.specs.Selection.{Lent, lists, room_of, selected_complete, selected_answer}
-use Rattle.selection.specs.Status.{status_tells}
+use Rattle.selection.proofs.Status.{status_tells}
 use Rattle.fill.specs.Fill.{marked_are, marked_input, marked_answer, marked_lists, fills_lists_limit}
 use Rattle.covariances.specs.Covariances.{CovarianceCall, operator, covariance_call, covariance_selection, covariance_steps, covariance_values}
-use Rattle.covariances.specs.Covariances.{AcceptedCovariances, covariance_accepted}
-use Rattle.operator_values.specs.Output.{output-refused, output-large, output_within}
+use Rattle.covariances.specs.Covariances.{AcceptedCovariances}
+use Rattle.covariances.proofs.Covariances.{covariance_accepted}
+use Rattle.operator_values.proofs.Output.{output-refused, output-large, output_within}
 use Rattle.covariances.proofs.Reply.{covariance_reading, covariance_written}
 use Rattle.covariances.proofs.selected_inverse_transformed_covariances.Goals as goal
 

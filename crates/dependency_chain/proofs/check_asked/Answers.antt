@@ -1,12 +1,13 @@
 use mathlib.Core.Path.{ap, sym, ◌∙◌}
 use lib.ListN.{length}
 use mathlib.Core.List.{◌++◌}
-use Rattle.refusal.specs.Steps.{append-refused, append_passed, passed_front}
-use Rattle.refusal.specs.FirstOf.{verdicts}
+use Rattle.refusal.proofs.Steps.{append-refused, append_passed, passed_front}
+use Rattle.refusal.proofs.FirstOf.{verdicts}
 use Rattle.refusal.specs.Refusal.{reply_of}
 use Rattle.columns.specs.Columns.{bound_steps, factor_lists}
-use Rattle.columns.specs.Factor.{bound_steps-sound}
-use Rattle.columns.specs.Stored.{stored_steps, stored_steps-sound}
+use Rattle.columns.proofs.Factor.{bound_steps-sound}
+use Rattle.columns.specs.Stored.{stored_steps}
+use Rattle.columns.proofs.Stored.{stored_steps-sound}
 use Rattle.columns.specs.Diagonal.{diagonal_steps}
 use Rattle.selection.specs.RequestSteps.{request_bound_steps, request_steps}
 use Rattle.dependency_chain.specs.Chain.{seek_steps, asked_steps}

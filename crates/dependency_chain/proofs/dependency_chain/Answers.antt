@@ -4,7 +4,8 @@ use lib.ListN.{length}
 use mathlib.Core.Path.{subst₂}
 use Rattle.refusal.specs.Refusal.{reply_of}
 use Rattle.dependency_chain.specs.Chain.{chain_call}
-use Rattle.dependency_chain.specs.Laws.{SeekInput, asked_accepted}
+use Rattle.dependency_chain.specs.Laws.{SeekInput}
+use Rattle.dependency_chain.proofs.Laws.{asked_accepted}
 use Rattle.dependency_chain.proofs.ListLaws.{chain_listed, chain_refused, listed_at}
 use Rattle.dependency_chain.proofs.dependency_chain.Goals as goal
 

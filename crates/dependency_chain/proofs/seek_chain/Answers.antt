@@ -1,6 +1,6 @@
 use native.Mathlib.Omega.{arith}
-use Rattle.pairs.specs.Scratch.{chain_words_levels}
-use Rattle.pairs.specs.ColumnOrder.{column_place_below}
+use Rattle.pairs.proofs.Scratch.{chain_words_levels}
+use Rattle.pairs.proofs.ColumnOrder.{column_place_below}
 use Rattle.dependency_chain.proofs.ListLaws.{seek_level, seek_listed, seek_cleared}
 use Rattle.dependency_chain.proofs.seek_chain.Goals as goal
 

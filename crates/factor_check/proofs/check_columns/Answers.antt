@@ -1,7 +1,7 @@
-use Rattle.columns.specs.Factor.{starts_steps-sound}
+use Rattle.columns.proofs.Factor.{starts_steps-sound}
 use Rattle.columns.specs.Columns.{column_steps}
 use Rattle.refusal.specs.Refusal.{reply_of}
-use Rattle.refusal.specs.Steps.{append-refused, append_passed}
+use Rattle.refusal.proofs.Steps.{append-refused, append_passed}
 use mathlib.Core.Path.{ap, sym, ◌∙◌}
 use Rattle.factor_check.proofs.check_columns.Goals as goal
 

@@ -1,6 +1,6 @@
 use Rattle.columns.specs.Stored.{factor_steps}
 use Rattle.refusal.specs.Refusal.{reply_of}
-use Rattle.refusal.specs.Steps.{append-refused, append_passed}
+use Rattle.refusal.proofs.Steps.{append-refused, append_passed}
 use mathlib.Core.Path.{ap, sym, ◌∙◌}
 use Rattle.factor_check.proofs.check_factor.Goals as goal
 

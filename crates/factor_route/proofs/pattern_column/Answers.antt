@@ -1,6 +1,6 @@
 use Rattle.factor_route.proofs.RouteLaws.{route_starts, route_stored, route_first, route_walk, route_marked, route_step, route_unmark, route_column_lem}
 use Rattle.exact.specs.PivotCase.{step_below, step_on}
-use Rattle.entries.specs.Descendants.{told_table}
+use Rattle.entries.proofs.Descendants.{told_table}
 use native.Mathlib.Omega.{arith}
 use Prim.Native.Nat.{◌≤◌, ◌-◌, ◌+◌}
 use mathlib.Core.Path.{refl}

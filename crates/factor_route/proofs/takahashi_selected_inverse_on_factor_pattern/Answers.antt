@@ -1,5 +1,5 @@
 use Rattle.factor_route.proofs.RouteLaws.{route_none, route_turn, route_next, route_end, route_input}
-use Rattle.scatter.specs.Marks.{empties_is}
+use Rattle.scatter.proofs.Marks.{empties_is}
 use borrow.Author.Rules.{rules}
 use native.Mathlib.Omega.{arith}
 use Prim.Native.Nat.{◌-◌}

@@ -3,7 +3,8 @@ use Rattle.floor.specs.VarianceFloorLaws.{floor_accepted}
 use Rattle.floor.specs.Floored.{floored}
 use Rattle.floor.specs.VarianceFloor.{floor_steps}
 use Rattle.refusal.specs.Refusal.{reply_of}
-use Rattle.refusal.specs.Steps.{answered, first_refused, first_passed, after_refused, after_passed}
+use Rattle.refusal.specs.Steps.{answered}
+use Rattle.refusal.proofs.Steps.{first_refused, first_passed, after_refused, after_passed}
 use Rattle.lists.specs.Overwrite.{overwrite}
 use lib.Ieee.{Float}
 use mathlib.Core.Path.{ap, sym, ◌∙◌}

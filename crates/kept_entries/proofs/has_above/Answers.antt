@@ -4,7 +4,7 @@ use native.Mathlib.Omega.{arith}
 use Prim.Native.Nat.{◌-◌}
 use borrow.Author.Rules.{rules}
 use Rattle.lists.specs.Test.{any_none, any_more, any-hit, any_less}
-use Rattle.columns.specs.Factor.{factor_column}
+use Rattle.columns.proofs.Factor.{factor_column}
 use Rattle.kept_entries.specs.Above.{has_above}
 use Rattle.kept_entries.proofs.has_above.Goals as goal
 

@@ -7,7 +7,7 @@ use Prim.Native.Nat.{ℕ}
 use Rattle.lists.specs.Select.{select, select_none, select_join, select_gap, select_cong, tally}
 use Rattle.columns.specs.Kept.{kept}
 use Rattle.columns.specs.Factor.{Column, FirstFrom}
-use Rattle.columns.specs.Diagonal.{first_from_from, first_from_dropped}
+use Rattle.columns.proofs.Diagonal.{first_from_from, first_from_dropped}
 use Rattle.kept_entries.specs.KeptBy.{kept_at}
 use Rattle.kept_entries.proofs.kept_between.Goals as goal
 

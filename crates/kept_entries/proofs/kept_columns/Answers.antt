@@ -1,5 +1,6 @@
-use Rattle.columns.specs.Kept.{kept_count, factor_pairs, factor_pairs_none, factor_pairs_next}
-use Rattle.columns.specs.Factor.{factor_column, starts_end}
+use Rattle.columns.specs.Kept.{kept_count, factor_pairs}
+use Rattle.columns.proofs.Kept.{factor_pairs_none, factor_pairs_next}
+use Rattle.columns.proofs.Factor.{factor_column, starts_end}
 use Rattle.lists.specs.Select.{tally_most}
 use borrow.Author.Rules.{rules}
 use native.Mathlib.Omega.{arith}

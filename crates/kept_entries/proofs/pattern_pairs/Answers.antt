@@ -9,8 +9,9 @@ use lib.ListN.{length, get_or, length-map}
 use Rattle.lists.specs.Select.{tally, tally_most}
 use Rattle.columns.specs.Columns.{start, row}
 use Rattle.columns.specs.Kept.{nonzero, kept, desc_places, pattern}
-use Rattle.columns.specs.Factor.{factor_column, starts_end}
-use Rattle.columns.specs.Form.{pattern_pairs, pattern_pairs_none, pattern_pairs_next, pattern_pairs_cong}
+use Rattle.columns.proofs.Factor.{factor_column, starts_end}
+use Rattle.columns.specs.Form.{pattern_pairs}
+use Rattle.columns.proofs.Form.{pattern_pairs_none, pattern_pairs_next, pattern_pairs_cong}
 use Rattle.kept_entries.specs.KeptBy.{kept_at, kept_floats, factor_rows, pattern_same}
 use Rattle.kept_entries.proofs.pattern_pairs.Goals as goal
 

@@ -1,6 +1,6 @@
 use native.Mathlib.Omega.{arith}
-use Rattle.pairs.specs.Pair.{pair_total_small}
-use Rattle.pairs.specs.ColumnOrder.{col_start_least, col_start_mono, col_start_total}
+use Rattle.pairs.proofs.Pair.{pair_total_small}
+use Rattle.pairs.proofs.ColumnOrder.{col_start_least, col_start_mono, col_start_total}
 use Rattle.layout.proofs.LayoutLaws.{column_bits, column_next, column_input, column_listed, column_positions, column_placed}
 use Rattle.layout.proofs.lay_column.Goals as goal
 

@@ -2,8 +2,10 @@ use Prim.Native.Nat.{◌≤◌, ◌-◌, ◌+◌}
 use native.Mathlib.Omega.{arith}
 use mathlib.Core.Path.{◌≡◌, refl, sym, ◌∙◌}
 use lib.ListN.{length-set}
-use Rattle.pairs.specs.Pair.{max_pairs, pair_total_small}
-use Rattle.pairs.specs.ColumnOrder.{col_start, col_start_none, col_start_next, col_start_mono, col_start_total}
+use Rattle.pairs.specs.Pair.{max_pairs}
+use Rattle.pairs.proofs.Pair.{pair_total_small}
+use Rattle.pairs.specs.ColumnOrder.{col_start}
+use Rattle.pairs.proofs.ColumnOrder.{col_start_none, col_start_next, col_start_mono, col_start_total}
 use Rattle.layout.proofs.LayoutLaws.{columns_none, placed_few, columns_room, columns_reached, columns_more, columns_end}
 use Rattle.layout.proofs.lay_out.Goals as goal
 

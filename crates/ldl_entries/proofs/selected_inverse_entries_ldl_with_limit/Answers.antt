@@ -1,9 +1,10 @@
 use mathlib.Core.Path.{ap, sym, ◌∙◌}
 use Rattle.refusal.specs.Steps.{Passed}
 use Rattle.refusal.specs.Refusal.{reply_of}
-use Rattle.pairs.specs.Scratch.{scratch_words_room}
+use Rattle.pairs.proofs.Scratch.{scratch_words_room}
 use Rattle.selection.specs.Selection.{Lent, lists, room_of}
-use Rattle.selection.specs.LdlCall.{LdlCall, ldl_call, ldl_steps, ldl_accepted, ldl_requests}
+use Rattle.selection.specs.LdlCall.{LdlCall, ldl_call, ldl_steps}
+use Rattle.selection.proofs.LdlCall.{ldl_accepted, ldl_requests}
 use Rattle.fill.specs.Fill.{marked_input, marked_answer, marked_lists}
 use Rattle.ldl_entries.proofs.Reply.{entries_refused, entries_answered}
 use Rattle.ldl_entries.proofs.selected_inverse_entries_ldl_with_limit.Goals as goal

@@ -1,4 +1,4 @@
-use Rattle.pairs.specs.Pair.{ordered_turned}
+use Rattle.pairs.proofs.Pair.{ordered_turned}
 use Rattle.levels.specs.Levels.{raised_cong}
 use Rattle.levels.proofs.insert_level.Goals as goal
 

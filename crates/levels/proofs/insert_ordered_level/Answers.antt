@@ -5,9 +5,10 @@ use mathlib.Core.Path.{◌≡◌, ap, sym, ◌∙◌}
 use lib.ListN.{length, get_or}
 use lib.ListN.{set, length-set}
 use mathlib.Core.Path.{subst₂}
-use Rattle.pairs.specs.Pair.{pair_total, pair_total_small, ordered}
+use Rattle.pairs.specs.Pair.{pair_total, ordered}
+use Rattle.pairs.proofs.Pair.{pair_total_small}
 use Rattle.pairs.specs.Scratch.{packed}
-use Rattle.pairs.specs.ColumnOrder.{column_place_below}
+use Rattle.pairs.proofs.ColumnOrder.{column_place_below}
 use Rattle.levels.specs.Levels.{level_word, Raised}
 use Rattle.levels.proofs.InsertLaws.{insert_old, insert_new, end_room}
 use Rattle.levels.proofs.insert_ordered_level.Goals as goal

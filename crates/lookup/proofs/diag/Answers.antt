@@ -4,9 +4,10 @@ use mathlib.Core.Path.{◌≡◌, ap, sym, ◌∙◌}
 use lib.ListN.{length}
 use lib.Ieee.{Float}
 use borrow.Author.Rules.{rules}
-use Rattle.refusal.specs.Steps.{refused, verdict, both_refused, both_passed}
+use Rattle.refusal.specs.Steps.{refused, verdict}
+use Rattle.refusal.proofs.Steps.{both_refused, both_passed}
 use Rattle.refusal.specs.Refusal.{reply_of}
-use Rattle.result.specs.Laws.{result_steps-sound, diag_steps-malformed, diag_steps_short, diag_steps_marks_short, diag_steps_passed}
+use Rattle.result.proofs.Laws.{result_steps-sound, diag_steps-malformed, diag_steps_short, diag_steps_marks_short, diag_steps_passed}
 use Rattle.result.specs.Lookup.{diag_steps}
 use Rattle.lookup.specs.DiagonalList.{DiagonalsListed}
 use Rattle.lookup.proofs.diag.Goals as goal

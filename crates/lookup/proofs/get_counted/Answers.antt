@@ -3,7 +3,7 @@ use mathlib.Core.Path.{ap, sym, ◌∙◌}
 use lib.ListN.{length}
 use lib.Ieee.{nan}
 use Rattle.result.specs.Lookup.{value_at}
-use Rattle.result.specs.Laws.{entry_place_inside, lookup_place_lem}
+use Rattle.result.proofs.Laws.{entry_place_inside, lookup_place_lem}
 use Rattle.lookup.proofs.get_counted.Goals as goal
 
 pub value_at-requires : goal.value_at-requires

@@ -2,7 +2,7 @@ use Prim.Native.Nat.{ℕ}
 use native.Mathlib.Omega.{arith}
 use mathlib.Core.Path.{ap, ◌∙◌}
 use Rattle.lists.specs.Overwrite.{cleared}
-use Rattle.pairs.specs.Scratch.{queue_start_words}
+use Rattle.pairs.proofs.Scratch.{queue_start_words}
 use Rattle.marked_pairs.proofs.InsertLaws.{pairs_none}
 use Rattle.marked_pairs.proofs.clear_pairs.Goals as goal
 

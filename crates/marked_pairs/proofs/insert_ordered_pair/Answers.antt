@@ -1,5 +1,7 @@
-use Rattle.pairs.specs.Pair.{pair_total, pair_total_small}
-use Rattle.pairs.specs.Scratch.{queue_start_small, packed}
+use Rattle.pairs.specs.Pair.{pair_total}
+use Rattle.pairs.proofs.Pair.{pair_total_small}
+use Rattle.pairs.specs.Scratch.{packed}
+use Rattle.pairs.proofs.Scratch.{queue_start_small}
 use Rattle.bits.specs.Bits.{bit_at}
 use Rattle.marked_pairs.specs.MarkedPairs.{Inserted}
 use Rattle.marked_pairs.proofs.InsertLaws.{place_word, insert_old, insert_new, end_room}

@@ -1,4 +1,4 @@
-use Rattle.refusal.specs.Steps.{first_hit, first_skip, first_end}
+use Rattle.refusal.proofs.Steps.{first_hit, first_skip, first_end}
 use mathlib.Core.Path.{sym, ◌∙◌}
 use Rattle.operator_check.proofs.check_inside.Goals as goal
 

@@ -1,7 +1,7 @@
 use borrow.Author.Tests.{eq-eqb, ne_eqb}
 use Rattle.columns.specs.Operator.{operator_steps}
 use Rattle.refusal.specs.Refusal.{reply_of}
-use Rattle.refusal.specs.Steps.{first_hit, first_skip, append-refused, append_passed}
+use Rattle.refusal.proofs.Steps.{first_hit, first_skip, append-refused, append_passed}
 use mathlib.Core.Path.{ap, sym, ◌∙◌}
 use Rattle.operator_check.proofs.check_operator.Goals as goal
 

@@ -7,16 +7,17 @@ use lib.Ieee.{Float}
 use Rattle.lists.specs.Overwrite.{overwrite}
 use Rattle.refusal.specs.Steps.{Step, Passed}
 use Rattle.refusal.specs.Refusal.{reply_of}
-use Rattle.pairs.specs.Scratch.{scratch_words_room}
+use Rattle.pairs.proofs.Scratch.{scratch_words_room}
 use Rattle.columns.specs.Operator.{OperatorRows}
 use Rattle.diagnostics.specs.declared.SelectedInverseDiagnostics.{SelectedInverseDiagnostics}
 use Rattle.diagnostics.specs.declared.SelectedInverseStatus.TheVariants.{Complete, ClosureTooLarge}
 use Rattle.selection.specs.Selection.{Lent, lists, room_of, selected_complete, selected_answer}
-use Rattle.selection.specs.Status.{status_tells}
+use Rattle.selection.proofs.Status.{status_tells}
 use Rattle.fill.specs.Fill.{marked_are, marked_input, marked_answer, marked_lists, fills_lists_limit}
 use Rattle.operator_variances.specs.Transformed.{TransformedCall, transformed_call, transformed_selection, transformed_steps, transformed_values}
-use Rattle.operator_variances.specs.Transformed.{AcceptedTransformed, transformed_accepted}
-use Rattle.operator_values.specs.Output.{output-refused, output-large, output_within}
+use Rattle.operator_variances.specs.Transformed.{AcceptedTransformed}
+use Rattle.operator_variances.proofs.Transformed.{transformed_accepted}
+use Rattle.operator_values.proofs.Output.{output-refused, output-large, output_within}
 use Rattle.operator_variances.proofs.Reply.{transformed_reading, transformed_written}
 use Rattle.operator_variances.proofs.selected_inverse_transformed_diag.Goals as goal
 

@@ -2,12 +2,14 @@ use mathlib.Core.Path.{sym, ap, ◌∙◌}
 use mathlib.Core.List.{List, [], ◌∷◌, ◌++◌}
 use lib.Dec.{ltb}
 use Rattle.columns.specs.Columns.{factor_lists}
-use Rattle.refusal.specs.Steps.{Step, Passed, append-refused, append_passed}
+use Rattle.refusal.specs.Steps.{Step, Passed}
+use Rattle.refusal.proofs.Steps.{append-refused, append_passed}
 use Rattle.refusal.specs.Refusal.{reply_of}
-use Rattle.columns.specs.Stored.{factor_steps, factor_steps_bounded, factor_steps-sound}
+use Rattle.columns.specs.Stored.{factor_steps}
+use Rattle.columns.proofs.Stored.{factor_steps_bounded, factor_steps-sound}
 use Rattle.factor_order.specs.Permutation.{order_steps}
 use Rattle.selection.specs.Selection.{room, default_limit, fill_steps}
-use Rattle.refusal.specs.FirstOf.{verdicts}
+use Rattle.refusal.proofs.FirstOf.{verdicts}
 use Rattle.original_diagonal.specs.Original.{original_steps}
 use Rattle.original_diagonal.proofs.check_original.Goals as goal
 

@@ -4,11 +4,11 @@ use lib.Ieee.{Float}
 use mathlib.Core.List.{List}
 use Rattle.refusal.specs.Steps.{Passed}
 use Rattle.refusal.specs.Refusal.{reply_of}
-use Rattle.pairs.specs.Scratch.{scratch_words_room}
+use Rattle.pairs.proofs.Scratch.{scratch_words_room}
 use Rattle.diagnostics.specs.declared.SelectedInverseDiagnostics.{SelectedInverseDiagnostics}
 use Rattle.diagnostics.specs.declared.SelectedInverseStatus.TheVariants.{Complete, ClosureTooLarge}
 use Rattle.selection.specs.Selection.{Lent, lists, room_of}
-use Rattle.selection.specs.Status.{status_tells}
+use Rattle.selection.proofs.Status.{status_tells}
 use Rattle.fill.specs.Fill.{marked_input, marked_answer, marked_lists}
 use Rattle.original_diagonal_with_limit.specs.Original.{OriginalCall, original_call, original_selection, original_steps, AcceptedOriginal, original_accepted}
 use Rattle.original_diagonal_with_limit.proofs.Reply.{original_refused, original_large, original_input, original_done}

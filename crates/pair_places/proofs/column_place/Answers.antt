@@ -1,4 +1,4 @@
-use Rattle.pairs.specs.ColumnOrder.{col_start-half, col_start-product}
+use Rattle.pairs.proofs.ColumnOrder.{col_start-half, col_start-product}
 use Rattle.refusal.specs.Bounds.{max_dimension}
 use native.Mathlib.Omega.{arith}
 use Rattle.pair_places.proofs.column_place.Goals as goal

@@ -1,6 +1,6 @@
 use native.Mathlib.Omega.{arith}
 use Rattle.refusal.specs.Bounds.{max_dimension}
-use Rattle.pairs.specs.Pair.{product_small, pair_total-half, pair_total_small}
+use Rattle.pairs.proofs.Pair.{product_small, pair_total-half, pair_total_small}
 use Rattle.pair_places.proofs.pair_total.Goals as goal
 
 pub overflow_mul-result : goal.overflow_mul-result

@@ -1,6 +1,6 @@
 use mathlib.Core.Path.{sym, ap, ◌∙◌}
 use borrow.Author.Tests.{lt-ltb, le-ltb}
-use Rattle.refusal.specs.Steps.{first_hit, first_skip, append-refused, append_passed}
+use Rattle.refusal.proofs.Steps.{first_hit, first_skip, append-refused, append_passed}
 use Rattle.refusal.specs.Refusal.{reply_of}
 use Rattle.columns.specs.Operator.{operator_bound_steps, operator_steps}
 use Rattle.pattern_lists.specs.PatternCalls.{operator_checks}

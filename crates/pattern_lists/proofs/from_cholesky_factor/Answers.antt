@@ -2,7 +2,8 @@ use mathlib.Core.Path.{sym, ap, ◌∙◌}
 use Rattle.columns.specs.Columns.{factor_lists}
 use Rattle.refusal.specs.Steps.{Passed}
 use Rattle.refusal.specs.Refusal.{reply_of}
-use Rattle.columns.specs.Stored.{factor_steps, factor_steps_bounded, factor_steps-sound}
+use Rattle.columns.specs.Stored.{factor_steps}
+use Rattle.columns.proofs.Stored.{factor_steps_bounded, factor_steps-sound}
 use Rattle.pattern_lists.proofs.Pattern.{lists_refused, lists_passed}
 use Rattle.pattern_lists.proofs.from_cholesky_factor.Goals as goal
 

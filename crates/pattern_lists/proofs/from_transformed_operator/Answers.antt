@@ -3,7 +3,7 @@ use lib.ListN.{length}
 use Rattle.refusal.specs.Steps.{Passed}
 use Rattle.refusal.specs.Refusal.{reply_of}
 use Rattle.pattern_lists.specs.PatternCalls.{operator_checks}
-use Rattle.pattern_lists.specs.Laws.{operator_checks-sound, operator_checks_small}
+use Rattle.pattern_lists.proofs.Laws.{operator_checks-sound, operator_checks_small}
 use Rattle.pattern_lists.proofs.Pattern.{lists_refused, lists_passed}
 use Rattle.pattern_lists.proofs.from_transformed_operator.Goals as goal
 

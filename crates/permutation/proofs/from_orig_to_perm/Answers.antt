@@ -1,8 +1,8 @@
 use mathlib.Core.Path.{sym, ap, ◌∙◌}
 use borrow.Author.Tests.{lt-ltb, le-ltb}
-use Rattle.refusal.specs.Steps.{first_hit, first_skip}
+use Rattle.refusal.proofs.Steps.{first_hit, first_skip}
 use Rattle.refusal.specs.Refusal.{reply_of}
-use Rattle.factor_order.specs.Laws.{accept_permutation}
+use Rattle.factor_order.proofs.Laws.{accept_permutation}
 use Rattle.permutation.proofs.CallLaws.{inverted_refused, inverted_passed}
 use Rattle.permutation.proofs.from_orig_to_perm.Goals as goal
 

@@ -1,9 +1,9 @@
 use mathlib.Core.Path.{sym, ap, ◌∙◌}
 use mathlib.Core.Bool.{not}
 use borrow.Author.Tests.{lt-ltb, le-ltb, eq-eqb, ne_eqb}
-use Rattle.refusal.specs.Steps.{first_hit, first_skip}
+use Rattle.refusal.proofs.Steps.{first_hit, first_skip}
 use Rattle.refusal.specs.Refusal.{reply_of}
-use Rattle.factor_order.specs.Laws.{accept_permutation}
+use Rattle.factor_order.proofs.Laws.{accept_permutation}
 use Rattle.permutation.proofs.CallLaws.{reordered-refused, reordered_passed}
 use Rattle.permutation.proofs.permute_factor_to_original.Goals as goal
 

@@ -5,7 +5,7 @@ use lib.ListN.{length}
 use Rattle.refusal.specs.Steps.{Step, Passed}
 use Rattle.refusal.specs.Refusal.{reply_of}
 use Rattle.factor_order.specs.Permutation.{marked_steps, Permutation}
-use Rattle.factor_order.specs.Laws.{marked_accepted}
+use Rattle.factor_order.proofs.Laws.{marked_accepted}
 use Rattle.permutation.proofs.CallLaws.{marked_refused, marked_passed}
 use Rattle.permutation.proofs.permute_factor_to_original_marked.Goals as goal
 

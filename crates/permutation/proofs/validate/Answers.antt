@@ -2,7 +2,7 @@ use native.Mathlib.Omega.{arith}
 use mathlib.Core.Path.{refl, sym, ap, ◌∙◌}
 use mathlib.Core.Bool.{not}
 use borrow.Author.Tests.{lt-ltb, le-ltb, eq-eqb, ne_eqb}
-use Rattle.refusal.specs.Steps.{first_hit, first_skip}
+use Rattle.refusal.proofs.Steps.{first_hit, first_skip}
 use Rattle.permutation.proofs.validate.Goals as goal
 
 pub returns-then-orig_to_perm-gt-MAX_DIMENSION : goal.returns-then-orig_to_perm-gt-MAX_DIMENSION

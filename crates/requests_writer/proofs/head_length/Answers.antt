@@ -1,5 +1,5 @@
 use native.Mathlib.Omega.{arith}
-use Rattle.matrix_market.specs.Decimal.{decimal_most}
+use Rattle.matrix_market.proofs.Decimal.{decimal_most}
 use Rattle.requests_writer.proofs.ByteLaws.{head-length}
 use Rattle.requests_writer.proofs.head_length.Goals as goal
 

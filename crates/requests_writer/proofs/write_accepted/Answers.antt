@@ -6,7 +6,7 @@ use mathlib.Core.List.{◌++◌}
 use lib.ListN.{take, drop}
 use lib.Seq.{length-take-le}
 use Rattle.pairs.specs.Scratch.{mark_words}
-use Rattle.requests_writer.specs.Writer.{write_checks_small}
+use Rattle.requests_writer.proofs.Writer.{write_checks_small}
 use Rattle.requests_writer.proofs.WriterLaws.{checked_input, scratch_short, scratch_part}
 use Rattle.requests_writer.proofs.write_accepted.Goals as goal
 

@@ -1,7 +1,7 @@
 use Rattle.columns.specs.Columns.{factor_lists}
 use Rattle.columns.specs.Diagonal.{diagonal_steps}
 use Rattle.selection.specs.Selection.{room, room_steps}
-use Rattle.refusal.specs.FirstOf.{verdicts}
+use Rattle.refusal.proofs.FirstOf.{verdicts}
 use Rattle.selected_checks.proofs.check_fill.Goals as goal
 
 pub check_diagonals-diagonals-requires : goal.check_diagonals-diagonals-requires

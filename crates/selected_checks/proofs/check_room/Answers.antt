@@ -4,7 +4,7 @@ use mathlib.Core.Path.{◌≡◌, sym, ap, subst, ◌∙◌}
 use mathlib.Core.Bool.{true, false}
 use lib.Dec.{ltb}
 use borrow.Author.Tests.{lt-ltb, le-ltb}
-use Rattle.refusal.specs.Steps.{first_hit, first_skip, first_end}
+use Rattle.refusal.proofs.Steps.{first_hit, first_skip, first_end}
 use Rattle.pairs.specs.Pair.{pair_total}
 use Rattle.selection.specs.Selection.{room_steps}
 use Rattle.selected_checks.proofs.check_room.Goals as goal

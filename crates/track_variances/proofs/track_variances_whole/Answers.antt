@@ -1,9 +1,9 @@
 use mathlib.Core.Path.{ap, sym, ◌∙◌}
 use lib.ListN.{length}
 use Rattle.track_variances.specs.Track.{track_steps}
-use Rattle.refusal.specs.Steps.{both_refused, both_passed}
+use Rattle.refusal.proofs.Steps.{both_refused, both_passed}
 use Rattle.refusal.specs.Refusal.{reply_of}
-use Rattle.track_variances.specs.Laws.{runs_ready}
+use Rattle.track_variances.proofs.Laws.{runs_ready}
 use Rattle.track_variances.proofs.track_variances_whole.Goals as goal
 
 pub write_runs-requires : goal.write_runs-requires

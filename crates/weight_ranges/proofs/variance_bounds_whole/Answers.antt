@@ -3,13 +3,14 @@ use native.Mathlib.Nat.{le_refl}
 use mathlib.Core.Path.{ap, ap₂, sym, ◌∙◌}
 use lib.ListN.{length}
 use lib.IntN.{ℤ}
-use Rattle.integers.specs.Size.{size_more}
+use Rattle.integers.proofs.Size.{size_more}
 use Rattle.whole_steps.specs.Machine.{held}
-use Rattle.refusal.specs.Steps.{answered, first_refused, first_passed}
+use Rattle.refusal.specs.Steps.{answered}
+use Rattle.refusal.proofs.Steps.{first_refused, first_passed}
 use Rattle.refusal.specs.Refusal.{reply_of}
 use Rattle.weight_ranges.specs.Ranges.{range_steps}
-use Rattle.weight_ranges.specs.Sizes.{least_sums_size, greatest_sums_size}
-use Rattle.weight_ranges.specs.Laws.{ranges_ready}
+use Rattle.weight_ranges.proofs.Sizes.{least_sums_size, greatest_sums_size}
+use Rattle.weight_ranges.proofs.Laws.{ranges_ready}
 use Rattle.weight_ranges.proofs.variance_bounds_whole.Goals as goal
 
 pub row_bounds-b-requires : goal.row_bounds-b-requires

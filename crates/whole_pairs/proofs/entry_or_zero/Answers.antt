@@ -4,8 +4,8 @@ use lib.ListN.{length}
 use mir.Syntax.{w64}
 use mir.ValLaws.{to_z-of_z}
 use Rattle.column_search.specs.Reply.{pair_reply}
-use Rattle.result.specs.Halving.{place_within_inside}
-use Rattle.whole_pairs.specs.Entry.{entry_found, entry_none}
+use Rattle.result.proofs.Halving.{place_within_inside}
+use Rattle.whole_pairs.proofs.Entry.{entry_found, entry_none}
 use Rattle.whole_pairs.proofs.entry_or_zero.Goals as goal
 
 pub whole_at-requires : goal.whole_at-requires

@@ -8,7 +8,8 @@ use mir.Syntax.{w64}
 use mir.Val.{SFits, to_z, of_z}
 use mir.ValLaws.{to_z-of_z}
 use borrow.Author.Tests.{eq-eqb, ne_eqb}
-use Rattle.integers.specs.Size.{SizeWithin, size_minus}
+use Rattle.integers.specs.Size.{SizeWithin}
+use Rattle.integers.proofs.Size.{size_minus}
 use Rattle.whole_steps.specs.Machine.{fits_both}
 use Rattle.whole_route.proofs.last_step.Goals as goal
 

@@ -2,8 +2,8 @@ use native.Mathlib.Omega.{arith}
 use mathlib.Core.Path.{ap, ◌∙◌}
 use lib.ListN.{length}
 use Rattle.lists.specs.Overwrite.{splice-length}
-use Rattle.pairs.specs.Pair.{pair_total_small}
-use Rattle.pairs.specs.ColumnOrder.{col_start_mono, col_start_total}
+use Rattle.pairs.proofs.Pair.{pair_total_small}
+use Rattle.pairs.proofs.ColumnOrder.{col_start_mono, col_start_total}
 use Rattle.whole_route.proofs.RowsLaws.{rows_kept, sums_kept, rows_since}
 use Rattle.whole_route.proofs.ColumnLaws.{column_room, column_rows_lem}
 use Rattle.whole_route.proofs.whole_column.Goals as goal

@@ -7,7 +7,7 @@ use mir.Val.{SFits, to_z, of_z}
 use mir.ValLaws.{to_z-of_z}
 use Rattle.columns.specs.Columns.{start}
 use Rattle.pairs.specs.ColumnOrder.{column_marking}
-use Rattle.entries.specs.Position.{position_below}
+use Rattle.entries.proofs.Position.{position_below}
 use Rattle.exact.specs.Multiple.{Small}
 use Rattle.exact.specs.Checked.{beyond}
 use Rattle.entries.specs.WholeTable.{whole_table}

@@ -2,7 +2,7 @@ use mathlib.Core.Path.{subst}
 use mathlib.Core.Bool.{true}
 use Rattle.pairs.specs.ColumnOrder.{column_marking}
 use Rattle.entries.specs.Entries.{column_count}
-use Rattle.entries.specs.Position.{column_count_mono}
+use Rattle.entries.proofs.Position.{column_count_mono}
 use Rattle.whole_route.specs.Route.{RouteDone}
 use Rattle.whole_route.proofs.ColumnLaws.{ColumnsLeft, columns_none, column_input, column_exceeds_lem, column_solved, most_more, columns_done, rows_same}
 use native.Mathlib.Omega.{arith}

@@ -8,7 +8,7 @@ use lib.Signed.{mag, lt_z, non_neg}
 use mir.Syntax.{w64}
 use mir.Val.{Fits, SFits, to_z, of_z}
 use mir.ValLaws.{to_z-of_z}
-use Rattle.integers.specs.Size.{below_zero, not_below_zero}
+use Rattle.integers.proofs.Size.{below_zero, not_below_zero}
 use Rattle.whole_steps.proofs.size.Goals as goal
 
 -- -1 - x for x below 0

@@ -2,7 +2,8 @@ use Prim.Native.Nat.{◌+◌, ◌-◌, ◌≤◌, ◌<◌}
 use native.Mathlib.Omega.{arith}
 use mathlib.Core.Logic.{inl, inr}
 use mathlib.Core.Path.{refl}
-use Rattle.pairs.specs.Pair.{max_pairs, pair_total_small}
+use Rattle.pairs.specs.Pair.{max_pairs}
+use Rattle.pairs.proofs.Pair.{pair_total_small}
 use Rattle.columns.specs.Columns.{start}
 use Rattle.marked_pairs.specs.MarkedPairs.{count_most}
 use Rattle.closure.proofs.QueueLaws.{inserted_equal}

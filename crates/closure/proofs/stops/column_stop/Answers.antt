@@ -1,5 +1,5 @@
 use Rattle.kept_entries.specs.KeptBy.{kept_at}
-use Rattle.columns.specs.Factor.{factor_column}
+use Rattle.columns.proofs.Factor.{factor_column}
 use Rattle.closure.specs.Covered.{entry_inside, cover_input, cover_nested, stop_at, stop_end}
 use native.Mathlib.Omega.{arith}
 use Rattle.closure.proofs.stops.column_stop.Goals as goal

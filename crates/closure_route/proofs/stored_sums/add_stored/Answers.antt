@@ -6,7 +6,8 @@ use lib.Dec.{ltb}
 use borrow.Author.Tests.{lt-ltb}
 use Rattle.lists.specs.Test.{and_both}
 use Rattle.columns.specs.Columns.{row}
-use Rattle.columns.specs.Kept.{nonzero, nonzero-not, kept_below}
+use Rattle.columns.specs.Kept.{nonzero, kept_below}
+use Rattle.columns.proofs.Kept.{nonzero-not}
 use Rattle.columns.specs.Factor.{FirstFrom}
 use Rattle.closure_route.proofs.LowerLaws.{product_above, product_zero, product_none, product_added, product_input}
 use Rattle.closure_route.proofs.stored_sums.add_stored.Goals as goal

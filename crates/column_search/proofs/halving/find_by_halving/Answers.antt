@@ -2,8 +2,9 @@ use native.Mathlib.Omega.{arith}
 use Prim.Native.Nat.{ℕ, ◌≤◌, ◌<◌, ◌-◌, ◌+◌}
 use mathlib.Core.Path.{◌≡◌, ap, ap₂, sym, ◌∙◌}
 use lib.ListN.{get_or}
-use Rattle.result.specs.Halving.{standing, candidate-run, candidate-halving}
-use Rattle.result.specs.Halving.{halved_place_none, halved_place_first, halved_place_below, halved_place_above, halved_place-candidate}
+use Rattle.result.specs.Halving.{standing}
+use Rattle.result.proofs.Halving.{candidate-run, candidate-halving}
+use Rattle.result.proofs.Halving.{halved_place_none, halved_place_first, halved_place_below, halved_place_above, halved_place-candidate}
 use Rattle.column_search.proofs.halving.find_by_halving.Goals as goal
 
 pub returns-then-e-s : goal.returns-then-e-s

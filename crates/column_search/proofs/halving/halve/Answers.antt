@@ -3,7 +3,8 @@ use Prim.Native.Nat.{ℕ, ◌≤◌, ◌<◌, ◌-◌, ◌+◌, ◌/◌}
 use mathlib.Core.Path.{◌≡◌, ap, sym, ◌∙◌}
 use mathlib.Core.List.{List}
 use Rattle.columns.specs.Columns.{row}
-use Rattle.result.specs.Halving.{halving, halving_one, halving_up, halving-down}
+use Rattle.result.specs.Halving.{halving}
+use Rattle.result.proofs.Halving.{halving_one, halving_up, halving-down}
 use Rattle.column_search.proofs.halving.halve.Invariants.{Left}
 use Rattle.column_search.proofs.halving.halve.Goals as goal
 use Rattle.column_search.proofs.halving.halve.Goals.{then-at_mid-r, else-at_mid-r}

@@ -1,7 +1,7 @@
 use mathlib.Core.Path.{ap, sym, ◌∙◌}
 use Rattle.refusal.specs.Steps.{answered}
 use Rattle.columns.specs.Columns.{row}
-use Rattle.result.specs.Halving.{standing_here, standing_none}
+use Rattle.result.proofs.Halving.{standing_here, standing_none}
 use Rattle.column_search.proofs.halving.halve_for.Goals as goal
 
 pub returns-then-h-r : goal.returns-then-h-r

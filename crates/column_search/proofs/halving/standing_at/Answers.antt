@@ -1,5 +1,5 @@
 use mathlib.Core.Path.{sym, ◌∙◌}
-use Rattle.result.specs.Halving.{standing_here, standing_none}
+use Rattle.result.proofs.Halving.{standing_here, standing_none}
 use Rattle.column_search.proofs.halving.standing_at.Goals as goal
 
 pub returns-then-at-r : goal.returns-then-at-r

@@ -3,8 +3,8 @@ use Prim.Native.Nat.{◌<◌, ◌-◌}
 use mathlib.Core.Path.{ap, sym, ◌∙◌}
 use lib.ListN.{length}
 use Rattle.refusal.specs.Refusal.{reply_of}
-use Rattle.result.specs.Laws.{entry_place_none, entry_place-outside, entry_place_broken, entry_place_row, entry_place_column, column_faults-sound, column_rows_lem}
-use Rattle.result.specs.Counted.{entry_looks_none, entry_looks-outside, entry_looks_broken, entry_looks_row, entry_looks_searched}
+use Rattle.result.proofs.Laws.{entry_place_none, entry_place-outside, entry_place_broken, entry_place_row, entry_place_column, column_faults-sound, column_rows_lem}
+use Rattle.result.proofs.Counted.{entry_looks_none, entry_looks-outside, entry_looks_broken, entry_looks_row, entry_looks_searched}
 use Rattle.column_search.proofs.pair_place.ordered_place.Goals as goal
 
 pub returns-then-starts-eq0 : goal.returns-then-starts-eq0

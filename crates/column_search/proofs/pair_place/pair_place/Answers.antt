@@ -1,8 +1,8 @@
 use native.Mathlib.Omega.{arith}
 use Prim.Native.Nat.{◌≤◌}
 use mathlib.Core.Path.{sym, ◌∙◌}
-use Rattle.result.specs.Laws.{lookup_place_ordered, lookup_place-exchanged}
-use Rattle.result.specs.Counted.{looks_ordered, looks-exchanged}
+use Rattle.result.proofs.Laws.{lookup_place_ordered, lookup_place-exchanged}
+use Rattle.result.proofs.Counted.{looks_ordered, looks-exchanged}
 use Rattle.column_search.proofs.pair_place.pair_place.Goals as goal
 
 pub returns-then-row-col : goal.returns-then-row-col

@@ -1,6 +1,6 @@
 use mathlib.Core.Path.{sym, ◌∙◌}
 use borrow.Author.Tests.{lt-ltb, le-ltb}
-use Rattle.refusal.specs.Steps.{first_hit, first_skip, first_end}
+use Rattle.refusal.proofs.Steps.{first_hit, first_skip, first_end}
 use Rattle.result.specs.Lookup.{column_faults}
 use Rattle.column_search.proofs.result_check.check_column.Goals as goal
 

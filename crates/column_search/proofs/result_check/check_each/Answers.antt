@@ -1,7 +1,7 @@
 use native.Mathlib.Omega.{arith}
 use mathlib.Core.Path.{◌≡◌, ap, sym, ◌∙◌}
 use borrow.Author.Rules.{rules}
-use Rattle.refusal.specs.Steps.{each_none, each_more, each_refused}
+use Rattle.refusal.proofs.Steps.{each_none, each_more, each_refused}
 use Rattle.refusal.specs.Refusal.{reply_of}
 use Rattle.result.specs.Lookup.{dimension}
 use Rattle.column_search.proofs.result_check.check_each.Goals as goal

@@ -1,6 +1,6 @@
 use mathlib.Core.Path.{sym}
 use borrow.Author.Tests.{eq-eqb, ne_eqb}
-use Rattle.refusal.specs.Steps.{first_hit, first_skip}
+use Rattle.refusal.proofs.Steps.{first_hit, first_skip}
 use Rattle.result.specs.Lookup.{result_steps}
 use Rattle.column_search.proofs.result_check.check_result.Goals as goal
 

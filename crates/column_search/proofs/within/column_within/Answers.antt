@@ -1,5 +1,6 @@
 use mathlib.Core.Path.{ap₂, sym, ◌∙◌}
-use Rattle.result.specs.Halving.{column_within_rows, column_within_values, column_within_place, halved_place}
+use Rattle.result.specs.Halving.{halved_place}
+use Rattle.result.proofs.Halving.{column_within_rows, column_within_values, column_within_place}
 use Rattle.column_search.proofs.within.column_within.Goals as goal
 
 pub returns-then-rows-e : goal.returns-then-rows-e

@@ -2,7 +2,7 @@ use native.Mathlib.Omega.{arith}
 use Prim.Native.Nat.{◌<◌, ◌-◌}
 use mathlib.Core.Path.{sym, ◌∙◌}
 use lib.ListN.{length}
-use Rattle.result.specs.Halving.{place_within-outside, place_within_column}
+use Rattle.result.proofs.Halving.{place_within-outside, place_within_column}
 use Rattle.column_search.proofs.within.ordered_place_within.Goals as goal
 
 pub returns-then-starts-r : goal.returns-then-starts-r

@@ -2,7 +2,7 @@ use mathlib.Core.List.{List, [], ◌∷◌, ◌++◌}
 use lib.Dec.{ltb}
 use Rattle.refusal.specs.Bounds.{max_entries}
 use Rattle.refusal.specs.Steps.{Step}
-use Rattle.refusal.specs.FirstOf.{verdicts}
+use Rattle.refusal.proofs.FirstOf.{verdicts}
 use Rattle.columns.specs.Columns.{bound_steps}
 use Rattle.columns.specs.Operator.{operator_bound_steps}
 use Rattle.covariances.proofs.checks.check_all_bounds.Goals as goal

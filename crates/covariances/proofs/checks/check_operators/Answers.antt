@@ -1,6 +1,6 @@
 use mathlib.Core.List.{List, [], ◌∷◌, ◌++◌}
 use Rattle.refusal.specs.Steps.{Step}
-use Rattle.refusal.specs.FirstOf.{verdicts}
+use Rattle.refusal.proofs.FirstOf.{verdicts}
 use Rattle.columns.specs.Columns.{outside}
 use Rattle.columns.specs.Operator.{operator_rows, operator_steps}
 use Rattle.covariances.proofs.checks.check_operators.Goals as goal

@@ -1,6 +1,6 @@
 use mathlib.Core.Path.{sym}
 use borrow.Author.Tests.{lt-ltb, le-ltb}
-use Rattle.refusal.specs.Steps.{first_hit, first_skip, first_end}
+use Rattle.refusal.proofs.Steps.{first_hit, first_skip, first_end}
 use Rattle.covariances.proofs.checks.check_pair_bound.Goals as goal
 
 pub returns-then-pairs-gt-MAX_ENTRIES : goal.returns-then-pairs-gt-MAX_ENTRIES

@@ -2,12 +2,15 @@ use mathlib.Core.Path.{sym, ap, ◌∙◌}
 use mathlib.Core.List.{List, ◌++◌}
 use lib.ListN.{length}
 use Rattle.refusal.specs.Bounds.{output_steps}
-use Rattle.refusal.specs.Steps.{Step, Passed, append-refused, append_passed, passed_front}
-use Rattle.refusal.specs.FirstOf.{verdicts}
+use Rattle.refusal.specs.Steps.{Step, Passed}
+use Rattle.refusal.proofs.Steps.{append-refused, append_passed, passed_front}
+use Rattle.refusal.proofs.FirstOf.{verdicts}
 use Rattle.refusal.specs.Refusal.{reply_of}
 use Rattle.columns.specs.Columns.{factor_lists}
-use Rattle.columns.specs.Factor.{FactorBounded, bound_steps-sound}
-use Rattle.columns.specs.Stored.{stored_steps, stored_steps-sound}
+use Rattle.columns.specs.Factor.{FactorBounded}
+use Rattle.columns.proofs.Factor.{bound_steps-sound}
+use Rattle.columns.specs.Stored.{stored_steps}
+use Rattle.columns.proofs.Stored.{stored_steps-sound}
 use Rattle.selection.specs.Selection.{room, fill_steps}
 use Rattle.covariances.specs.Covariances.{operator}
 use Rattle.covariances_with_limit.specs.Covariances.{CovarianceCall, covariance_call, covariance_bounds, count_steps, operators_steps, covariance_steps}

@@ -1,5 +1,5 @@
 use mathlib.Core.Path.{sym, ◌∙◌}
-use Rattle.refusal.specs.Steps.{first_hit, first_skip, first_end}
+use Rattle.refusal.proofs.Steps.{first_hit, first_skip, first_end}
 use Rattle.covariances_with_limit.proofs.checks.check_rows.Goals as goal
 
 pub returns-then-index_outside : goal.returns-then-index_outside

@@ -1,5 +1,5 @@
 use Rattle.columns.specs.Columns.{bound_steps}
-use Rattle.refusal.specs.Steps.{first_hit, first_skip, first_end}
+use Rattle.refusal.proofs.Steps.{first_hit, first_skip, first_end}
 use borrow.Author.Tests.{lt-ltb, le-ltb}
 use mathlib.Core.Path.{sym}
 use Rattle.factor_check.proofs.bounds.check_bounds.Goals as goal

@@ -7,10 +7,13 @@ use lib.Ieee.{Float}
 use lib.ListN.{length}
 use borrow.Author.Tests.{not-false, not-true}
 use Rattle.lists.specs.Test.{any, any_below}
-use Rattle.refusal.specs.Steps.{Passed, first_hit, first_skip, first_end}
+use Rattle.refusal.specs.Steps.{Passed}
+use Rattle.refusal.proofs.Steps.{first_hit, first_skip, first_end}
 use Rattle.columns.specs.Kept.{not_finite}
-use Rattle.columns.specs.Factor.{Factor, starts_end}
-use Rattle.columns.specs.Stored.{finite_steps, finite_steps_passed}
+use Rattle.columns.specs.Factor.{Factor}
+use Rattle.columns.proofs.Factor.{starts_end}
+use Rattle.columns.specs.Stored.{finite_steps}
+use Rattle.columns.proofs.Stored.{finite_steps_passed}
 use Rattle.std.proofs.Common.{ap}
 use Rattle.std.specs.Prelude.{not}
 use Rattle.factor_check.proofs.finite.check_finite.Goals as goal

@@ -4,7 +4,7 @@ use native.Mathlib.Omega.{arith}
 use Prim.Native.Nat.{◌-◌}
 use borrow.Author.Rules.{rules}
 use Rattle.lists.specs.Test.{any_none, any_more, any-hit, any_less}
-use Rattle.columns.specs.Factor.{factor_column}
+use Rattle.columns.proofs.Factor.{factor_column}
 use Rattle.columns.specs.Stored.{not_finite_column}
 use Rattle.factor_check.proofs.finite.kept_not_finite.Goals as goal
 

@@ -4,7 +4,8 @@ use mathlib.Core.Path.{◌≡◌, refl, sym, ◌∙◌}
 use Prim.Native.Nat.{ℕ}
 use Rattle.lists.specs.Test.{any}
 use Rattle.columns.specs.Columns.{outside, unsorted, rows_steps}
-use Rattle.refusal.specs.Steps.{verdict, refused, first_hit, first_skip, first_end}
+use Rattle.refusal.specs.Steps.{verdict, refused}
+use Rattle.refusal.proofs.Steps.{first_hit, first_skip, first_end}
 use borrow.Author.Rules.{rules}
 use Rattle.factor_check.proofs.rows.check_rows.Goals as goal
 

@@ -11,7 +11,7 @@ use lib.Dec.{ltb}
 use lib.ListN.{length}
 use Rattle.lists.specs.Test.{any, any_none, any-hit, any_below, any_all, any_less, any_in_below, and_left, and_right}
 use Rattle.columns.specs.Columns.{start, row, outside_at, not_above, unsorted}
-use Rattle.columns.specs.Factor.{starts_end, above_ascends}
+use Rattle.columns.proofs.Factor.{starts_end, above_ascends}
 use Rattle.factor_check.proofs.rows.row_outside.Goals as goal
 
 module _ (n : ℕ) (starts rows : List ℕ) (c : ℕ) (sorted : unsorted starts rows c ≡ false)

@@ -9,7 +9,7 @@ use lib.Dec.{ltb}
 use Rattle.lists.specs.Test.{any, any_none, any_next, or_cases, or_left, or_right, same_truth}
 use Rattle.lists.specs.Select.{tally, tally_most, any_in-tally}
 use Rattle.columns.specs.Columns.{start, not_above, unsorted}
-use Rattle.columns.specs.Factor.{starts_end}
+use Rattle.columns.proofs.Factor.{starts_end}
 use Rattle.factor_check.proofs.rows.start_descents.Goals as goal
 
 -- a count falls short of what rises by the same and t more, if it did before or t is above 0

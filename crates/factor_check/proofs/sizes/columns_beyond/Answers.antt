@@ -4,7 +4,7 @@ use native.Mathlib.Omega.{arith}
 use Prim.Native.Nat.{◌-◌}
 use borrow.Author.Rules.{rules}
 use Rattle.lists.specs.Test.{any_none, any_more, any-hit, any_less}
-use Rattle.columns.specs.Factor.{factor_column}
+use Rattle.columns.proofs.Factor.{factor_column}
 use Rattle.entries.specs.WholeTable.{kept_exceeds}
 use Rattle.factor_check.proofs.sizes.columns_beyond.Goals as goal
 

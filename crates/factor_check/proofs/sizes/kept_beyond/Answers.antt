@@ -7,10 +7,13 @@ use lib.ListN.{length}
 use lib.IntN.{ℤ}
 use borrow.Author.Tests.{not-true}
 use Rattle.lists.specs.Test.{any, any_in, any_in_below}
-use Rattle.columns.specs.Factor.{Factor, starts_end}
+use Rattle.columns.specs.Factor.{Factor}
+use Rattle.columns.proofs.Factor.{starts_end}
 use Rattle.columns.specs.WholeFactor.{whole_value}
-use Rattle.exact.specs.Checked.{beyond, within_small}
-use Rattle.entries.specs.WholeTable.{kept_exceeds, kept_exceeds_small}
+use Rattle.exact.specs.Checked.{beyond}
+use Rattle.exact.proofs.Checked.{within_small}
+use Rattle.entries.specs.WholeTable.{kept_exceeds}
+use Rattle.entries.proofs.WholeTable.{kept_exceeds_small}
 use Rattle.std.proofs.Common.{ap}
 use Rattle.std.specs.Prelude.{not}
 use Rattle.factor_check.proofs.sizes.kept_beyond.Goals as goal

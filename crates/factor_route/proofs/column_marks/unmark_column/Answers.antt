@@ -1,4 +1,5 @@
-use Rattle.scatter.specs.Scatter.{unmarks, unmarks_none, unmarks_next}
+use Rattle.scatter.specs.Scatter.{unmarks}
+use Rattle.scatter.proofs.Scatter.{unmarks_none, unmarks_next}
 use Rattle.refusal.specs.Bounds.{max_dimension}
 use mathlib.Core.Path.{subst, ◌≡◌, ap, sym, ◌∙◌}
 use borrow.Author.Rules.{rules}

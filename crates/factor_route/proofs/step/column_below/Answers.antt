@@ -1,5 +1,6 @@
 use lib.Ieee.{binary64, of_bits, nan}
-use Rattle.scatter.specs.Scatter.{steps, steps_none, steps_next, step_sum, step_sum_none, step_sum_next}
+use Rattle.scatter.specs.Scatter.{steps, step_sum}
+use Rattle.scatter.proofs.Scatter.{steps_none, steps_next, step_sum_none, step_sum_next}
 use Rattle.exact.specs.Multiple.{zero_float}
 use Rattle.exact.specs.Exact.{floats}
 use lib.ListN.{length-set}

@@ -1,5 +1,5 @@
-use Rattle.scatter.specs.Values.{splice_lent}
-use Rattle.scatter.specs.Column.{stepped-length}
+use Rattle.scatter.proofs.Values.{splice_lent}
+use Rattle.scatter.proofs.Column.{stepped-length}
 use Rattle.exact.specs.Exact.{floats}
 use Rattle.exact.specs.PivotCase.{step_below, step_on}
 use lib.Ieee.{nan}

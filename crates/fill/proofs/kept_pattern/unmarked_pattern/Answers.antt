@@ -2,8 +2,9 @@ use native.Mathlib.Omega.{arith}
 use mathlib.Core.Path.{◌≡◌, ap, sym, ◌∙◌}
 use mathlib.Core.Bool.{Bool, not, ◌||◌}
 use Rattle.lists.specs.Test.{any_in}
-use Rattle.pairs.specs.Scratch.{queue_start_mark}
-use Rattle.pairs.specs.ColumnOrder.{column_marking, column_place_below}
+use Rattle.pairs.proofs.Scratch.{queue_start_mark}
+use Rattle.pairs.specs.ColumnOrder.{column_marking}
+use Rattle.pairs.proofs.ColumnOrder.{column_place_below}
 use Rattle.fill.specs.KeptPattern.{unmarked_at}
 use Rattle.fill.proofs.kept_pattern.unmarked_pattern.Goals as goal
 

@@ -1,6 +1,6 @@
-use Rattle.columns.specs.Diagonal.{diagonal_value, first_from_diagonal}
+use Rattle.columns.proofs.Diagonal.{diagonal_value, first_from_diagonal}
 use Rattle.columns.specs.Kept.{nonzero}
-use Rattle.columns.specs.Factor.{factor_column}
+use Rattle.columns.proofs.Factor.{factor_column}
 use native.Mathlib.Omega.{arith}
 use Prim.Native.Nat.{◌<◌}
 use mathlib.Core.Path.{◌≡◌, sym}

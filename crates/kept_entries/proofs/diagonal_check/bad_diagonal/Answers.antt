@@ -1,5 +1,5 @@
 use borrow.Author.Tests.{ne_eqb}
-use Rattle.columns.specs.Diagonal.{bad_between-absent, bad_between_here}
+use Rattle.columns.proofs.Diagonal.{bad_between-absent, bad_between_here}
 use native.Mathlib.Omega.{arith}
 use mathlib.Core.Path.{sym, ◌∙◌}
 use Rattle.kept_entries.proofs.diagonal_check.bad_diagonal.Goals as goal

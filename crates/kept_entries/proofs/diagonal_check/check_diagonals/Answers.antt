@@ -1,6 +1,7 @@
 use mathlib.Core.Bool.{false}
-use Rattle.columns.specs.Diagonal.{bad_diagonal, diagonal_steps-refused, diagonal_steps-clear}
-use Rattle.columns.specs.Factor.{factor_column}
+use Rattle.columns.specs.Diagonal.{bad_diagonal}
+use Rattle.columns.proofs.Diagonal.{diagonal_steps-refused, diagonal_steps-clear}
+use Rattle.columns.proofs.Factor.{factor_column}
 use Rattle.lists.specs.Test.{any_none, any_more, any_less}
 use borrow.Author.Rules.{rules}
 use native.Mathlib.Omega.{arith}

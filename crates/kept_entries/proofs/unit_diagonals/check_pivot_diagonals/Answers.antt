@@ -1,7 +1,7 @@
 use mathlib.Core.Bool.{false}
-use Rattle.refusal.specs.Steps.{first_hit, first_skip, first_end}
+use Rattle.refusal.proofs.Steps.{first_hit, first_skip, first_end}
 use Rattle.columns.specs.UnitDiagonals.{other_diagonal, unit_steps}
-use Rattle.columns.specs.Factor.{factor_column}
+use Rattle.columns.proofs.Factor.{factor_column}
 use Rattle.lists.specs.Test.{any_none, any_more, any_less, any-hit}
 use borrow.Author.Rules.{rules}
 use native.Mathlib.Omega.{arith}

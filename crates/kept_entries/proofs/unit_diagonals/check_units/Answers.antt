@@ -7,9 +7,9 @@ use mir.Val.{to_z, of_z}
 use mir.ValLaws.{to_z-of_z}
 use borrow.Author.Rules.{rules}
 use Rattle.lists.specs.Test.{any, any_none, any_next, any_more, any-hit}
-use Rattle.refusal.specs.Steps.{first_hit, first_skip, first_end}
+use Rattle.refusal.proofs.Steps.{first_hit, first_skip, first_end}
 use Rattle.columns.specs.Columns.{start}
-use Rattle.columns.specs.Factor.{factor_column}
+use Rattle.columns.proofs.Factor.{factor_column}
 use Rattle.columns.specs.UnitDiagonals.{unit_steps, missing_steps}
 use Rattle.kept_entries.specs.DiagonalIs.{DiagonalIs}
 use Rattle.kept_entries.proofs.unit_diagonals.check_units.Invariants.{other, none}

@@ -5,7 +5,8 @@ use mathlib.Core.Bool.{Bool, false, not, ◌&&◌}
 use lib.Ieee.{ne}
 use borrow.Author.Tests.{eq-eqb}
 use Rattle.columns.specs.Columns.{row}
-use Rattle.columns.specs.Kept.{nonzero, nonzero-not}
+use Rattle.columns.specs.Kept.{nonzero}
+use Rattle.columns.proofs.Kept.{nonzero-not}
 use Rattle.columns.specs.Pivots.{float_one}
 use Rattle.columns.specs.UnitDiagonals.{other_than_one}
 use Rattle.kept_entries.proofs.DiagonalLaws.{place_none, place_one, other_off}

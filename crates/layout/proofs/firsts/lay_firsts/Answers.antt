@@ -5,8 +5,10 @@ use mathlib.Core.List.{List}
 use Prim.Native.Nat.{ℕ}
 use lib.ListN.{set, length-set}
 use Rattle.lists.specs.Overwrite.{filled_none, filled_more}
-use Rattle.pairs.specs.Pair.{max_pairs, pair_total_small}
-use Rattle.pairs.specs.ColumnOrder.{col_start, col_start_none, col_start_next, col_start_mono, col_start_total, column_marking}
+use Rattle.pairs.specs.Pair.{max_pairs}
+use Rattle.pairs.proofs.Pair.{pair_total_small}
+use Rattle.pairs.specs.ColumnOrder.{col_start, column_marking}
+use Rattle.pairs.proofs.ColumnOrder.{col_start_none, col_start_next, col_start_mono, col_start_total}
 use Rattle.entries.specs.Entries.{column_count}
 use Rattle.layout.proofs.LayoutLaws.{placed_none, placed_few, placed_more, column_few, columns_reached, firsts_room, firsts_end}
 use Rattle.layout.proofs.firsts.lay_firsts.Goals as goal

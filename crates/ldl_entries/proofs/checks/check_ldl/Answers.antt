@@ -1,14 +1,17 @@
 use mathlib.Core.Path.{◌≡◌, sym, ap, ◌∙◌}
 use mathlib.Core.List.{List, ◌++◌}
 use lib.ListN.{length}
-use Rattle.refusal.specs.Steps.{Step, verdict, Passed, append-refused, append_passed, passed_front}
-use Rattle.refusal.specs.FirstOf.{verdicts}
+use Rattle.refusal.specs.Steps.{Step, verdict, Passed}
+use Rattle.refusal.proofs.Steps.{append-refused, append_passed, passed_front}
+use Rattle.refusal.proofs.FirstOf.{verdicts}
 use Rattle.refusal.specs.Refusal.{reply_of}
 use Rattle.columns.specs.Columns.{bound_steps, factor_lists}
-use Rattle.columns.specs.Factor.{bound_steps-sound}
-use Rattle.columns.specs.Stored.{stored_steps, stored_steps-sound}
+use Rattle.columns.proofs.Factor.{bound_steps-sound}
+use Rattle.columns.specs.Stored.{stored_steps}
+use Rattle.columns.proofs.Stored.{stored_steps-sound}
 use native.Mathlib.Nat.{le_of_eq}
-use Rattle.columns.specs.Pivots.{pivot_list_steps, pivot_list_steps_long}
+use Rattle.columns.specs.Pivots.{pivot_list_steps}
+use Rattle.columns.proofs.Pivots.{pivot_list_steps_long}
 use Rattle.selection.specs.Selection.{room}
 use Rattle.selection.specs.RequestSteps.{request_bound_steps, request_steps}
 use Rattle.selection.specs.LdlCall.{ldl_fill_steps, ldl_steps}

@@ -3,7 +3,7 @@ use Rattle.columns.specs.Pivots.{pivot_steps}
 use Rattle.columns.specs.Columns.{factor_lists}
 use Rattle.selection.specs.Selection.{room, room_steps}
 use Rattle.selection.specs.LdlCall.{ldl_unit_steps}
-use Rattle.refusal.specs.FirstOf.{verdicts}
+use Rattle.refusal.proofs.FirstOf.{verdicts}
 use Rattle.ldl_entries.proofs.checks.check_ldl_fill.Goals as goal
 
 pub returns : goal.returns

@@ -1,5 +1,5 @@
 use mathlib.Core.Bool.{false}
-use Rattle.refusal.specs.Steps.{first_hit, first_skip, first_end}
+use Rattle.refusal.proofs.Steps.{first_hit, first_skip, first_end}
 use Rattle.columns.specs.Pivots.{pivot_steps}
 use Rattle.lists.specs.Test.{any_none, any_more, any_less, any-hit}
 use borrow.Author.Rules.{rules}

@@ -5,7 +5,8 @@ use mathlib.Core.Path.{sym, subst₂, ◌∙◌}
 use lib.ListN.{length}
 use Rattle.columns.specs.Columns.{start}
 use Rattle.columns.specs.Kept.{nonzero}
-use Rattle.columns.specs.Factor.{FirstFrom, starts_end}
+use Rattle.columns.specs.Factor.{FirstFrom}
+use Rattle.columns.proofs.Factor.{starts_end}
 use Rattle.levels.proofs.BackLaws.{descends_past, descends_other, descends_here}
 use Rattle.levels.proofs.chain.is_descendant.Goals as goal
 

@@ -5,7 +5,7 @@ use lib.ListN.{get_or}
 use mathlib.Core.Bool.{Bool, true, false, ◌&&◌, and-true, and-false}
 use lib.Dec.{eqb}
 use borrow.Author.Tests.{eq-eqb, ne_eqb}
-use Rattle.pairs.specs.ColumnOrder.{column_place_below}
+use Rattle.pairs.proofs.ColumnOrder.{column_place_below}
 use Rattle.columns.specs.Kept.{nonzero, pattern}
 use Rattle.closed_set.specs.ClosedSet.{descends}
 use Rattle.levels.specs.Levels.{level_word}

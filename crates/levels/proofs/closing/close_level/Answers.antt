@@ -3,7 +3,7 @@ use Prim.Native.Nat.{ℕ, ◌-◌, ◌+◌}
 use mathlib.Core.Path.{◌≡◌, ap, sym, subst, ◌∙◌}
 use lib.ListN.{get_or}
 use Rattle.lists.specs.Test.{any_in, any_in_none}
-use Rattle.pairs.specs.Pair.{pair_total_small}
+use Rattle.pairs.proofs.Pair.{pair_total_small}
 use Rattle.columns.specs.Kept.{nonzero, pattern}
 use Rattle.levels.specs.Levels.{level_queue, QueuedLevel, raised_none, raised_next, raised_cong, levelled_most}
 use Rattle.levels.specs.Closing.{word_depends}

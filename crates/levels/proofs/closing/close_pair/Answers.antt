@@ -6,7 +6,7 @@ use Rattle.lists.specs.Test.{any_in, any_in_none}
 use Rattle.pairs.specs.Pair.{ordered}
 use Rattle.columns.specs.Columns.{start}
 use Rattle.columns.specs.Kept.{nonzero}
-use Rattle.columns.specs.Factor.{starts_end}
+use Rattle.columns.proofs.Factor.{starts_end}
 use Rattle.levels.specs.Levels.{raised_none, raised_next, raised_cong}
 use Rattle.levels.specs.Closing.{column_depends}
 use Rattle.levels.proofs.closing.close_pair.Invariants.{entry_depends}

@@ -6,10 +6,11 @@ use mathlib.Core.List.{List}
 use Rattle.refusal.specs.Bounds.{max_dimension}
 use Rattle.closed_set.specs.ClosedSet.{Pattern, Ranged}
 use Rattle.lists.specs.Test.{any_in}
-use Rattle.pairs.specs.Pair.{pair_total_small}
+use Rattle.pairs.proofs.Pair.{pair_total_small}
 use Rattle.columns.specs.Kept.{nonzero, pattern}
-use Rattle.closed_set.specs.Requests.{requested, requested_ranged}
-use Rattle.closed_set.specs.FactorPattern.{factor_pattern}
+use Rattle.closed_set.specs.Requests.{requested}
+use Rattle.closed_set.proofs.Requests.{requested_ranged}
+use Rattle.closed_set.proofs.FactorPattern.{factor_pattern}
 use Rattle.levels.specs.Levels.{level_queue, Raised, levelled_most}
 use Rattle.levels.specs.Closing.{AtLevel, word_depends, one_level, level_next, level_end}
 use Rattle.levels.proofs.closing.level_pairs.Goals as goal

@@ -9,8 +9,9 @@ use Rattle.lists.specs.Sum.{bit}
 use Rattle.refusal.specs.Steps.{Reply, refused, answered, settle}
 use Rattle.columns.specs.Columns.{start}
 use Rattle.columns.specs.Kept.{f0}
-use Rattle.result.specs.Place.{place_in, place_in_stands}
-use Rattle.result.specs.Laws.{diagonal_of_place, mark_of_place, column_rows_lem}
+use Rattle.result.specs.Place.{place_in}
+use Rattle.result.proofs.Place.{place_in_stands}
+use Rattle.result.proofs.Laws.{diagonal_of_place, mark_of_place, column_rows_lem}
 use Rattle.result.specs.Lookup.{WellFormed, dimension, value_at, finds, diagonal_of, mark_of}
 use Rattle.column_search.specs.Reply.{place_reply}
 use Rattle.lookup.proofs.diagonal_list.diagonal.Goals as goal

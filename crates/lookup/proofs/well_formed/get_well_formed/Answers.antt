@@ -3,7 +3,7 @@ use mathlib.Core.Path.{ap, sym, ◌∙◌}
 use lib.ListN.{length}
 use lib.Ieee.{nan}
 use Rattle.result.specs.Lookup.{value_at}
-use Rattle.result.specs.Halving.{place_within_inside}
+use Rattle.result.proofs.Halving.{place_within_inside}
 use Rattle.lookup.proofs.well_formed.get_well_formed.Goals as goal
 
 pub value_at-requires : goal.value_at-requires

@@ -3,7 +3,7 @@ use mathlib.Core.Path.{ap, sym, ◌∙◌}
 use lib.ListN.{length}
 use lib.IntN.{pos}
 use Rattle.result.specs.Lookup.{value_at}
-use Rattle.result.specs.Laws.{entry_place_inside, lookup_place_lem}
+use Rattle.result.proofs.Laws.{entry_place_inside, lookup_place_lem}
 use Rattle.lookup.proofs.whole.get_whole.Goals as goal
 
 pub whole_value-requires : goal.whole_value-requires

@@ -3,11 +3,13 @@ use native.Mathlib.Omega.{arith}
 use mathlib.Core.Path.{◌≡◌, ap, ap₂, sym, subst₂, ◌∙◌}
 use lib.ListN.{length, get_or}
 use lib.Ieee.{Float, binary64, nan, add, mul}
-use Rattle.pairs.specs.Positions.{inverse_at, inverse_at_ordered}
+use Rattle.pairs.specs.Positions.{inverse_at}
+use Rattle.pairs.proofs.Positions.{inverse_at_ordered}
 use Rattle.columns.specs.Columns.{value}
 use Rattle.exact.specs.Exact.{floats}
 use Rattle.pair_places.specs.Position.{PairEntryInput, shift_fits}
-use Rattle.quadratic_form.specs.CrossValue.{with_terms, with_terms_none, with_terms_next}
+use Rattle.quadratic_form.specs.CrossValue.{with_terms}
+use Rattle.quadratic_form.proofs.CrossValue.{with_terms_none, with_terms_next}
 use Rattle.quadratic_form.specs.RowValue.{term_column}
 use Rattle.operator_values.proofs.cross_value.add_terms.Goals as goal
 

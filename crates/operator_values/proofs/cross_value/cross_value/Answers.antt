@@ -5,7 +5,8 @@ use lib.Ieee.{Float, nan}
 use Rattle.pairs.specs.Positions.{inverse_at}
 use Rattle.columns.specs.Columns.{value}
 use Rattle.exact.specs.Exact.{floats}
-use Rattle.quadratic_form.specs.CrossValue.{with_terms, sum_before, sum_before_start, sum_before_next}
+use Rattle.quadratic_form.specs.CrossValue.{with_terms, sum_before}
+use Rattle.quadratic_form.proofs.CrossValue.{sum_before_start, sum_before_next}
 use Rattle.quadratic_form.specs.RowValue.{term_column}
 use Rattle.operator_values.proofs.ReadingLaws.{one_place}
 use Rattle.operator_values.proofs.cross_value.cross_value.Goals as goal

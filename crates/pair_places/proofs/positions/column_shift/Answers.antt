@@ -3,7 +3,8 @@ use native.Mathlib.Nat.{mul-add, mul-le-mul}
 use Prim.Native.Nat.{ℕ, ◌+◌, ◌*◌, ◌-◌, ◌/◌, ◌≤◌, ◌<◌}
 use mathlib.Core.Path.{◌≡◌, ap}
 use Rattle.refusal.specs.Bounds.{max_dimension}
-use Rattle.pairs.specs.ColumnOrder.{col_start, col_start-half}
+use Rattle.pairs.specs.ColumnOrder.{col_start}
+use Rattle.pairs.proofs.ColumnOrder.{col_start-half}
 use Rattle.pair_places.proofs.positions.column_shift.Goals as goal
 
 -- as the code computes the shift of column c

@@ -1,5 +1,5 @@
 use mathlib.Core.Path.{◌∙◌}
-use Rattle.pairs.specs.Scratch.{queue_start_total}
+use Rattle.pairs.proofs.Scratch.{queue_start_total}
 use Rattle.pair_places.proofs.scratch.queue_start.Goals as goal
 
 pub returns : goal.returns

@@ -1,5 +1,5 @@
 use native.Mathlib.Omega.{arith}
-use Rattle.pairs.specs.Scratch.{scratch_words_total}
+use Rattle.pairs.proofs.Scratch.{scratch_words_total}
 use Rattle.pair_places.proofs.scratch.scratch_words.Goals as goal
 
 pub returns : goal.returns

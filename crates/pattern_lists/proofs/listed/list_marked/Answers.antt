@@ -1,9 +1,12 @@
 use native.Mathlib.Omega.{arith}
 use mathlib.Core.Path.{◌≡◌, ap, ◌∙◌}
 use Rattle.lists.specs.Select.{tally}
-use Rattle.bits.specs.Bits.{bit_at, bit_words, bit_words_most}
-use Rattle.pairs.specs.Pair.{pair_total, pair_total_small, pair_count}
-use Rattle.pairs.specs.Marks.{marking, marks_count}
+use Rattle.bits.specs.Bits.{bit_at, bit_words}
+use Rattle.bits.proofs.Bits.{bit_words_most}
+use Rattle.pairs.specs.Pair.{pair_total, pair_count}
+use Rattle.pairs.proofs.Pair.{pair_total_small}
+use Rattle.pairs.specs.Marks.{marking}
+use Rattle.pairs.proofs.Marks.{marks_count}
 use Rattle.pattern_lists.proofs.ListedPairs.{rows_short, columns_short, listed_all}
 use Rattle.pattern_lists.proofs.listed.list_marked.Goals as goal
 

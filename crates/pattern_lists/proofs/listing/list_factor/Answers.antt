@@ -3,7 +3,7 @@ use mathlib.Core.Path.{◌≡◌, ap, ◌∙◌}
 use lib.ListN.{length}
 use Rattle.lists.specs.Overwrite.{filled-length}
 use Rattle.columns.specs.Kept.{nonzero}
-use Rattle.pattern_lists.specs.PatternMarks.{columns_set-kept_pair}
+use Rattle.pattern_lists.proofs.PatternMarks.{columns_set-kept_pair}
 use Rattle.pattern_lists.proofs.PatternLists.{listed_set}
 use Rattle.pattern_lists.proofs.listing.list_factor.Goals as goal
 

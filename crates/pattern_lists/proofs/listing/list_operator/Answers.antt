@@ -2,7 +2,7 @@ use native.Mathlib.Omega.{arith}
 use mathlib.Core.Path.{◌≡◌, ap, ◌∙◌}
 use lib.ListN.{length}
 use Rattle.lists.specs.Overwrite.{filled-length}
-use Rattle.pattern_lists.specs.PatternMarks.{rows_set-operator_pair}
+use Rattle.pattern_lists.proofs.PatternMarks.{rows_set-operator_pair}
 use Rattle.pattern_lists.proofs.PatternLists.{listed_set}
 use Rattle.pattern_lists.proofs.listing.list_operator.Goals as goal
 

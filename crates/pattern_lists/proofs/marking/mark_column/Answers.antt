@@ -3,7 +3,8 @@ use native.Mathlib.Omega.{arith}
 use mathlib.Core.Path.{◌≡◌, refl, subst, ◌∙◌}
 use Rattle.pairs.specs.Marks.{Added}
 use Rattle.columns.specs.Kept.{nonzero}
-use Rattle.pattern_lists.specs.PatternMarks.{entry_set, column_set, range_none, range_more}
+use Rattle.pattern_lists.specs.PatternMarks.{entry_set, column_set}
+use Rattle.pattern_lists.proofs.PatternMarks.{range_none, range_more}
 use Rattle.pattern_lists.proofs.marking.mark_column.Goals as goal
 
 pub loop-p-init : goal.loop-p-init

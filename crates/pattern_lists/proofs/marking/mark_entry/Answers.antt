@@ -3,7 +3,7 @@ use native.Mathlib.Omega.{arith}
 use mathlib.Core.Path.{sym, subst}
 use Rattle.pairs.specs.Marks.{Added, HasMark, single}
 use Rattle.columns.specs.Kept.{nonzero}
-use Rattle.pattern_lists.specs.PatternMarks.{dropped_above, dropped_zero, kept_entry, entry_dropped, entry_kept}
+use Rattle.pattern_lists.proofs.PatternMarks.{dropped_above, dropped_zero, kept_entry, entry_dropped, entry_kept}
 use Rattle.pattern_lists.proofs.marking.mark_entry.Goals as goal
 
 pub returns-then-r-c : goal.returns-then-r-c

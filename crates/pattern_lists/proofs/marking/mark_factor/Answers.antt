@@ -5,7 +5,8 @@ use lib.ListN.{length}
 use Rattle.pairs.specs.Marks.{Added}
 use Rattle.columns.specs.Columns as columns
 use Rattle.columns.specs.Kept.{nonzero}
-use Rattle.pattern_lists.specs.PatternMarks.{MarkColumnInput, column_fits, column_set, columns_set, below_none, below_more}
+use Rattle.pattern_lists.specs.PatternMarks.{MarkColumnInput, column_set, columns_set}
+use Rattle.pattern_lists.proofs.PatternMarks.{column_fits, below_none, below_more}
 use Rattle.pattern_lists.proofs.marking.mark_factor.Goals as goal
 
 pub loop-c-init : goal.loop-c-init

@@ -4,7 +4,8 @@ use mathlib.Core.Path.{◌≡◌, refl, sym, subst, subst₂, ◌∙◌}
 use Rattle.pairs.specs.Marks.{Added}
 use Rattle.columns.specs.Columns as columns
 use Rattle.columns.specs.Operator.{operator_rows}
-use Rattle.pattern_lists.specs.PatternMarks.{MarkTermsInput, row_fits, row_set, rows_set, below_none, below_more}
+use Rattle.pattern_lists.specs.PatternMarks.{MarkTermsInput, row_set, rows_set}
+use Rattle.pattern_lists.proofs.PatternMarks.{row_fits, below_none, below_more}
 use Rattle.pattern_lists.proofs.marking.mark_operator.Goals as goal
 
 -- the row's number

@@ -2,7 +2,8 @@ use Prim.Native.Nat.{ℕ, ◌-◌, ◌+◌}
 use native.Mathlib.Omega.{arith}
 use mathlib.Core.Path.{◌≡◌, refl, subst, ◌∙◌}
 use Rattle.pairs.specs.Marks.{Added}
-use Rattle.pattern_lists.specs.PatternMarks.{terms_part, terms_set, row_set, range_none, range_more}
+use Rattle.pattern_lists.specs.PatternMarks.{terms_set, row_set}
+use Rattle.pattern_lists.proofs.PatternMarks.{terms_part, range_none, range_more}
 use Rattle.pattern_lists.proofs.marking.mark_row.Goals as goal
 
 pub loop-a-init : goal.loop-a-init

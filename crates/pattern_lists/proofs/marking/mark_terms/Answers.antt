@@ -4,7 +4,8 @@ use mathlib.Core.Path.{◌≡◌, refl, sym, subst, subst₂, ◌∙◌}
 use Rattle.lists.specs.Test.{any_in}
 use Rattle.pairs.specs.Pair.{ordered}
 use Rattle.pairs.specs.Marks.{Added}
-use Rattle.pattern_lists.specs.PatternMarks.{MarkOrderedInput, terms_spot, terms_part, term_set, range_none, range_more}
+use Rattle.pattern_lists.specs.PatternMarks.{MarkOrderedInput, term_set}
+use Rattle.pattern_lists.proofs.PatternMarks.{terms_spot, terms_part, range_none, range_more}
 use Rattle.pattern_lists.proofs.marking.mark_terms.Goals as goal
 
 pub at-x-requires : goal.at-x-requires

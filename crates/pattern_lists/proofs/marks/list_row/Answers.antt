@@ -1,5 +1,5 @@
 use native.Mathlib.Omega.{arith}
-use Rattle.pairs.specs.Pair.{pair_total_small}
+use Rattle.pairs.proofs.Pair.{pair_total_small}
 use Rattle.pattern_lists.proofs.RowLaws.{row_none, row_room, row_count, row_listed}
 use Rattle.pattern_lists.proofs.marks.list_row.Goals as goal
 

@@ -1,7 +1,8 @@
 use native.Mathlib.Omega.{arith}
 use mathlib.Core.Path.{sym, ap, subst, ◌∙◌}
 use Rattle.bits.specs.Bits.{with_bit}
-use Rattle.pairs.specs.Marks.{Added, single, added_pair}
+use Rattle.pairs.specs.Marks.{Added, single}
+use Rattle.pairs.proofs.Marks.{added_pair}
 use Rattle.pattern_lists.proofs.marks.mark_pair.Goals as goal
 
 pub row_place-requires : goal.row_place-requires

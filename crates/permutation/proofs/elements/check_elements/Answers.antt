@@ -2,7 +2,8 @@ use Prim.Native.Nat.{ℕ, ◌-◌}
 use native.Mathlib.Omega.{arith}
 use mathlib.Core.Path.{◌≡◌, sym, subst, ◌∙◌}
 use lib.ListN.{length}
-use Rattle.refusal.specs.Steps.{each_refused, Passed, each}
+use Rattle.refusal.specs.Steps.{Passed, each}
+use Rattle.refusal.proofs.Steps.{each_refused}
 use Rattle.factor_order.specs.Permutation.{element_steps}
 use Rattle.permutation.proofs.ElementLaws.{looked_none, looked_more, element_large, element_repeated, element_disagrees}
 use Rattle.permutation.proofs.elements.check_elements.Goals as goal

@@ -4,7 +4,8 @@ use mathlib.Core.Path.{◌≡◌, refl, ap, ◌∙◌}
 use lib.ListN.{length, set, length-set}
 use borrow.Author.Rules.{rules}
 use Rattle.factor_order.specs.Permutation.{index}
-use Rattle.factor_order.specs.Laws.{stored_to, stored_to_none, stored_to_more, stored_inverse}
+use Rattle.factor_order.specs.Laws.{stored_to}
+use Rattle.factor_order.proofs.Laws.{stored_to_none, stored_to_more, stored_inverse}
 use Rattle.permutation.proofs.inverse.invert.Goals as goal
 
 -- the place is within the output

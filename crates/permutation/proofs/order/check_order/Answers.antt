@@ -2,7 +2,7 @@ use native.Mathlib.Omega.{arith}
 use mathlib.Core.Path.{sym, ap}
 use mathlib.Core.Bool.{not, true≢false}
 use borrow.Author.Tests.{eq-eqb, ne_eqb}
-use Rattle.refusal.specs.Steps.{first_hit, first_skip}
+use Rattle.refusal.proofs.Steps.{first_hit, first_skip}
 use Rattle.permutation.proofs.order.check_order.Goals as goal
 
 pub returns-then-orig_to_perm-n : goal.returns-then-orig_to_perm-n

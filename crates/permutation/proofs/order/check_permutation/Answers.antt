@@ -1,7 +1,7 @@
 use mathlib.Core.Path.{sym, ap, ◌∙◌}
 use mathlib.Core.Bool.{true≢false}
 use borrow.Author.Tests.{lt-ltb, le-ltb}
-use Rattle.refusal.specs.Steps.{first_hit, first_skip, first_end, append-refused, append_passed}
+use Rattle.refusal.proofs.Steps.{first_hit, first_skip, first_end, append-refused, append_passed}
 use Rattle.refusal.specs.Refusal.{reply_of}
 use Rattle.factor_order.specs.Permutation.{permutation_steps}
 use Rattle.permutation.proofs.order.check_permutation.Goals as goal

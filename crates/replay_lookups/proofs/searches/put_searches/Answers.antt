@@ -1,7 +1,7 @@
 -- A column that is not refused has its rows in order.
 use Rattle.std.proofs.Common.{ap, sym, ◌∙◌}
 use Rattle.refusal.specs.Refusal.{reply_of}
-use Rattle.result.specs.Laws.{column_faults-sound}
+use Rattle.result.proofs.Laws.{column_faults-sound}
 use Rattle.replay_lookups.proofs.searches.put_searches.Goals as goal
 
 pub put_places-requires-clause-column : goal.put_places-requires-clause-column

@@ -5,8 +5,9 @@ use Rattle.lists.specs.Test.{any_none}
 use Rattle.columns.specs.Columns as columns
 use Rattle.columns.specs.Operator.{operator_rows}
 use Rattle.marked_pairs.specs.MarkedPairs.{AlsoMarked, also_none, also_more, pairs_also, pairs_cong}
-use Rattle.pattern_lists.specs.PatternMarks.{row_set, rows_set, rows_set-operator_pair}
-use Rattle.request_marks.specs.OperatorRequests.{operator_requested_pair}
+use Rattle.pattern_lists.specs.PatternMarks.{row_set, rows_set}
+use Rattle.pattern_lists.proofs.PatternMarks.{rows_set-operator_pair}
+use Rattle.request_marks.proofs.OperatorRequests.{operator_requested_pair}
 use Rattle.request_marks.specs.OperatorMarks.{RowInput}
 use Rattle.request_marks.proofs.OperatorLaws.{row_input}
 use Rattle.request_marks.proofs.operator.mark_operator_pairs.Goals as goal

@@ -1,7 +1,7 @@
 use mathlib.Core.Path.{ap, sym, ◌∙◌}
 use mathlib.Core.Bool.{not}
 use borrow.Author.Tests.{lt-ltb, le-ltb, eq-eqb, ne_eqb}
-use Rattle.refusal.specs.Steps.{first_hit, first_skip, first_end}
+use Rattle.refusal.proofs.Steps.{first_hit, first_skip, first_end}
 use Rattle.requests_writer.specs.Writer.{write_checks}
 use Rattle.requests_writer.proofs.checks.check_written.Goals as goal
 

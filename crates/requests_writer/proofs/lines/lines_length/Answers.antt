@@ -3,7 +3,8 @@ use Prim.Native.Nat.{ℕ, ◌≤◌, ◌+◌}
 use mathlib.Core.Path.{◌≡◌, refl, ap, sym, ◌∙◌}
 use lib.ListN.{length}
 use lib.ListN.{take, length-append}
-use Rattle.pairs.specs.ColumnOrder.{column_marking, col_start_none, col_start_next}
+use Rattle.pairs.specs.ColumnOrder.{column_marking}
+use Rattle.pairs.proofs.ColumnOrder.{col_start_none, col_start_next}
 use Rattle.requests_writer.specs.Lines.{rows_bytes, columns_bytes}
 use Rattle.requests_writer.proofs.ByteLaws.{columns_none}
 use Rattle.requests_writer.proofs.ColumnLaws.{column_input, rows_inside, columns_more, pairs_more, list_long, pairs_most, column_small}

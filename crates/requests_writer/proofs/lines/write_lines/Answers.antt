@@ -8,7 +8,8 @@ use mathlib.Core.Path.{◌≡◌, refl, ap, sym, ◌∙◌}
 use lib.ListN.{length}
 use mathlib.Core.List.{◌++◌}
 use lib.ListN.{length-append}
-use Rattle.pairs.specs.ColumnOrder.{column_marking, col_start_none, col_start_next}
+use Rattle.pairs.specs.ColumnOrder.{column_marking}
+use Rattle.pairs.proofs.ColumnOrder.{col_start_none, col_start_next}
 use Rattle.requests_writer.specs.Lines.{rows_bytes, columns_bytes}
 use Rattle.requests_writer.proofs.ByteLaws.{wrote_none, wrote_more, wrote_cong, wrote_length, columns_none, columns_mono}
 use Rattle.requests_writer.proofs.ColumnLaws.{column_input, rows_inside, columns_more, list_long, column_small}

@@ -1,6 +1,6 @@
 use native.Mathlib.Omega.{arith}
 use Prim.Native.Nat.{◌/◌}
-use Rattle.matrix_market.specs.Decimal.{decimal_some, decimal_short, decimal_longer, decimal_less}
+use Rattle.matrix_market.proofs.Decimal.{decimal_some, decimal_short, decimal_longer, decimal_less}
 use Rattle.requests_writer.proofs.numbers.number_length.Goals as goal
 
 pub overflow_add-m : goal.overflow_add-m

@@ -5,7 +5,8 @@ use lib.ListN.{length}
 use Prim.Native.Nat.{◌/◌}
 use mathlib.Core.Path.{subst}
 use lib.ListN.{set, length-set}
-use Rattle.matrix_market.specs.Decimal.{decimal, decimal_some, decimal_longer}
+use Rattle.matrix_market.specs.Decimal.{decimal}
+use Rattle.matrix_market.proofs.Decimal.{decimal_some, decimal_longer}
 use Rattle.requests_writer.specs.Lines.{Wrote}
 use Rattle.requests_writer.proofs.ByteLaws.{LastDigits, digits_start, digits_inside, digits_more, digits_end_lem}
 use Rattle.requests_writer.proofs.numbers.write_number.Goals as goal

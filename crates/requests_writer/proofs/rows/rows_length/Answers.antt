@@ -3,7 +3,8 @@ use Prim.Native.Nat.{ℕ, ◌+◌}
 use mathlib.Core.Path.{◌≡◌, ap, sym, ◌∙◌}
 use lib.ListN.{length, get_or}
 use lib.ListN.{take, length-append}
-use Rattle.matrix_market.specs.Decimal.{decimal, decimal_most}
+use Rattle.matrix_market.specs.Decimal.{decimal}
+use Rattle.matrix_market.proofs.Decimal.{decimal_most}
 use Rattle.requests_writer.specs.Lines.{entry_bytes, rows_bytes}
 use Rattle.requests_writer.proofs.ByteLaws.{rows_none, rows_next, entry_length, entry_most}
 use Rattle.requests_writer.proofs.rows.rows_length.Goals as goal

@@ -1,6 +1,6 @@
 use native.Mathlib.Omega.{arith}
 use lib.Count.{trailing_le}
-use Rattle.bits.specs.Bits.{trailing_lowest}
+use Rattle.bits.proofs.Bits.{trailing_lowest}
 use Rattle.set_bits.proofs.word_numbers.lowest_bit.Goals as goal
 
 pub overflow_cast-result : goal.overflow_cast-result

@@ -3,7 +3,7 @@ use mathlib.Core.Path.{refl, ap, ap₂, sym, ◌∙◌}
 use lib.ListN.{set}
 use lib.Seq.{set_out}
 use lib.IntN.{ℤ, ◌+ℤ◌}
-use Rattle.integers.specs.Size.{size_sum}
+use Rattle.integers.proofs.Size.{size_sum}
 use Rattle.whole_steps.specs.Machine.{held, fits_both}
 use Rattle.track_variances.proofs.cells.add_twice.Goals as goal
 

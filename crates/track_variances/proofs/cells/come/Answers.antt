@@ -4,15 +4,17 @@ use Prim.Native.Nat.{ℕ, ◌≤◌, ◌<◌, ◌-◌, ◌+◌}
 use mathlib.Core.Path.{◌≡◌, ap, ap₂, sym, subst, ◌∙◌}
 use mathlib.Core.List.{List}
 use lib.IntN.{ℤ, ◌+ℤ◌}
-use Rattle.integers.specs.Size.{SizeWithin, size_is, size_sum}
-use Rattle.integers.specs.Sum.{sum_next}
+use Rattle.integers.specs.Size.{SizeWithin}
+use Rattle.integers.proofs.Size.{size_is, size_sum}
+use Rattle.integers.proofs.Sum.{sum_next}
 use Rattle.columns.specs.WholeFactor.{whole_value}
 use Rattle.whole_steps.specs.Machine.{held, fits_both}
 use Rattle.whole_pairs.specs.Entry.{entry_or_zero}
 use Rattle.run_sums.specs.Slide.{line_sum}
 use Rattle.track_variances.specs.Track.{track_entry, max_track_entry}
-use Rattle.track_variances.specs.Sizes.{later_small, before_line}
-use Rattle.track_variances.specs.Slots.{MayCome, Met, Come, met_none, met_more, met_all, slot_small}
+use Rattle.track_variances.proofs.Sizes.{later_small, before_line}
+use Rattle.track_variances.specs.Slots.{MayCome, Met, Come}
+use Rattle.track_variances.proofs.Slots.{met_none, met_more, met_all, slot_small}
 use Rattle.track_variances.proofs.cells.come.Goals as goal
 
 module _ {starts rows : List ℕ} {values : List ℤ} {track : List ℕ} {k c f : ℕ} {list : List ℤ} (M : MayCome starts rows values track k c list) (e : f ≡ c + 1 - k) where

@@ -7,9 +7,9 @@ use Rattle.refusal.specs.Steps.{Passed, verdict}
 use Rattle.refusal.specs.Bounds.{output_steps}
 use Rattle.run_sums.specs.Runs.{runs}
 use Rattle.refusal.specs.Refusal.{reply_of}
-use Rattle.result.specs.Laws.{result_steps-sound}
+use Rattle.result.proofs.Laws.{result_steps-sound}
 use Rattle.track_variances.specs.Track.{run_steps}
-use Rattle.track_variances.specs.Laws.{width_steps-sound, track_result, track_width, track_runs, track_room}
+use Rattle.track_variances.proofs.Laws.{width_steps-sound, track_result, track_width, track_runs, track_room}
 use Rattle.track_variances.proofs.checks.check_call.Goals as goal
 
 runs-passed : (c : goal.After-check_output) → let a = c.args in Passed (run_steps a.starts.now a.rows.now a.values.now a.track.now a.width)

@@ -3,7 +3,7 @@ use mathlib.Core.Path.{ap, ◌∙◌}
 use mathlib.Core.List.{[], ◌∷◌}
 use lib.Dec.{leb}
 use Rattle.refusal.specs.Steps.{verdict}
-use Rattle.track_variances.specs.Laws.{run_steps-fault}
+use Rattle.track_variances.proofs.Laws.{run_steps-fault}
 use Rattle.track_variances.proofs.checks.check_runs.Goals as goal
 
 pub track_fault-requires : goal.track_fault-requires

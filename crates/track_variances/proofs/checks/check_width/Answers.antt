@@ -1,4 +1,4 @@
-use Rattle.track_variances.specs.Laws.{width_none, width_wide, width_long, width_passed}
+use Rattle.track_variances.proofs.Laws.{width_none, width_wide, width_long, width_passed}
 use Rattle.track_variances.proofs.checks.check_width.Goals as goal
 
 pub returns-then-width-eq0 : goal.returns-then-width-eq0

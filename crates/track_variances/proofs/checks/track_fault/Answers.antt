@@ -4,7 +4,8 @@ use mathlib.Core.Path.{◌≡◌, ap, ap₂, sym, ◌∙◌}
 use lib.ListN.{length}
 use Rattle.whole_pairs.specs.Entry.{cell_fault}
 use Rattle.track_variances.specs.Track.{max_track_entry}
-use Rattle.whole_pairs.specs.Worst.{worst, worst_in, worst_none, worst_next}
+use Rattle.whole_pairs.specs.Worst.{worst, worst_in}
+use Rattle.whole_pairs.proofs.Worst.{worst_none, worst_next}
 use Rattle.track_variances.proofs.checks.track_fault.Invariants.{line}
 use Rattle.track_variances.proofs.checks.track_fault.Goals as goal
 

@@ -6,8 +6,9 @@ use lib.Seq.{get_or-set_same}
 use lib.IntN.{pos}
 use Rattle.whole_pairs.specs.Entry.{entry_or_zero}
 use Rattle.track_variances.specs.Track.{track_entry}
-use Rattle.track_variances.specs.Slots.{Slots, slots_none}
-use Rattle.track_variances.specs.Laws.{slots_done}
+use Rattle.track_variances.specs.Slots.{Slots}
+use Rattle.track_variances.proofs.Slots.{slots_none}
+use Rattle.track_variances.proofs.Laws.{slots_done}
 use Rattle.track_variances.proofs.runs.all_cells.Goals as goal
 
 pub slice_set_of-list : goal.slice_set_of-list

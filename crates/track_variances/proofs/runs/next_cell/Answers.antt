@@ -7,13 +7,15 @@ use mathlib.Core.List.{List}
 use lib.IntN.{ℤ, ◌+ℤ◌}
 use mir.Syntax.{w64}
 use mir.Val.{to_z, of_z}
-use Rattle.integers.specs.Size.{SizeWithin, size_sum}
+use Rattle.integers.specs.Size.{SizeWithin}
+use Rattle.integers.proofs.Size.{size_sum}
 use Rattle.whole_steps.specs.Machine.{held, fits_both}
 use Rattle.run_sums.specs.Runs.{block_sum}
 use Rattle.run_sums.specs.Slide.{strip}
 use Rattle.track_variances.specs.Track.{track_entry}
-use Rattle.track_variances.specs.Slots.{MayCome, slots_next, come_joins, joined_small, coming_small}
-use Rattle.track_variances.specs.Laws.{entries_symmetric}
+use Rattle.track_variances.specs.Slots.{MayCome}
+use Rattle.track_variances.proofs.Slots.{slots_next, come_joins, joined_small, coming_small}
+use Rattle.track_variances.proofs.Laws.{entries_symmetric}
 use Rattle.track_variances.proofs.runs.next_cell.Goals as goal
 
 module _ {starts rows : List ℕ} {values : List ℤ} {track : List ℕ} {k c : ℕ} {list : List ℤ} (M : MayCome starts rows values track k c list) where

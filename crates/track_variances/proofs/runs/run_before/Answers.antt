@@ -7,12 +7,14 @@ use lib.IntN.{ℤ, ◌-ℤ◌}
 use mir.Syntax.{w64}
 use mir.Val.{to_z, of_z}
 use mir.ValLaws.{to_z-of_z}
-use Rattle.integers.specs.Size.{SizeWithin, size_minus}
+use Rattle.integers.specs.Size.{SizeWithin}
+use Rattle.integers.proofs.Size.{size_minus}
 use Rattle.columns.specs.WholeFactor.{whole_value}
 use Rattle.whole_steps.specs.Machine.{held, fits_both}
 use Rattle.track_variances.specs.Track.{track_entry}
-use Rattle.track_variances.specs.Slots.{MayCome, before_growing, before_sliding, run_small, slot_small, joined_small}
-use Rattle.track_variances.specs.Laws.{entries_symmetric}
+use Rattle.track_variances.specs.Slots.{MayCome}
+use Rattle.track_variances.proofs.Slots.{before_growing, before_sliding, run_small, slot_small, joined_small}
+use Rattle.track_variances.proofs.Laws.{entries_symmetric}
 use Rattle.track_variances.proofs.runs.run_before.Goals as goal
 
 module _ {starts rows : List ℕ} {values : List ℤ} {track : List ℕ} {k c : ℕ} {list : List ℤ} (M : MayCome starts rows values track k c list) where

@@ -6,7 +6,8 @@ use lib.ListN.{length, drop}
 use lib.IntN.{ℤ}
 use Rattle.lists.specs.Overwrite.{overwrite}
 use Rattle.whole_pairs.specs.Entry.{entry_or_zero}
-use Rattle.run_sums.specs.Runs.{run_sums, run_sums-length}
+use Rattle.run_sums.specs.Runs.{run_sums}
+use Rattle.run_sums.proofs.Runs.{run_sums-length}
 use Rattle.track_variances.proofs.runs.write_runs.Goals as goal
 
 -- src/runs.rt:79:1

@@ -3,7 +3,7 @@ use lib.IntN.{nat_abs}
 use lib.Signed.{lt_z}
 use mir.Syntax.{w64}
 use mir.ValLaws.{to_z-of_z}
-use Rattle.weight_ranges.specs.Laws.{bad_low, bad_high, bad_order}
+use Rattle.weight_ranges.proofs.Laws.{bad_low, bad_high, bad_order}
 use Rattle.weight_ranges.proofs.checks.bad_range.Goals as goal
 
 pub returns-then-size-gt-MAX_WEIGHT : goal.returns-then-size-gt-MAX_WEIGHT

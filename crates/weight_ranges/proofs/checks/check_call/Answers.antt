@@ -4,9 +4,9 @@ use mathlib.Core.Path.{ap, sym, ◌∙◌}
 use lib.ListN.{length}
 use Rattle.refusal.specs.Steps.{Passed}
 use Rattle.refusal.specs.Refusal.{reply_of}
-use Rattle.result.specs.Laws.{result_steps-sound}
+use Rattle.result.proofs.Laws.{result_steps-sound}
 use Rattle.weight_ranges.specs.Ranges.{weight_steps}
-use Rattle.weight_ranges.specs.Laws.{range_result, range_row, range_weights, range_pairs, equal_lengths}
+use Rattle.weight_ranges.proofs.Laws.{range_result, range_row, range_weights, range_pairs, equal_lengths}
 use Rattle.weight_ranges.proofs.checks.check_call.Goals as goal
 
 weights_passed : (c : goal.After-check_pairs) → let a = c.args in Passed (weight_steps (length a.columns.now) a.lows.now a.highs.now)

@@ -3,7 +3,7 @@ use mathlib.Core.Path.{ap, ◌∙◌}
 use mathlib.Core.List.{[], ◌∷◌}
 use lib.Dec.{leb}
 use Rattle.refusal.specs.Steps.{verdict}
-use Rattle.weight_ranges.specs.Laws.{pair_steps-fault}
+use Rattle.weight_ranges.proofs.Laws.{pair_steps-fault}
 use Rattle.weight_ranges.proofs.checks.check_pairs.Goals as goal
 
 pub row_fault-requires : goal.row_fault-requires

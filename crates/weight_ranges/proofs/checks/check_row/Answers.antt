@@ -1,6 +1,6 @@
 use mathlib.Core.Path.{sym, ◌∙◌}
-use Rattle.weight_ranges.specs.Laws.{row_lows, row_highs, row_outside, row_repeated, row_passed}
-use Rattle.weight_ranges.specs.Repeats.{repeats}
+use Rattle.weight_ranges.proofs.Laws.{row_lows, row_highs, row_outside, row_repeated, row_passed}
+use Rattle.weight_ranges.proofs.Repeats.{repeats}
 use Rattle.weight_ranges.proofs.checks.check_row.Goals as goal
 
 pub returns-then-columns-lows : goal.returns-then-columns-lows

@@ -1,5 +1,5 @@
 use mathlib.Core.Path.{sym, ◌∙◌}
-use Rattle.weight_ranges.specs.Laws.{weights_many, weights_bad, weights_passed}
+use Rattle.weight_ranges.proofs.Laws.{weights_many, weights_bad, weights_passed}
 use Rattle.weight_ranges.proofs.checks.check_weights.Goals as goal
 
 pub returns-then-terms-gt-MAX_TERMS : goal.returns-then-terms-gt-MAX_TERMS

@@ -2,7 +2,8 @@ use native.Mathlib.Omega.{arith}
 use Prim.Native.Nat.{max}
 use mathlib.Core.Path.{◌≡◌, ap, ap₂, sym, ◌∙◌}
 use lib.ListN.{length}
-use Rattle.whole_pairs.specs.Worst.{worst, worst_none, worst_next}
+use Rattle.whole_pairs.specs.Worst.{worst}
+use Rattle.whole_pairs.proofs.Worst.{worst_none, worst_next}
 use Rattle.weight_ranges.proofs.checks.row_fault.Invariants.{line}
 use Rattle.weight_ranges.proofs.checks.row_fault.Goals as goal
 

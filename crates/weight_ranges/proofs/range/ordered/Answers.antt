@@ -3,7 +3,7 @@ use mathlib.Core.Bool.{true, false}
 use lib.Signed.{le_z}
 use mir.Syntax.{w64}
 use mir.ValLaws.{to_z-of_z}
-use Rattle.integers.specs.MinMax.{minℤ_yes, minℤ-no, maxℤ_yes, maxℤ-no}
+use Rattle.integers.proofs.MinMax.{minℤ_yes, minℤ-no, maxℤ_yes, maxℤ-no}
 use Rattle.weight_ranges.proofs.range.ordered.Goals as goal
 
 pub returns-then-x-y : goal.returns-then-x-y

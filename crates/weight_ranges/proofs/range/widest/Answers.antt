@@ -1,7 +1,7 @@
 use native.Mathlib.Omega.{arith}
 use mathlib.Core.Path.{refl, ap₂, ◌∙◌}
 use Rattle.integers.specs.MinMax.{minℤ, maxℤ}
-use Rattle.integers.specs.Size.{size_minℤ, size_maxℤ}
+use Rattle.integers.proofs.Size.{size_minℤ, size_maxℤ}
 use Rattle.whole_steps.specs.Machine.{held}
 use Rattle.weight_ranges.proofs.range.widest.Goals as goal
 

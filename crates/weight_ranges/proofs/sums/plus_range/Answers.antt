@@ -1,7 +1,7 @@
 use native.Mathlib.Omega.{arith}
 use mathlib.Core.Path.{refl, ap₂, ◌∙◌}
 use lib.IntN.{◌+ℤ◌}
-use Rattle.integers.specs.Size.{size_sum}
+use Rattle.integers.proofs.Size.{size_sum}
 use Rattle.whole_steps.specs.Machine.{held, fits_both}
 use Rattle.weight_ranges.proofs.sums.plus_range.Goals as goal
 

@@ -4,10 +4,11 @@ use Prim.Native.Nat.{ℕ}
 use mathlib.Core.Path.{◌≡◌, refl, ap, ap₂, sym, ◌∙◌}
 use lib.ListN.{length}
 use lib.IntN.{◌+ℤ◌}
-use Rattle.integers.specs.Size.{size_more, size_is}
-use Rattle.integers.specs.Sum.{Σℤ, sum_next}
+use Rattle.integers.proofs.Size.{size_more, size_is}
+use Rattle.integers.specs.Sum.{Σℤ}
+use Rattle.integers.proofs.Sum.{sum_next}
 use Rattle.weight_ranges.specs.Ranges.{least_term_of, greatest_term_of}
-use Rattle.weight_ranges.specs.Sizes.{least_sum_size, greatest_sum_size, least_sums_size, greatest_sums_size}
+use Rattle.weight_ranges.proofs.Sizes.{least_sum_size, greatest_sum_size, least_sums_size, greatest_sums_size}
 use Rattle.weight_ranges.proofs.sums.row_bounds.Goals as goal
 
 pub loop-a-init : goal.loop-a-init

@@ -4,9 +4,9 @@ use lib.IntN.{ℤ}
 use mir.Syntax.{w64}
 use mir.ValLaws.{to_z-of_z}
 use Rattle.integers.specs.MinMax.{minℤ, maxℤ}
-use Rattle.integers.specs.Size.{size_more, size_is}
+use Rattle.integers.proofs.Size.{size_more, size_is}
 use Rattle.weight_bounds.specs.Bounds.{least_times, greatest_times}
-use Rattle.weight_ranges.specs.Sizes.{times_sizes}
+use Rattle.weight_ranges.proofs.Sizes.{times_sizes}
 use Rattle.weight_ranges.proofs.terms.product_range.Goals as goal
 
 same-three : (f : ℤ → ℤ → ℤ → ℤ) {a b c a' b' c' : ℤ} → a ≡ a' → b ≡ b' → c ≡ c' → f a b c ≡ f a' b' c'

@@ -5,9 +5,9 @@ use lib.Signed.{lt_z}
 use mir.Syntax.{w64}
 use mir.ValLaws.{to_z-of_z}
 use Rattle.integers.specs.MinMax.{minℤ, maxℤ}
-use Rattle.integers.specs.Size.{size_product, size_maxℤ}
+use Rattle.integers.proofs.Size.{size_product, size_maxℤ}
 use Rattle.whole_steps.specs.Machine.{held, fits_both}
-use Rattle.weight_ranges.specs.Laws.{square_above, square_below, square_zero}
+use Rattle.weight_ranges.proofs.Laws.{square_above, square_below, square_zero}
 use Rattle.weight_ranges.proofs.terms.square_range.Goals as goal
 
 pub product-requires : goal.product-requires

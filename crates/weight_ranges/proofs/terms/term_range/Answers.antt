@@ -4,7 +4,7 @@ use lib.IntN.{ℤ}
 use Rattle.whole_steps.specs.Machine.{held, held_size}
 use Rattle.weight_bounds.specs.Bounds.{least_times, greatest_times}
 use Rattle.whole_pairs.specs.Entry.{entry_or_zero}
-use Rattle.weight_ranges.specs.Sizes.{weights_sizes}
+use Rattle.weight_ranges.proofs.Sizes.{weights_sizes}
 use Rattle.weight_ranges.proofs.terms.term_range.Goals as goal
 
 same-three : (f : ℤ → ℤ → ℤ → ℤ) {a b c a' b' c' : ℤ} → a ≡ a' → b ≡ b' → c ≡ c' → f a b c ≡ f a' b' c'

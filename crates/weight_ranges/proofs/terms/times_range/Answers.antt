@@ -4,7 +4,7 @@ use lib.IntN.{◌*ℤ◌}
 use mir.Syntax.{w64}
 use mir.ValLaws.{to_z-of_z}
 use Rattle.integers.specs.MinMax.{minℤ, maxℤ}
-use Rattle.integers.specs.Size.{size_product}
+use Rattle.integers.proofs.Size.{size_product}
 use Rattle.whole_steps.specs.Machine.{held, fits_both}
 use Rattle.weight_ranges.proofs.terms.times_range.Goals as goal
 

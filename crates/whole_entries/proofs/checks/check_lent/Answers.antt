@@ -3,7 +3,7 @@ use mathlib.Core.Path.{◌≡◌, ap, ◌∙◌}
 use mathlib.Core.List.{[], ◌∷◌, ◌++◌}
 use lib.Dec.{ltb}
 use Rattle.refusal.specs.Steps.{verdict}
-use Rattle.refusal.specs.FirstOf.{verdicts}
+use Rattle.refusal.proofs.FirstOf.{verdicts}
 use Rattle.refusal.specs.Refusal.{reply_of}
 use Rattle.columns.specs.Columns.{factor_lists}
 use Rattle.selection.specs.Selection.{room, room_steps}

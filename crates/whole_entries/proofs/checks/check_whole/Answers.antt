@@ -1,11 +1,12 @@
 use mathlib.Core.Path.{◌≡◌, sym, ap, ◌∙◌}
 use mathlib.Core.List.{List, ◌++◌}
 use lib.ListN.{length}
-use Rattle.refusal.specs.Steps.{Step, verdict, Passed, append-refused, append_passed, passed_front}
-use Rattle.refusal.specs.FirstOf.{verdicts}
+use Rattle.refusal.specs.Steps.{Step, verdict, Passed}
+use Rattle.refusal.proofs.Steps.{append-refused, append_passed, passed_front}
+use Rattle.refusal.proofs.FirstOf.{verdicts}
 use Rattle.refusal.specs.Refusal.{reply_of}
 use Rattle.columns.specs.Columns.{factor_lists, bound_steps, column_steps}
-use Rattle.columns.specs.Factor.{bound_steps-sound, column_steps-sound}
+use Rattle.columns.proofs.Factor.{bound_steps-sound, column_steps-sound}
 use Rattle.selection.specs.Selection.{room, room_steps}
 use Rattle.selection.specs.RequestSteps.{request_bound_steps, request_steps}
 use Rattle.whole_selection.specs.Call.{work_steps, diagonal_checks, check_steps}

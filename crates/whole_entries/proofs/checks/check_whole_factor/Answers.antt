@@ -1,5 +1,5 @@
 use Rattle.refusal.specs.Refusal.{reply_of}
-use Rattle.refusal.specs.Steps.{append-refused, append_passed}
+use Rattle.refusal.proofs.Steps.{append-refused, append_passed}
 use mathlib.Core.Path.{ap, sym, ◌∙◌}
 use Rattle.whole_entries.proofs.checks.check_whole_factor.Goals as goal
 

@@ -2,7 +2,7 @@ use Prim.Native.Nat.{ℕ}
 use native.Mathlib.Omega.{arith}
 use lib.ListN.{length-replicate}
 use Rattle.refusal.specs.Bounds.{max_dimension}
-use Rattle.pairs.specs.Scratch.{scratch_words_room}
+use Rattle.pairs.proofs.Scratch.{scratch_words_room}
 use Rattle.closure.specs.Covered.{unlisted}
 use Rattle.whole_selection.specs.Call.{WholeCall, WholeLent, whole_call, whole_lent}
 use Rattle.whole_entries.proofs.ReplyLaws.{fill_closure, fill_kept, fill_set, fill_exceeds, fill_done, fill_large}

@@ -2,7 +2,8 @@ use Prim.Native.Nat.{min}
 use native.Mathlib.Omega.{arith}
 use mathlib.Core.Path.{◌≡◌, ap, ◌∙◌}
 use Rattle.whole_selection.specs.Call.{WholeCall, WholeLent, whole_call, whole_lent, whole_room_of, work_places}
-use Rattle.whole_selection.specs.Accepted.{WholeAccepted, whole_accepted}
+use Rattle.whole_selection.specs.Accepted.{WholeAccepted}
+use Rattle.whole_selection.proofs.Accepted.{whole_accepted}
 use Rattle.whole_entries.proofs.ReplyLaws.{uncleared_entries}
 use Rattle.whole_entries.proofs.filling.fill_whole.Goals as goal
 

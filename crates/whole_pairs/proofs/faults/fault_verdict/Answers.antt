@@ -1,6 +1,6 @@
 use mathlib.Core.Path.{sym}
 use borrow.Author.Tests.{le-leb, lt-leb}
-use Rattle.refusal.specs.Steps.{first_hit, first_skip, first_end}
+use Rattle.refusal.proofs.Steps.{first_hit, first_skip, first_end}
 use Rattle.whole_pairs.proofs.faults.fault_verdict.Goals as goal
 
 pub returns-then-worst-ge2 : goal.returns-then-worst-ge2

@@ -2,7 +2,8 @@ use native.Mathlib.Omega.{arith}
 use Prim.Native.Nat.{max}
 use mathlib.Core.Path.{◌≡◌, ap, ap₂, sym, ◌∙◌}
 use Rattle.whole_pairs.specs.Entry.{pair_fault, cell_fault}
-use Rattle.whole_pairs.specs.Worst.{worst_in, worst_in_none, worst_in_next}
+use Rattle.whole_pairs.specs.Worst.{worst_in}
+use Rattle.whole_pairs.proofs.Worst.{worst_in_none, worst_in_next}
 use Rattle.whole_pairs.proofs.faults.line_fault.Goals as goal
 
 pub loop-q-init : goal.loop-q-init

@@ -2,8 +2,8 @@ use Prim.Native.Nat.{max, min}
 use mathlib.Core.Path.{ap, sym, ◌∙◌}
 use lib.ListN.{length}
 use Rattle.column_search.specs.Reply.{pair_reply}
-use Rattle.result.specs.Halving.{place_within_inside}
-use Rattle.whole_pairs.specs.Entry.{fault_found, fault_none}
+use Rattle.result.proofs.Halving.{place_within_inside}
+use Rattle.whole_pairs.proofs.Entry.{fault_found, fault_none}
 use Rattle.whole_pairs.proofs.faults.pair_fault.Goals as goal
 
 pub size_fault-requires : goal.size_fault-requires

@@ -10,8 +10,8 @@ use mir.ValLaws.{to_z-of_z}
 use borrow.Author.Rules.{rules}
 use borrow.Author.Tests.{ltb-false}
 use Rattle.refusal.specs.Steps.{Reply, refused, answered}
-use Rattle.integers.specs.Integer.{nat_abs_*}
-use Rattle.integers.specs.Size.{size_fits}
+use Rattle.integers.proofs.Integer.{nat_abs_*}
+use Rattle.integers.proofs.Size.{size_fits}
 use Rattle.exact.specs.Multiple.{Small}
 use Rattle.exact.specs.Checked.{beyond}
 use Rattle.exact.specs.Checked.{plus_product}

@@ -7,7 +7,7 @@ use mir.Syntax.{w64}
 use mir.Val.{to_z, of_z}
 use mir.ValLaws.{to_z-of_z}
 use Rattle.refusal.specs.Steps.{refused, answered}
-use Rattle.integers.specs.Size.{size_sum}
+use Rattle.integers.proofs.Size.{size_sum}
 use Rattle.exact.specs.Checked.{beyond}
 use Rattle.whole_steps.specs.Machine.{fits_both}
 use Rattle.whole_route.proofs.sums.add_within.Goals as goal

@@ -1,0 +1,13 @@
+pub mod Diagonal
+pub mod Examples
+pub mod Factor
+pub mod Form
+pub mod Kept
+pub mod Numbers
+pub mod Operator
+pub mod Pattern
+pub mod Pivots
+pub mod Stored
+pub mod UnitDiagonals
+pub mod WholeExamples
+pub mod WholeFactor

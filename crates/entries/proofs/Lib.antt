@@ -1,0 +1,4 @@
+pub mod Descendants
+pub mod Entries
+pub mod Position
+pub mod WholeTable

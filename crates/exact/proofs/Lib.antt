@@ -1,0 +1,11 @@
+pub mod Checked
+pub mod CheckedExamples
+pub mod Exact
+pub mod ExactCase
+pub mod Examples
+pub mod Exceeds
+pub mod Factor
+pub mod Multiple
+pub mod PivotMultiples
+pub mod SelectedInverse
+pub mod Rounding

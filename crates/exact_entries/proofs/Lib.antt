@@ -1,0 +1,10 @@
+pub mod Columns
+pub mod Count
+pub mod DyadicEntries
+pub mod DyadicWorked
+pub mod ExactEntries
+pub mod PivotEntries
+pub mod PivotWorked
+pub mod ReadBack
+pub mod Recurrence
+pub mod Worked

@@ -1,0 +1,17 @@
+-- Laws of specs/FileOf.antt.
+use Rattle.std.specs.Prelude.{ℕ, ◌+◌, ◌≤◌, ◌<◌, ◌≡◌, Bool, List, [], ◌∷◌, ◌++◌, map}
+use Rattle.std.proofs.Common.{ap₂}
+use Rattle.lists.specs.Cells.{cells, cells_cong}
+use Rattle.pairs.specs.ColumnOrder.{by_column, column_first, column_end, set_size}
+use Rattle.pairs.proofs.ColumnOrder.{set_size_cong}
+use Rattle.matrix_market.specs.Text.{joined}
+use Rattle.matrix_market.specs.Decimal.{decimal}
+use Rattle.matrix_market.specs.File.{header}
+use Rattle.matrix_market.specs.FileOf.{spaced, number_line, size_line, entry_line, entry_lines, file_of}
+
+-- equal sets give equal bytes
+pub file_cong : (n : ℕ) (S R : ℕ → ℕ → Bool) → ((r c : ℕ) → c ≤ r → r < n → S r c ≡ R r c) → file_of n S ≡ file_of n R
+unfolding file_of
+file_cong n S R h =
+    ap₂ (λ (k : ℕ) (ls : List (List ℕ)). joined 10 (header ∷ (size_line n k ∷ ls))) (set_size_cong n S R h)
+    (cells_cong (by_column S) (by_column R) column_first (column_end n) entry_line n (λ c r _ lo hi. h r c lo hi))

@@ -1,0 +1,4 @@
+pub mod FirstOf
+pub mod Groups
+pub mod Steps
+pub mod Told
