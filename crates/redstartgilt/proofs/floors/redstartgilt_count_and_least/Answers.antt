@@ -1,0 +1,7 @@
+use Rattle.c_replies.specs.Numbers.{least_numbers}
+use borrow.Author.Rules.{rules}
+use mathlib.Core.Path.{ap, ◌∙◌}
+use Rattle.redstartgilt.proofs.floors.redstartgilt_count_and_least.Goals as goal
+
+pub returns : goal.returns
+returns c = c.least_numbers.ensures ∙ ap least_numbers c.count_and_least.ensures
