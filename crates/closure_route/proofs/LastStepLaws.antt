@@ -20,7 +20,7 @@ use Rattle.exact.specs.Exact.{floats}
 use Rattle.entries.proofs.Position.{column_count_mono, position_first, position_in, position_below, position_rises}
 use Rattle.closure_route.specs.Column.{sum_terms, sum_column}
 use Rattle.closure_route.specs.Sums.{inverse_at, sum_between, entry_sum}
-use Rattle.closure_route.proofs.Sums.{sum_between_cong}
+use Rattle.closure_route.proofs.SumsLaws.{sum_between_cong}
 use Rattle.closure_route.specs.Stored.{StoreSumsInput, SumsStored}
 use Rattle.closure_route.specs.Finish.{SumsFinished, put_if, StoreDiagonalInput}
 use Rattle.closure_route.specs.Route.{RouteLists, route_set, ClosureRouteInput, SolvedFrom, ColumnsSolved}

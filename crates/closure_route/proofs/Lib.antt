@@ -12,4 +12,4 @@ pub mod ColumnLaws
 pub mod LastStepLaws
 pub mod Members
 pub mod Route
-pub mod Sums
+pub mod SumsLaws

@@ -17,7 +17,7 @@ use Rattle.closure_route.specs.Part.{PartSet}
 use Rattle.closure_route.specs.Products.{column_terms, AddColumnInput}
 use Rattle.closure_route.specs.Column.{SumColumn, sum_column, terms_of, kept_term, sum_row}
 use Rattle.closure_route.specs.Sums.{inverse_at, row_sum, with_product, SumInput}
-use Rattle.closure_route.proofs.Sums.{sum_between_none, sum_between_next, product_same}
+use Rattle.closure_route.proofs.SumsLaws.{sum_between_none, sum_between_next, product_same}
 use Rattle.closure_route.proofs.SumLaws.{with_product_above, with_product_zero, with_product_kept, term_input, product_read}
 use Rattle.closure_route.specs.Stored.{SumsInput}
 use Rattle.closure_route.proofs.StoredLaws.{first_less, later_row}

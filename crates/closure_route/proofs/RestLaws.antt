@@ -20,7 +20,7 @@ use Rattle.pair_places.specs.Position.{PairEntryInput, word_left, word_position,
 use Rattle.closure_route.specs.Run.{row_positions, IsRunInput, Follows}
 use Rattle.closure_route.specs.Column.{SumTerms, kept_term, term_position}
 use Rattle.closure_route.specs.Sums.{inverse_at, SumContinued, row_sum}
-use Rattle.closure_route.proofs.Sums.{sum_between_next}
+use Rattle.closure_route.proofs.SumsLaws.{sum_between_next}
 use Rattle.closure_route.proofs.SumLaws.{term_input, product_read, with_product_kept}
 use Rattle.closure_route.specs.Rest.{zero_at, SumRunInput, SumRowsInput, run_positions, ProductsSummed, SumRestInput}
 

@@ -16,7 +16,7 @@ use Rattle.entries.proofs.Entries.{entry_starts-length, entry_rows_length}
 use Rattle.entries.specs.Position.{Positioned}
 use Rattle.entries.proofs.Position.{entry_rows_at, position_below, column_count_cong, position_cong}
 use Rattle.layout.specs.Layout.{LayOutInput, LaidOut}
-use Rattle.layout.proofs.Layout.{marks_same}
+use Rattle.layout.proofs.LayoutFacts.{marks_same}
 use Rattle.closure_route.specs.Route.{RouteLists, route_lists, route_set, ClosureRouteInput, SolvedFrom, ColumnsSolved, ColumnInput}
 
 -- ---- what the layout leaves is what the route asks

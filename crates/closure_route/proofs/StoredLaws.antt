@@ -16,7 +16,7 @@ use Rattle.columns.specs.Columns.{row, outside_at}
 use Rattle.columns.specs.Factor.{Ascends, Column, FirstFrom}
 use Rattle.closure_route.specs.Column.{SumColumn, sum_column, terms_of, sum_row, SumAt}
 use Rattle.closure_route.specs.Sums.{inverse_at, row_sum, entry_sum}
-use Rattle.closure_route.proofs.Sums.{sum_between_cong}
+use Rattle.closure_route.proofs.SumsLaws.{sum_between_cong}
 use Rattle.closure_route.specs.Stored.{StoreSumsInput, SumsStored, SumsInput}
 
 -- ---- rows that ascend

@@ -17,7 +17,7 @@ use Rattle.entries.proofs.Entries.{entry_starts-length, entry_rows_length}
 use Rattle.entries.specs.Position.{Positioned}
 use Rattle.entries.proofs.Position.{entry_rows_at, position_below, column_count_cong, position_cong}
 use Rattle.layout.specs.Layout.{LayOutInput, LaidOut}
-use Rattle.layout.proofs.Layout.{marks_same}
+use Rattle.layout.proofs.LayoutFacts.{marks_same}
 
 -- a factor, the starts and rows of the result, and the scratch with the marks of a set and its members' positions
 pub record RouteLists : Type 0 where

@@ -34,7 +34,7 @@ use Rattle.layout.specs.ColumnRows.{column_test, ListColumnInput, ColumnListed}
 use Rattle.entries.specs.Entries.{column_count, position}
 use Rattle.entries.proofs.Position.{column_count_none, column_count_next, column_count_mono, tally-strict, select-tally}
 use Rattle.layout.specs.Layout.{LayPositionsInput, PositionsLaid, LayColumnInput, ColumnPlaced, ColumnLaid, ReachedColumn, LayOutInput, LaidOut, LayFirstsInput, FirstsLaid}
-use Rattle.layout.proofs.Layout.{marks_same}
+use Rattle.layout.proofs.LayoutFacts.{marks_same}
 
 pub positions_none : (base shift first : ℕ) (rows s : List ℕ) → PositionsLaid base shift first first rows s s
 positions_none base shift first rows s = record { long = refl; placed = λ q h l. absurd (omega arith); others = λ w d. refl }

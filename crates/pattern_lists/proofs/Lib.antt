@@ -4,5 +4,5 @@ pub mod ListedPairs
 pub mod PatternLists
 pub mod Pattern
 pub mod Laws
-pub mod Listing
+pub mod ListingLaws
 pub mod PatternMarks

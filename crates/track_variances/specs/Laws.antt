@@ -16,7 +16,7 @@ use Rattle.refusal.specs.Bounds.{output_steps}
 use Rattle.result.specs.Lookup.{lookup_of, result_steps}
 use Rattle.result.proofs.Laws.{result_steps-sound}
 use Rattle.whole_pairs.proofs.Entry.{entry_or_zero-symmetric, absent_pair-symmetric, present_found}
-use Rattle.whole_pairs.proofs.Faults.{all_absent, all_either, fault-steps}
+use Rattle.whole_pairs.proofs.FaultsLaws.{all_absent, all_either, fault-steps}
 use Rattle.run_sums.specs.Runs.{runs, block_sum, cell_entry, run_sum, run_sums}
 use Rattle.track_variances.specs.Track.{track_entry, max_width, max_track_entry, width_steps, run_steps, track_steps, some_places, some_run, absent_at, beyond_at, track_fault}
 use Rattle.track_variances.specs.Sizes.{RunsReady}

@@ -20,7 +20,7 @@ use Rattle.result.specs.Lookup.{dimension, lookup_of, result_steps}
 use Rattle.result.proofs.Laws.{result_steps-sound}
 use Rattle.whole_pairs.specs.Entry.{absent_pair, beyond_pair}
 use Rattle.whole_pairs.proofs.Entry.{present_found}
-use Rattle.whole_pairs.proofs.Faults.{all_absent, all_either, fault-steps}
+use Rattle.whole_pairs.proofs.FaultsLaws.{all_absent, all_either, fault-steps}
 use Rattle.columns.specs.WholeFactor.{whole_value}
 use Rattle.quadratic_form.specs.RowValue.{term_column}
 use Rattle.weight_ranges.specs.Ranges.{row_entry, max_terms, max_weight, repeated, bad_range, range_row_steps, weight_steps, pair_steps, range_steps, some_pair, max_range_entry, row_fault}

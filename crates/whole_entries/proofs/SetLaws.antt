@@ -25,7 +25,7 @@ use Rattle.entries.specs.WholeTable.{whole_table, kept_exceeds, exceeds}
 use Rattle.entries.proofs.WholeTable.{kept_exceeds_none}
 use Rattle.marked_pairs.specs.MarkedPairs.{ColumnsReached}
 use Rattle.layout.specs.Layout.{LayOutInput, LaidOut, LayFirstsInput, FirstsLaid}
-use Rattle.layout.proofs.Layout.{marks_same}
+use Rattle.layout.proofs.LayoutFacts.{marks_same}
 use Rattle.whole_route.specs.Route.{WholeRouteInput, RouteDone}
 use Rattle.whole_selection.specs.Call.{WholeLent, whole_lent}
 use Rattle.whole_entries.specs.Filling.{SetInput, SetDone, CompleteInput, CompleteDone}

@@ -1,3 +1,3 @@
 pub mod Entry
-pub mod Faults
+pub mod FaultsLaws
 pub mod Worst

@@ -1,5 +1,5 @@
 use native.Mathlib.Omega.{arith}
-use Rattle.closure_route.proofs.Sums.{sum_between_none}
+use Rattle.closure_route.proofs.SumsLaws.{sum_between_none}
 use Rattle.closure_route.proofs.sums.entry_sum.Goals as goal
 
 pub returns : goal.returns

@@ -5,7 +5,7 @@ use lib.Ieee.{Float, nan}
 use Rattle.pair_places.specs.Position.{shift_fits}
 use Rattle.closure_route.specs.Column.{SumTerms, sum_terms}
 use Rattle.closure_route.specs.Sums.{inverse_at, SumContinued, with_product}
-use Rattle.closure_route.proofs.Sums.{sum_between_next}
+use Rattle.closure_route.proofs.SumsLaws.{sum_between_next}
 use Rattle.closure_route.proofs.SumLaws.{term_input}
 use Rattle.closure_route.proofs.sums.sum_from.Goals as goal
 

@@ -3,7 +3,7 @@ use native.Mathlib.Omega.{arith}
 use mathlib.Core.Path.{◌≡◌, refl, sym, subst, ◌∙◌}
 use Rattle.pairs.proofs.Pair.{pair_total_none, pair_total_next, pair_total_small}
 use Rattle.pattern_lists.specs.Listing.{PairsListed}
-use Rattle.pattern_lists.proofs.Listing.{listed_none, listed_more, listed_room}
+use Rattle.pattern_lists.proofs.ListingLaws.{listed_none, listed_more, listed_room}
 use Rattle.pattern_lists.proofs.RowLaws.{zeros_none, zeros_later, place_inside, row_reached}
 use Rattle.pattern_lists.proofs.marks.list_pairs.Goals as goal
 
