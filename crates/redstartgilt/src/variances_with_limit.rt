@@ -27,19 +27,21 @@ pub extern "C" fn redstartgilt_selected_inverse_diag_with_limit(
         (lists result_starts.old result_rows.old result_values.old scratch.old) output.old d
         (lists result_starts.new result_rows.new result_values.new scratch.new) output.new) result }
 {
-    selected_numbers(original_diagonal_with_limit::selected_inverse_diag_with_limit(
-        n,
-        starts,
-        rows,
-        values,
-        orig_to_perm,
-        limit,
-        result_starts,
-        result_rows,
-        result_values,
-        scratch,
-        output,
-    ))
+    selected_numbers(
+        original_diagonal_with_limit::selected_inverse_diag_with_limit(
+            n,
+            starts,
+            rows,
+            values,
+            orig_to_perm,
+            limit,
+            result_starts,
+            result_rows,
+            result_values,
+            scratch,
+            output,
+        ),
+    )
 }
 
 // The variances of an operator's rows, with a limit.

@@ -2,5 +2,5 @@ use borrow.Author.Rules.{rules}
 use Rattle.redstartgilt.proofs.dependency_chains.redstartgilt_dependency_chain.Goals as goal
 
 pub returns : goal.returns
-returns c =     let d = c.dependency_chain in
+returns c = let d = c.dependency_chain in
     record { answer = d.result; shown = c.chain_numbers.ensures; called = d.ensures }

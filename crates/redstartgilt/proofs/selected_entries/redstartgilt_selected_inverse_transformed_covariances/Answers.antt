@@ -2,5 +2,5 @@ use borrow.Author.Rules.{rules}
 use Rattle.redstartgilt.proofs.selected_entries.redstartgilt_selected_inverse_transformed_covariances.Goals as goal
 
 pub returns : goal.returns
-returns c =     let d = c.selected_inverse_transformed_covariances in
+returns c = let d = c.selected_inverse_transformed_covariances in
     record { answer = d.result; shown = c.selected_numbers.ensures; called = d.ensures }
