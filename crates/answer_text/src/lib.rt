@@ -1,4 +1,6 @@
 // Writing an answer: lines of a label and numbers, words, values or whole numbers.
+#![tactic(auto)]
+
 pub mod answers;
 
 ghost use Rattle.std.specs.Prelude.{◌≤◌, ◌<◌, ◌-◌, length};

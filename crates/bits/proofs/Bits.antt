@@ -1,5 +1,5 @@
 -- Laws of specs/Bits.antt.
-use Rattle.std.specs.Prelude.{ℕ, zero, suc, ◌+◌, ◌-◌, ◌/◌, ◌%◌, ◌^◌, ◌≤◌, ◌<◌, ◌≡◌, refl, Bool, false, ◌||◌, ◌≢◌, List, eqb, length, get_or, set}
+use Rattle.std.specs.Prelude.{ℕ, zero, suc, ◌+◌, ◌-◌, ◌/◌, ◌%◌, ◌^◌, ◌≤◌, ◌<◌, ◌≡◌, refl, Bool, false, ◌||◌, ◌≢◌, List, eqb, length, get_or}
 use Rattle.std.proofs.Common.{arith, div-one, one-mul, not-suc-le-zero, le_of_suc-le-suc, one-add, add-one, sym, ap, ap₂, subst, ◌∙◌, get_or-set_same, get_or-set_other, pow_pos, pow-add, shr-shr, shr_lt, eq-eqb, ne_eqb}
 use Rattle.std.proofs.Math.Nat.{div-eq_of_lt}
 use Rattle.std.proofs.Math.Decide.{ℕ_discrete, dec_lt}

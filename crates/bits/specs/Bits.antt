@@ -1,14 +1,7 @@
 -- Bits of a list of 32-bit words: bit p stands in the word p / 32.
 -- Assumes nothing.
-use Rattle.std.specs.Prelude.{ℕ, zero, suc, ◌+◌, ◌-◌, ◌/◌, ◌%◌, ◌^◌, ◌≤◌, ◌<◌, ◌≡◌, refl, Bool, false, ◌||◌, ◌≢◌, List, eqb, length, get_or, set}
-use Rattle.std.proofs.Common.{arith, div-one, one-mul, not-suc-le-zero, le_of_suc-le-suc, one-add, add-one, sym, ap, ap₂, subst, ◌∙◌, get_or-set_same, get_or-set_other, pow_pos, pow-add, shr-shr, shr_lt, eq-eqb, ne_eqb}
-use Rattle.std.proofs.Math.Nat.{div-eq_of_lt}
-use Rattle.std.proofs.Math.Decide.{ℕ_discrete, dec_lt}
-use Rattle.std.proofs.Math.Bool.{or-true, or-false}
-use Rattle.std.proofs.Math.Pow.{pow-lt}
-use Rattle.std.proofs.lemmas.Nat.{shl-shr, or_shr, or_mod}
-use Rattle.std.specs.Int.Count.{count_trailing_zeros, under}
-use Rattle.std.specs.Int.Bits.{bit_or, or_zero_r, shifted_even}
+use Rattle.std.specs.Prelude.{ℕ, ◌+◌, ◌/◌, ◌%◌, ◌^◌, ◌<◌, ◌≡◌, Bool, List, eqb, get_or, set}
+use Rattle.std.specs.Int.Bits.{bit_or}
 
 -- the digit b of a word, 0 or 1
 abbrev pub digit : ℕ → ℕ → ℕ

@@ -1,5 +1,7 @@
 // Calls with 1,048,577 entries, requests or terms, which are refused by 1, and with 1,048,576, which are not; and lookups of the largest index. The text of `replay` has no room for such lists, nor for such an index of a pair.
 // What the lists lent for writing hold is written after each call; they hold 7777 before it.
+#![tactic(auto)]
+
 mod calls;
 
 use std::io;

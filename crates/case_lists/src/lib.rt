@@ -1,5 +1,7 @@
 // The lists of a case under their names. Those that the case gives are put into a list of the caller's, and the reply is its front; items past its room are dropped.
 // Fields of one meaning have names that differ in the first letter, `of`: r of the requests, p of the pairs looked up, o of the operator, a and b of two operators.
+#![tactic(auto)]
+
 pub mod lent;
 pub mod limits;
 

@@ -1,4 +1,6 @@
 // Reading the text of cases: what stands at a place, and the place after it.
+#![tactic(auto)]
+
 pub mod fields;
 pub mod items;
 

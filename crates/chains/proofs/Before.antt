@@ -8,7 +8,6 @@ use Rattle.std.proofs.Math.Bool.{true, false}
 use Rattle.std.proofs.Math.Logic.{inl, inr, ⊎_elim}
 use Rattle.lists.specs.Test.{or_cases, or_left, or_right, and_left, and_right, and_both}
 use Rattle.closed_set.specs.ClosedSet.{descends, Leads, reach}
-use Rattle.chains.specs.Least.{least}
 use Rattle.chains.proofs.Least.{least_most, least_holds, least_least}
 use Rattle.chains.specs.Chain.{LowerPair}
 use Rattle.chains.specs.Before.{above, beside, before_column, before_row, Lead}

@@ -9,7 +9,7 @@ use Rattle.std.proofs.Math.Logic.{inl, inr, ⊎_elim}
 use mathlib.Core.List.{List, [], ◌∷◌, ◌++◌}
 use Rattle.std.proofs.Math.ListN.{length}
 use Rattle.lists.specs.Test.{not_so}
-use Rattle.closed_set.specs.ClosedSet.{Needed, Leads, reach, member, Pattern, Ranged}
+use Rattle.closed_set.specs.ClosedSet.{Needed, reach, member, Pattern, Ranged}
 use Rattle.closed_set.proofs.ClosedSet.{leads_needed, reach_needed, needed_range, member_needed, needed_member}
 use Rattle.chains.specs.Distance.{distance}
 use Rattle.chains.proofs.Distance.{reach-distance, distance-reach, distance-request, leads_range, distance-step, reach_next}

@@ -3,7 +3,6 @@ use Rattle.std.specs.Prelude.{ℕ, suc, ◌*◌, ◌≤◌, ◌<◌, ◌≡◌, 
 use Rattle.std.proofs.Common.{arith, subst, ⊎_elim}
 use Rattle.closed_set.specs.ClosedSet.{Needed, Leads, reach, member, Pattern, Ranged}
 use Rattle.closed_set.proofs.ClosedSet.{reach_step, reach_found, reach_mono, reach_needed, needed_range, needed_member}
-use Rattle.chains.specs.Least.{least}
 use Rattle.chains.proofs.Least.{least_most, least_holds, least_least}
 use Rattle.chains.specs.Distance.{distance}
 

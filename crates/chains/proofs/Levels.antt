@@ -6,9 +6,8 @@ use Rattle.std.specs.Prelude.{◌≡◌, Bool, ◌⊎◌, ◌↔◌, List}
 use Rattle.std.proofs.Math.Path.{refl}
 use Rattle.std.proofs.Math.Bool.{true, false, cond}
 use Rattle.lists.specs.Test.{same_truth}
-use Rattle.closed_set.specs.ClosedSet.{Needed, Leads, reach, member, Pattern, Ranged}
+use Rattle.closed_set.specs.ClosedSet.{Needed, reach, member, Pattern, Ranged}
 use Rattle.closed_set.proofs.ClosedSet.{reach_step, reach_mono, reach_needed, needed_range, member_needed, needed_member}
-use Rattle.chains.specs.Distance.{distance}
 use Rattle.chains.proofs.Distance.{leads_range, reach_within, reach-distance, reach_next}
 use Rattle.chains.specs.Levels.{level_at, far, After}
 

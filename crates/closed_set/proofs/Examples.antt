@@ -1,5 +1,5 @@
 -- Laws of specs/Examples.antt.
-use Rattle.std.specs.Prelude.{ℕ, zero, suc, ◌≡◌, refl, true, false, List, [], ◌∷◌}
+use Rattle.std.specs.Prelude.{ℕ, ◌≡◌, refl, true, false, List, [], ◌∷◌}
 use Rattle.lists.specs.Test.{any}
 use Rattle.lists.specs.Sum.{sum_to}
 use Rattle.lists.specs.Select.{picked, select}

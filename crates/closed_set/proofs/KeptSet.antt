@@ -19,7 +19,6 @@ use Rattle.columns.specs.Form.{pattern_pairs, pattern_pair}
 use Rattle.columns.proofs.Form.{pattern_pair_diagonal, pattern_pair_below}
 use Rattle.columns.specs.Factor.{Starts, Sorted}
 use Rattle.columns.proofs.Factor.{starts_end, rows_rise}
-use Rattle.closed_set.specs.KeptSet.{SameKept}
 
 -- the first number, if it passes
 select_first : (test : ℕ → Bool) (s e : ℕ) → s < e → test s ≡ true → select test s e ≡ s ∷ select test (s + 1) e

@@ -1,8 +1,8 @@
 -- Laws of specs/Requests.antt.
-use Rattle.std.specs.Prelude.{ℕ, ◌<◌, min, max, ◌≡◌, Bool, true, List, length, get_or}
+use Rattle.std.specs.Prelude.{ℕ, ◌<◌, min, max, ◌≡◌, true, List, length, get_or}
 use Rattle.std.proofs.Common.{arith}
 use Rattle.std.proofs.Math.Path.{refl}
-use Rattle.lists.specs.Test.{any, any-hit, any_found}
+use Rattle.lists.specs.Test.{any-hit, any_found}
 use Rattle.pairs.specs.Pair.{ordered}
 use Rattle.pairs.proofs.Pair.{ordered_is, is_ordered}
 use Rattle.closed_set.specs.ClosedSet.{Ranged}

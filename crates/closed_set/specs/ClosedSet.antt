@@ -1,17 +1,12 @@
 -- The closed set: the least set of pairs that holds the requested pairs and the dependencies of its pairs.
 -- A pattern gives the rows of each column's descendants; a set of pairs is a test of (row, column).
 -- Assumes nothing.
-use Prim.Native.Nat.{ℕ, zero, suc, ◌+◌, ◌-◌, ◌*◌, ◌≤◌, ◌<◌, min, max}
-use native.Mathlib.Omega.{arith}
-use Rattle.std.proofs.Common.{not-suc-le-zero, sym, subst, subst₂, eqb-true, eq-eqb}
-use Rattle.std.proofs.Math.Decide.{dec_le}
-use Rattle.std.specs.Prelude.{◌≡◌, refl, Bool, ◌&&◌, ◌⊎◌, ◌↔◌, length, get_or}
-use Rattle.std.proofs.Math.Path.{ap, ap₂}
+use Prim.Native.Nat.{ℕ, zero, suc, ◌*◌, ◌≤◌, ◌<◌, min, max}
+use Rattle.std.specs.Prelude.{◌≡◌, Bool, ◌&&◌, length, get_or}
 use Rattle.std.proofs.Math.Bool.{true, ◌||◌}
-use Rattle.std.proofs.Math.Logic.{inl, inr, ⊎_elim}
 use mathlib.Core.List.{List}
 use Rattle.std.proofs.Math.Dec.{eqb}
-use Rattle.lists.specs.Test.{any, any-hit, any_found, any_cong, or_cases, or_left, or_right, and_left, and_right, and_both}
+use Rattle.lists.specs.Test.{any}
 
 -- d is a descendant of column c
 abbrev pub descends : (ℕ → List ℕ) → ℕ → ℕ → Bool

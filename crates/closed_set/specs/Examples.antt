@@ -1,13 +1,6 @@
 -- The closed sets of document 01's cases: F2 and F3.
 -- Assumes nothing.
-use Rattle.std.specs.Prelude.{ℕ, zero, suc, ◌≡◌, refl, true, false, List, [], ◌∷◌}
-use Rattle.lists.specs.Test.{any}
-use Rattle.lists.specs.Sum.{sum_to}
-use Rattle.lists.specs.Select.{picked, select}
-use Rattle.lists.specs.Cells.{cell_count}
-use Rattle.closed_set.specs.ClosedSet.{reach, member}
-use Rattle.closed_set.specs.Requests.{requested}
-use Rattle.closed_set.specs.Size.{closure_size, requested_pairs}
+use Rattle.std.specs.Prelude.{ℕ, zero, suc, List, [], ◌∷◌}
 
 -- the descendants of F2's and F3's columns
 unfoldable pub f2 : ℕ → List ℕ

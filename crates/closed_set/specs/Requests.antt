@@ -1,12 +1,8 @@
 -- Requests as two lists, rows and columns: the pairs that they put in order.
 -- Assumes nothing.
-use Rattle.std.specs.Prelude.{ℕ, ◌<◌, min, max, ◌≡◌, Bool, true, List, length, get_or}
-use Rattle.std.proofs.Common.{arith}
-use Rattle.std.proofs.Math.Path.{refl}
-use Rattle.lists.specs.Test.{any, any-hit, any_found}
+use Rattle.std.specs.Prelude.{ℕ, ◌<◌, ◌≡◌, Bool, List, length, get_or}
+use Rattle.lists.specs.Test.{any}
 use Rattle.pairs.specs.Pair.{ordered}
-use Rattle.pairs.proofs.Pair.{ordered_is, is_ordered}
-use Rattle.closed_set.specs.ClosedSet.{Ranged}
 
 -- (r, c) is the pair of some request, put in order
 unfoldable pub requested : List ℕ → List ℕ → ℕ → ℕ → Bool

@@ -620,7 +620,7 @@ module _ {n : ℕ} {starts rows : List ℕ} {values limit : ℕ} (nz : ℕ → B
     pub entry_rows_lem : p < length rows
     entry_rows_lem = let Q = entry_word in omega (arith, starts_end I.factor.starts_rise (c + 1) (omega (arith, Q.ordered, Q.inside)))
 
-    pub entry_values_lem : p < values
+    entry_values_lem : p < values
     entry_values_lem = omega (arith, entry_rows_lem, I.factor.valued)
 
     -- one that is not kept below the diagonal is passed over

@@ -1,23 +1,18 @@
 -- Laws of specs/Route.antt.
 use Rattle.std.specs.Prelude.{ℕ, ◌+◌, ◌≤◌, ◌<◌, ◌≡◌, Bool, true, List, length, get_or, Float}
 use Rattle.std.proofs.Common.{arith, sym, ap, ◌∙◌}
-use Rattle.std.specs.Float.{nan}
 use Rattle.lists.specs.Tabulate.{tabulate_at}
 use Rattle.lists.specs.Overwrite.{overwrite_at, overwrite-length}
-use Rattle.refusal.specs.Bounds.{max_dimension}
-use Rattle.pairs.specs.Pair.{pair_total}
-use Rattle.pairs.specs.Scratch.{queue_start}
 use Rattle.pairs.specs.ColumnOrder.{column_marking, set_size}
 use Rattle.closed_set.specs.ClosedSet.{Closed, Pattern}
 use Rattle.columns.specs.Kept.{nonzero, pattern}
 use Rattle.columns.specs.Factor.{Factor}
 use Rattle.entries.specs.Entries.{column_count, position, entry_starts, entry_rows}
 use Rattle.entries.proofs.Entries.{entry_starts-length, entry_rows_length}
-use Rattle.entries.specs.Position.{Positioned}
 use Rattle.entries.proofs.Position.{entry_rows_at, position_below, column_count_cong, position_cong}
 use Rattle.layout.specs.Layout.{LayOutInput, LaidOut}
 use Rattle.layout.proofs.LayoutFacts.{marks_same}
-use Rattle.closure_route.specs.Route.{RouteLists, route_lists, route_set, ClosureRouteInput, SolvedFrom, ColumnsSolved, ColumnInput}
+use Rattle.closure_route.specs.Route.{route_lists, ClosureRouteInput}
 
 -- ---- what the layout leaves is what the route asks
 

@@ -1,25 +1,19 @@
 -- Laws of specs/Sums.antt.
 use Prim.Native.Nat.{ℕ, zero, suc, ◌+◌, ◌-◌, ◌≤◌, ◌<◌}
 use native.Mathlib.Omega.{arith}
-use Rattle.std.specs.Prelude.{◌≡◌, refl, Bool, true, false, length, Float}
+use Rattle.std.specs.Prelude.{◌≡◌, refl, Bool, true, false, Float}
 use Rattle.std.proofs.Math.Path.{sym, ap}
 use Rattle.std.proofs.Common.{subst, ◌∙◌}
-use mathlib.Core.List.{List, [], ◌∷◌, ◌++◌, map, map-append}
-use Rattle.std.specs.Float.{binary64, nan}
+use mathlib.Core.List.{List, [], ◌∷◌, ◌++◌, map-append}
+use Rattle.std.specs.Float.{binary64}
 use Rattle.std.specs.Float.Ieee.{of_bits, add, mul}
 use Rattle.lists.specs.Select.{one, select, select_none, select_next}
-use Rattle.refusal.specs.Bounds.{max_dimension}
-use Rattle.pairs.specs.Pair.{pair_total}
-use Rattle.pairs.specs.Scratch.{queue_start}
 use Rattle.columns.specs.Columns.{row, value}
 use Rattle.columns.specs.Kept.{f0, nonzero, kept_below, entry}
-use Rattle.columns.specs.Factor.{Column}
 use Rattle.takahashi.specs.Recurrence.{Arithmetic, Entry, run, dot}
 use Rattle.exact.specs.Multiple.{zero_float}
 use Rattle.exact.specs.Exact.{floats}
-use Rattle.pairs.specs.Positions.{position_at, inverse_at}
-use Rattle.closure_route.specs.Column.{SumTerms, TermAt, term_position}
-use Rattle.closure_route.specs.Sums.{entries_at, with_product, sum_between, row_sum, entry_sum, SumContinued, AddProductInput, SumInput}
+use Rattle.closure_route.specs.Sums.{entries_at, with_product, sum_between}
 
 -- ---- the sum
 

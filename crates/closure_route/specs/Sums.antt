@@ -1,22 +1,17 @@
 -- A sum of the recurrence over a column's stored entries, of which those kept below the diagonal count, with the inverse's entries read by position.
 -- Assumes nothing.
-use Prim.Native.Nat.{ℕ, zero, suc, ◌+◌, ◌-◌, ◌≤◌, ◌<◌}
-use native.Mathlib.Omega.{arith}
-use Rattle.std.specs.Prelude.{◌≡◌, refl, Bool, true, false, length, Float}
-use Rattle.std.proofs.Math.Path.{sym, ap}
-use Rattle.std.proofs.Common.{subst, ◌∙◌}
-use mathlib.Core.List.{List, [], ◌∷◌, ◌++◌, map, map-append}
-use Rattle.std.specs.Float.{binary64, nan}
-use Rattle.std.specs.Float.Ieee.{of_bits, add, mul}
-use Rattle.lists.specs.Select.{one, select, select_none, select_next}
+use Prim.Native.Nat.{ℕ, ◌+◌, ◌≤◌, ◌<◌}
+use Rattle.std.specs.Prelude.{◌≡◌, true, length, Float}
+use mathlib.Core.List.{List, map}
+use Rattle.std.specs.Float.{nan}
+use Rattle.lists.specs.Select.{one, select}
 use Rattle.refusal.specs.Bounds.{max_dimension}
 use Rattle.pairs.specs.Pair.{pair_total}
 use Rattle.pairs.specs.Scratch.{queue_start}
-use Rattle.columns.specs.Columns.{row, value}
-use Rattle.columns.specs.Kept.{f0, nonzero, kept_below, entry}
+use Rattle.columns.specs.Columns.{row}
+use Rattle.columns.specs.Kept.{nonzero, kept_below, entry}
 use Rattle.columns.specs.Factor.{Column}
-use Rattle.takahashi.specs.Recurrence.{Arithmetic, Entry, run, dot}
-use Rattle.exact.specs.Multiple.{zero_float}
+use Rattle.takahashi.specs.Recurrence.{Entry, run, dot}
 use Rattle.exact.specs.Exact.{floats}
 pub use Rattle.pairs.specs.Positions.{position_at, inverse_at}
 use Rattle.closure_route.specs.Column.{SumTerms, TermAt, term_position}

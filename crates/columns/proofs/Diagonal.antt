@@ -3,16 +3,16 @@ use Rattle.std.specs.Prelude.{ℕ, ◌+◌, ◌≤◌, ◌<◌, ◌≡◌, Bool,
 use Rattle.std.proofs.Common.{eq-or-lt_of_le, arith, sym, subst, ◌∙◌, leb-false, eqb-true, le-leb, eq-eqb, ne_eqb}
 use Rattle.std.proofs.Math.Path.{refl, ap}
 use Rattle.std.proofs.Math.Bool.{true, false, not, or-true}
-use mathlib.Core.List.{List, [], ◌∷◌}
+use mathlib.Core.List.{List, []}
 use Rattle.std.proofs.Math.Logic.{⊎_elim}
 use Rattle.std.specs.Float.Ieee.{ne, le, lt, eq}
 use Rattle.std.proofs.lemmas.Bool.{eqb-false, not-false}
 use Rattle.lists.specs.Test.{any, any_in, any_below, any_all, any-hit, any_in_below, any_in_found, any_in_all, any_in-hit}
 use Rattle.lists.specs.Test.{and_left, and_right, and_both, or_cases, or_neither_left, or_neither_right}
 use Rattle.lists.specs.Select.{select_at, select_holds}
-use Rattle.refusal.specs.Steps.{Step, Passed, Clear, verdict, refused}
+use Rattle.refusal.specs.Steps.{Passed, Clear, verdict, refused}
 use Rattle.refusal.proofs.Steps.{first_hit, first_skip, passed_clear, clear_passed}
-use Rattle.columns.specs.Columns.{FactorLists, factor_lists, start, row, value, outside_at}
+use Rattle.columns.specs.Columns.{factor_lists, start, row, value, outside_at}
 use Rattle.columns.specs.Kept.{f0, nonzero, kept, kept_diagonal, diag}
 use Rattle.columns.specs.Factor.{Sorted, Factor, Column, FirstFrom}
 use Rattle.columns.proofs.Factor.{neither_below, rows_once, factor_column}

@@ -1,5 +1,5 @@
 -- Laws of specs/Examples.antt.
-use Rattle.std.specs.Prelude.{ℕ, zero, suc, ◌<◌, true, false, List, [], ◌∷◌, ◌≡◌, refl, Float, pos, negsuc}
+use Rattle.std.specs.Prelude.{ℕ, zero, suc, ◌<◌, true, false, [], ◌∷◌, ◌≡◌, refl, pos, negsuc}
 use Rattle.std.proofs.Common.{arith}
 use Rattle.std.specs.Float.{nan, inf, fin, binary64}
 use Rattle.std.specs.Float.Ieee.{of_bits, of_int, ne, eq, le}

@@ -1,16 +1,15 @@
 -- Laws of specs/Factor.antt.
 use Prim.Native.Nat.{ℕ, zero, suc, ◌+◌, ◌-◌, ◌≤◌, ◌<◌}
 use Rattle.std.proofs.Common.{arith, le_antisymm, lt_of_not-le, le_of_suc-le-suc, sym, ap, subst}
-use Rattle.std.specs.Prelude.{◌≡◌, false, List, [], ◌∷◌, length}
+use Rattle.std.specs.Prelude.{◌≡◌, List, [], ◌∷◌, length}
 use Rattle.std.proofs.Math.Bool.{not}
 use borrow.Author.Tests.{ltb-false, leb-false, eqb-true, le-ltb, lt-leb, eq-eqb, not-false}
-use Rattle.lists.specs.Test.{any_in, any_below, any_all, any_in_below, any_in_all}
+use Rattle.lists.specs.Test.{any_below, any_all, any_in_below, any_in_all}
 use Rattle.refusal.specs.Steps.{Passed}
 use Rattle.refusal.proofs.Steps.{passed_clear, clear_passed, passed_append, passed_front, passed_back}
-use Rattle.refusal.specs.Bounds.{max_dimension, max_entries}
 use Rattle.columns.specs.Columns.{start, row, falls, outside_at, not_above, unsorted}
 use Rattle.columns.specs.Columns.{bound_steps, broken_steps, starts_steps, rows_steps, column_steps}
-use Rattle.columns.specs.Factor.{Ascends, FactorBounded, Unbroken, Starts, Sorted, Factor, Column, FirstFrom}
+use Rattle.columns.specs.Factor.{FactorBounded, Unbroken, Starts, Sorted, Factor, Column}
 
 -- ---- the steps pass exactly if the records hold
 pub bound_steps-sound : (n entries : ℕ) → Passed (bound_steps n entries) → FactorBounded n entries

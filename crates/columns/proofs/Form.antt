@@ -1,16 +1,12 @@
 -- Laws of specs/Form.antt.
-use Rattle.std.specs.Prelude.{ℕ, ◌+◌, ◌<◌, ◌≡◌, Bool, true, false, ◌||◌, List, eqb, Float}
+use Rattle.std.specs.Prelude.{ℕ, ◌+◌, ◌<◌, ◌≡◌, Bool, true, ◌||◌, List, Float}
 use Rattle.std.proofs.Common.{arith, ap, eq-eqb, ne_eqb}
 use Rattle.std.proofs.Math.Path.{refl}
 use Rattle.std.proofs.Math.ListN.{length}
-use Rattle.std.specs.Float.Ieee.{le}
-use Rattle.std.specs.Float.Ieee.Scale.{finite}
-use Rattle.lists.specs.Sum.{sum_to, sum_to_none, sum_to_next, sum_to_eq}
-use Rattle.columns.specs.Columns.{value}
-use Rattle.columns.specs.Kept.{f0, nonzero, diag, pattern, kept_pair, factor_pairs}
-use Rattle.columns.specs.Diagonal.{Diagonals}
+use Rattle.lists.specs.Sum.{sum_to_none, sum_to_next, sum_to_eq}
+use Rattle.columns.specs.Kept.{nonzero, pattern, kept_pair}
 use Rattle.columns.proofs.Pattern.{factor_pairs-pattern}
-use Rattle.columns.specs.Form.{Form, form_of, Pivots, pattern_pairs, divisor, kept_pairs, Divisors, pattern_pair, cholesky, pivoted}
+use Rattle.columns.specs.Form.{Form, pattern_pairs, kept_pairs, Divisors, pattern_pair, cholesky, pivoted}
 
 module _ (n : ℕ) (starts rows : List ℕ) (values : List Float) where
   -- past 6 the pairs that count as kept are those of the pattern, in either form

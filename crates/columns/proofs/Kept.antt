@@ -1,15 +1,10 @@
 -- Laws of specs/Kept.antt.
-use Rattle.std.specs.Prelude.{ℕ, ◌+◌, Bool, not, ◌&&◌, List, map, ◌≡◌, ltb, leb, eqb, get_or, Float}
+use Rattle.std.specs.Prelude.{ℕ, ◌+◌, Bool, not, List, ◌≡◌, Float}
 use Rattle.std.proofs.Common.{ap}
-use Rattle.std.specs.Float.{binary64}
-use Rattle.std.specs.Float.Ieee.{ne, eq, of_bits}
-use Rattle.std.specs.Float.Ieee.Scale.{finite}
-use Rattle.lists.specs.Test.{any_in}
-use Rattle.lists.specs.Select.{select, tally}
-use Rattle.lists.specs.Sum.{sum_to, sum_to_none, sum_to_next}
-use Rattle.takahashi.specs.Entries.{Entry}
-use Rattle.columns.specs.Columns.{start, row, value}
-use Rattle.columns.specs.Kept.{f0, f1, nonzero, not_finite, entry, kept, kept_diagonal, kept_below, kept_row, diagonal_places, desc_places, pattern, kept_pair, kept_count, factor_pairs, diag, desc}
+use Rattle.std.specs.Float.Ieee.{ne, eq}
+use Rattle.lists.specs.Sum.{sum_to_none, sum_to_next}
+use Rattle.columns.specs.Columns.{value}
+use Rattle.columns.specs.Kept.{f0, nonzero, kept_count, factor_pairs}
 
 -- as code tests it by ==
 pub nonzero-not : (values : List Float) (p : ℕ) {b : Bool} → eq (value values p) f0 ≡ b → nonzero values p ≡ not b

@@ -1,15 +1,15 @@
 -- Laws of specs/Operator.antt.
-use Rattle.std.specs.Prelude.{ℕ, ◌-◌, ◌<◌, ◌≡◌, List, [], ◌∷◌, ◌++◌, eqb, get_or}
+use Rattle.std.specs.Prelude.{ℕ, ◌-◌, ◌≡◌, List, [], ◌∷◌, ◌++◌, eqb}
 use Rattle.std.proofs.Common.{arith}
 use Rattle.std.proofs.Math.ListN.{length}
 use borrow.Author.Tests.{leb-false, eqb-false, lt-leb, ne_eqb}
 use Rattle.lists.specs.Test.{any_below, any_all}
 use Rattle.refusal.specs.Steps.{Step, Passed}
 use Rattle.refusal.proofs.Steps.{passed_clear, clear_passed, passed_append, passed_front, passed_back}
-use Rattle.columns.specs.Columns.{outside_at, outside, bound_steps, broken_steps}
-use Rattle.columns.specs.Factor.{Starts, Unbroken}
+use Rattle.columns.specs.Columns.{outside_at, broken_steps}
+use Rattle.columns.specs.Factor.{Unbroken}
 use Rattle.columns.proofs.Factor.{broken_steps-sound, broken_steps_passed}
-use Rattle.columns.specs.Operator.{operator_rows, operator_bound_steps, column_step, operator_steps, OperatorRows}
+use Rattle.columns.specs.Operator.{operator_rows, column_step, operator_steps, OperatorRows}
 
 -- ---- the steps pass exactly if the record holds
 module _ (ncols : ℕ) (row_starts columns : List ℕ) (weights : ℕ) where

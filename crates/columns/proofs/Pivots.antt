@@ -1,17 +1,15 @@
 -- Laws of specs/Pivots.antt.
-use Rattle.std.specs.Prelude.{ℕ, ◌<◌, ◌≡◌, Bool, List, [], ◌∷◌, eqb, length, Float}
+use Rattle.std.specs.Prelude.{ℕ, ◌<◌, ◌≡◌, List, length, Float}
 use Rattle.std.proofs.Common.{sym, subst}
 use Rattle.std.proofs.Math.Path.{ap}
 use Rattle.std.proofs.Math.Bool.{not}
-use Rattle.std.specs.Float.Ieee.{eq, le}
 use borrow.Author.Tests.{eqb-true, not-false, eq-eqb}
-use Rattle.lists.specs.Test.{any, any_below, any_all}
-use Rattle.refusal.specs.Steps.{Step, Passed}
+use Rattle.lists.specs.Test.{any_below, any_all}
+use Rattle.refusal.specs.Steps.{Passed}
 use Rattle.refusal.proofs.Steps.{passed_clear, clear_passed}
-use Rattle.columns.specs.Columns.{value}
-use Rattle.columns.specs.Kept.{f0, f1, not_finite}
+use Rattle.columns.specs.Kept.{not_finite}
 use Rattle.columns.specs.Form.{Pivots}
-use Rattle.columns.specs.Pivots.{float_one, pivot_list_steps, low_pivot, pivot_steps}
+use Rattle.columns.specs.Pivots.{pivot_list_steps, low_pivot, pivot_steps}
 
 -- ---- the steps pass exactly if the pivots are as they must be
 module _ (n : ℕ) (pivots : List Float) where

@@ -1,14 +1,13 @@
 -- Laws of specs/Stored.antt.
-use Rattle.std.specs.Prelude.{ℕ, ◌+◌, ◌≤◌, ◌<◌, ◌≡◌, Bool, ◌&&◌, List, [], ◌∷◌, ◌++◌, length, Float}
+use Rattle.std.specs.Prelude.{ℕ, ◌+◌, ◌≤◌, ◌<◌, ◌≡◌, Bool, ◌&&◌, List, length, Float}
 use Rattle.std.proofs.Math.Path.{refl, ap}
 use Rattle.std.proofs.Common.{sym, ◌∙◌}
 use Rattle.std.proofs.Math.Bool.{true, false, not}
-use Rattle.std.specs.Float.Ieee.Scale.{finite}
 use borrow.Author.Tests.{not-false}
-use Rattle.lists.specs.Test.{any, any_in, any_below, any_all, any_in_below, any_in_all}
+use Rattle.lists.specs.Test.{any_below, any_all, any_in_below, any_in_all}
 use Rattle.refusal.specs.Steps.{Step, Passed}
 use Rattle.refusal.proofs.Steps.{passed_clear, clear_passed, passed_append, passed_front, passed_back}
-use Rattle.columns.specs.Columns.{FactorLists, start, value, bound_steps, column_steps}
+use Rattle.columns.specs.Columns.{FactorLists, start, bound_steps, column_steps}
 use Rattle.columns.specs.Kept.{nonzero, not_finite, kept}
 use Rattle.columns.specs.Factor.{FactorBounded, Factor}
 use Rattle.columns.proofs.Factor.{bound_steps-sound, bound_steps_passed, column_steps-sound, column_steps_passed}

@@ -1,13 +1,12 @@
 -- Laws of specs/UnitDiagonals.antt.
-use Rattle.std.specs.Prelude.{ℕ, ◌+◌, ◌≤◌, ◌<◌, ◌≡◌, Bool, ◌&&◌, List, [], ◌∷◌}
+use Rattle.std.specs.Prelude.{ℕ, ◌<◌, ◌≡◌, Bool, ◌&&◌, List}
 use Rattle.std.proofs.Math.Path.{refl, ap}
 use Rattle.std.proofs.Common.{sym, ◌∙◌}
 use Rattle.std.proofs.Math.Bool.{true, false, not}
 use borrow.Author.Tests.{not-false}
-use Rattle.lists.specs.Test.{any, any_in, any_below, any_all, any_in_below, any_in_all}
-use Rattle.refusal.specs.Steps.{Step, Passed}
+use Rattle.lists.specs.Test.{any_below, any_all, any_in_below, any_in_all}
+use Rattle.refusal.specs.Steps.{Passed}
 use Rattle.refusal.proofs.Steps.{passed_clear, clear_passed}
-use Rattle.columns.specs.Columns.{start}
 use Rattle.columns.specs.Kept.{kept_diagonal}
 use Rattle.columns.specs.Factor.{Sorted}
 use Rattle.columns.specs.Diagonal.{no_diagonal, Diagonal}

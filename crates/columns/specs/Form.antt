@@ -2,12 +2,10 @@
 -- What a column's entries are finished with, and how many pairs count as kept.
 -- Assumes nothing.
 use Rattle.std.specs.Prelude.{ℕ, ◌+◌, ◌<◌, ◌≡◌, Bool, true, false, ◌||◌, List, eqb, Float}
-use Rattle.std.proofs.Common.{arith, ap, eq-eqb, ne_eqb}
-use Rattle.std.proofs.Math.Path.{refl}
 use Rattle.std.proofs.Math.ListN.{length}
 use Rattle.std.specs.Float.Ieee.{le}
 use Rattle.std.specs.Float.Ieee.Scale.{finite}
-use Rattle.lists.specs.Sum.{sum_to, sum_to_none, sum_to_next, sum_to_eq}
+use Rattle.lists.specs.Sum.{sum_to}
 use Rattle.columns.specs.Columns.{value}
 use Rattle.columns.specs.Kept.{f0, nonzero, diag, pattern, kept_pair, factor_pairs}
 use Rattle.columns.specs.Diagonal.{Diagonals}

@@ -1,14 +1,13 @@
 -- The kept entries of a factor: diagonals, the descendants of a column, the pattern, and their number.
 -- Which values are not 0 is a test `nz` of the place, so that all but `diag` and `desc` serve values of any type.
 -- Assumes nothing.
-use Rattle.std.specs.Prelude.{ℕ, ◌+◌, Bool, not, ◌&&◌, List, map, ◌≡◌, ltb, leb, eqb, get_or, Float}
-use Rattle.std.proofs.Common.{ap}
+use Rattle.std.specs.Prelude.{ℕ, ◌+◌, Bool, not, ◌&&◌, List, map, ltb, leb, eqb, get_or, Float}
 use Rattle.std.specs.Float.{binary64}
-use Rattle.std.specs.Float.Ieee.{ne, eq, of_bits}
+use Rattle.std.specs.Float.Ieee.{ne, of_bits}
 use Rattle.std.specs.Float.Ieee.Scale.{finite}
 use Rattle.lists.specs.Test.{any_in}
 use Rattle.lists.specs.Select.{select, tally}
-use Rattle.lists.specs.Sum.{sum_to, sum_to_none, sum_to_next}
+use Rattle.lists.specs.Sum.{sum_to}
 use Rattle.takahashi.specs.Entries.{Entry}
 use Rattle.columns.specs.Columns.{start, row, value}
 

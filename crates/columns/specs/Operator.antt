@@ -1,14 +1,10 @@
 -- A sparse operator, in row starts, columns and weights, and what is refused of it: steps 1 and 9.
 -- Assumes nothing.
 use Rattle.std.specs.Prelude.{ℕ, ◌-◌, ◌<◌, ◌≡◌, List, [], ◌∷◌, ◌++◌, eqb, get_or}
-use Rattle.std.proofs.Common.{arith}
 use Rattle.std.proofs.Math.ListN.{length}
-use borrow.Author.Tests.{leb-false, eqb-false, lt-leb, ne_eqb}
-use Rattle.lists.specs.Test.{any_below, any_all}
-use Rattle.refusal.specs.Steps.{Step, Passed}
-use Rattle.refusal.proofs.Steps.{passed_clear, clear_passed, passed_append, passed_front, passed_back}
-use Rattle.columns.specs.Columns.{outside_at, outside, bound_steps, broken_steps}
-use Rattle.columns.specs.Factor.{Starts, Unbroken}
+use Rattle.refusal.specs.Steps.{Step}
+use Rattle.columns.specs.Columns.{outside, bound_steps, broken_steps}
+use Rattle.columns.specs.Factor.{Starts}
 
 -- the number of rows
 abbrev pub operator_rows : List ℕ → ℕ

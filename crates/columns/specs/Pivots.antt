@@ -1,17 +1,12 @@
 -- What is refused of a list of pivots, 4, 18 and 6, and which kept diagonals are 1; and what pivots have that pass.
 -- Assumes nothing.
-use Rattle.std.specs.Prelude.{ℕ, ◌<◌, ◌≡◌, Bool, List, [], ◌∷◌, eqb, length, Float}
-use Rattle.std.proofs.Common.{sym, subst}
-use Rattle.std.proofs.Math.Path.{ap}
+use Rattle.std.specs.Prelude.{ℕ, Bool, List, [], ◌∷◌, eqb, length, Float}
 use Rattle.std.proofs.Math.Bool.{not}
 use Rattle.std.specs.Float.Ieee.{eq, le}
-use borrow.Author.Tests.{eqb-true, not-false, eq-eqb}
-use Rattle.lists.specs.Test.{any, any_below, any_all}
-use Rattle.refusal.specs.Steps.{Step, Passed}
-use Rattle.refusal.proofs.Steps.{passed_clear, clear_passed}
+use Rattle.lists.specs.Test.{any}
+use Rattle.refusal.specs.Steps.{Step}
 use Rattle.columns.specs.Columns.{value}
 use Rattle.columns.specs.Kept.{f0, f1, not_finite}
-use Rattle.columns.specs.Form.{Pivots}
 
 -- the value at p is 1
 abbrev pub float_one : List Float → ℕ → Bool

@@ -1,17 +1,12 @@
 -- Step 18, a kept entry that is not finite; a factor's steps, 2, 3 and 18, and with 1 before them; what a factor has that passes.
 -- Assumes nothing.
 use Rattle.std.specs.Prelude.{ℕ, ◌+◌, ◌≤◌, ◌<◌, ◌≡◌, Bool, ◌&&◌, List, [], ◌∷◌, ◌++◌, length, Float}
-use Rattle.std.proofs.Math.Path.{refl, ap}
-use Rattle.std.proofs.Common.{sym, ◌∙◌}
-use Rattle.std.proofs.Math.Bool.{true, false, not}
+use Rattle.std.proofs.Math.Bool.{true}
 use Rattle.std.specs.Float.Ieee.Scale.{finite}
-use borrow.Author.Tests.{not-false}
-use Rattle.lists.specs.Test.{any, any_in, any_below, any_all, any_in_below, any_in_all}
-use Rattle.refusal.specs.Steps.{Step, Passed}
-use Rattle.refusal.proofs.Steps.{passed_clear, clear_passed, passed_append, passed_front, passed_back}
+use Rattle.lists.specs.Test.{any, any_in}
+use Rattle.refusal.specs.Steps.{Step}
 use Rattle.columns.specs.Columns.{FactorLists, start, value, bound_steps, column_steps}
 use Rattle.columns.specs.Kept.{nonzero, not_finite, kept}
-use Rattle.columns.specs.Factor.{FactorBounded, Factor}
 
 -- the entry at p is kept in column c and is not finite
 abbrev pub kept_not_finite : List ℕ → List Float → ℕ → ℕ → Bool

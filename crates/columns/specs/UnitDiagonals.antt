@@ -2,16 +2,11 @@
 -- than 1, with a number of each family of factors, and of a column without a kept diagonal, with 6; and what a factor has that passes them.
 -- Assumes nothing.
 use Rattle.std.specs.Prelude.{ℕ, ◌+◌, ◌≤◌, ◌<◌, ◌≡◌, Bool, ◌&&◌, List, [], ◌∷◌}
-use Rattle.std.proofs.Math.Path.{refl, ap}
-use Rattle.std.proofs.Common.{sym, ◌∙◌}
-use Rattle.std.proofs.Math.Bool.{true, false, not}
-use borrow.Author.Tests.{not-false}
-use Rattle.lists.specs.Test.{any, any_in, any_below, any_all, any_in_below, any_in_all}
-use Rattle.refusal.specs.Steps.{Step, Passed}
-use Rattle.refusal.proofs.Steps.{passed_clear, clear_passed}
+use Rattle.std.proofs.Math.Bool.{true, not}
+use Rattle.lists.specs.Test.{any, any_in}
+use Rattle.refusal.specs.Steps.{Step}
 use Rattle.columns.specs.Columns.{start}
 use Rattle.columns.specs.Kept.{kept_diagonal}
-use Rattle.columns.specs.Factor.{Sorted}
 use Rattle.columns.specs.Diagonal.{no_diagonal, Diagonal}
 
 module _ (rows : List ℕ) (nz one : ℕ → Bool) where

@@ -1,8 +1,6 @@
 -- A factor whose values are whole numbers: which of them are kept, and the descendants of a column with their values.
 -- Assumes nothing.
-use Rattle.std.specs.Prelude.{ℕ, ◌≡◌, Bool, true, false, not, List, map, eqb, get_or, ℤ, pos, negsuc, nat_abs}
-use Rattle.std.proofs.Common.{ap, eqb-true}
-use Rattle.std.proofs.lemmas.Bool.{false≢true}
+use Rattle.std.specs.Prelude.{ℕ, Bool, false, not, List, map, eqb, get_or, ℤ, pos, negsuc, nat_abs}
 use Rattle.takahashi.specs.Entries.{Entry}
 use Rattle.columns.specs.Columns.{row}
 use Rattle.columns.specs.Kept.{desc_places, pattern}

@@ -1,26 +1,22 @@
 -- Laws of specs/Covariances.antt.
-use Rattle.std.specs.Prelude.{ℕ, ◌≤◌, ◌<◌, not, List, [], ◌∷◌, ◌++◌, ltb, eqb, length, Float}
+use Rattle.std.specs.Prelude.{ℕ, ◌<◌, List, ◌++◌, length}
 use Rattle.std.proofs.Common.{subst, ltb-false, leb-false, eqb-true}
 use Rattle.std.proofs.lemmas.Bool.{not-false}
 use Rattle.lists.specs.Test.{any_below}
-use Rattle.refusal.specs.Bounds.{max_entries, output_steps}
+use Rattle.refusal.specs.Bounds.{output_steps}
 use Rattle.refusal.specs.Steps.{Step, Passed}
 use Rattle.refusal.proofs.Steps.{passed_clear, passed_front, passed_back}
-use Rattle.refusal.specs.Groups.{grouped, AllPassed}
+use Rattle.refusal.specs.Groups.{AllPassed}
 use Rattle.refusal.proofs.Groups.{groups_passed}
-use Rattle.columns.specs.Columns.{FactorLists, factor_lists, outside_at, outside, bound_steps}
+use Rattle.columns.specs.Columns.{outside_at, bound_steps}
 use Rattle.columns.proofs.Factor.{bound_steps-sound}
-use Rattle.columns.specs.Stored.{stored_steps}
-use Rattle.columns.specs.Operator.{operator_rows, operator_bound_steps, operator_steps}
+use Rattle.columns.specs.Operator.{operator_rows, operator_steps}
 use Rattle.columns.proofs.Operator.{operator_steps-sound}
-use Rattle.selection.specs.Selection.{Selection, selection, Lent, Room, room_of, default_limit, fill_steps, selected_table, Accepted}
+use Rattle.selection.specs.Selection.{Room}
 use Rattle.selection.proofs.Call.{fill_accepted}
-use Rattle.diagnostics.specs.declared.Selected.{Selected}
-use Rattle.request_marks.specs.CrossRequests.{cross_requested, OperatorPairs}
+use Rattle.request_marks.specs.CrossRequests.{OperatorPairs}
 use Rattle.request_marks.proofs.CrossRequests.{cross_requested_ranged}
-use Rattle.quadratic_form.specs.RowValue.{row_pair_values}
-use Rattle.operator_values.specs.Output.{SelectedOutput}
-use Rattle.covariances.specs.Covariances.{Operator, CovarianceCall, operator, covariance_call, covariance_selection, pair_bound_steps, covariance_bounds, count_steps, row_steps, operators_steps, covariance_groups, covariance_steps, covariance_values, Covariances, AcceptedCovariances}
+use Rattle.covariances.specs.Covariances.{CovarianceCall, covariance_selection, count_steps, row_steps, covariance_groups, covariance_steps, AcceptedCovariances}
 
 module _ (x : CovarianceCall) (lengths : Room) (output : ℕ) (p : Passed (covariance_steps x lengths output)) where
   passed : AllPassed (covariance_groups x lengths output)

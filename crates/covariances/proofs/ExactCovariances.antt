@@ -25,18 +25,17 @@ use Rattle.diagnostics.specs.Selected.{selected_reply_of}
 use Rattle.selection.specs.Selection.{Selection, Lent, room_of, selected_answer, selected_table, ResultLists, filling_of}
 use Rattle.exact_entries.specs.DyadicEntries.{DyadicCall, ReadsMultiples}
 use Rattle.exact_entries.proofs.DyadicEntries.{dyadic_entries}
-use Rattle.exact_entries.specs.ExactEntries.{ExactCall, ReadsBack}
+use Rattle.exact_entries.specs.ExactEntries.{ExactCall}
 use Rattle.exact_entries.proofs.ExactEntries.{exact_entries, exact_either, exact_symmetric}
 use Rattle.request_marks.proofs.CrossRequests.{cross_requested_lem}
 use Rattle.quadratic_form.specs.RowValue.{term_column, row_pair_value, row_pair_values}
-use Rattle.quadratic_form.specs.ExactCross.{bilinear, RowsWithin}
 use Rattle.quadratic_form.proofs.ExactCross.{bilinear-exchanged, cross_value_exact}
 use Rattle.operator_values.specs.Output.{output_after}
 use Rattle.operator_values.proofs.Output.{after_complete}
-use Rattle.covariances.specs.Covariances.{Operator, CovarianceCall, covariance_selection, covariance_steps, covariance_values, Covariances}
+use Rattle.covariances.specs.Covariances.{CovarianceCall, covariance_selection, covariance_steps, covariance_values, Covariances}
 use Rattle.covariances.specs.Covariances.{AcceptedCovariances}
 use Rattle.covariances.proofs.Covariances.{covariance_accepted}
-use Rattle.covariances.specs.ExactCovariances.{first_place, place_count, exchanged, a_row, b_row, exact_covariance, ExactPair, CovariancesExact}
+use Rattle.covariances.specs.ExactCovariances.{first_place, place_count, exchanged, a_row, b_row, exact_covariance, CovariancesExact}
 
 module _ (x : CovarianceCall) (lent : Lent) (output : List Float) (passed : Passed (covariance_steps x (room_of lent) (length output)))
     (whole : ℕ → List (Entry ℤ)) (E : ExactCall (covariance_selection x) whole) (X : Matrix) (is : WholeInverse x.factor.n (factor ones whole) X) where

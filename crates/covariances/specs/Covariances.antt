@@ -1,24 +1,15 @@
 -- The covariances of row pairs of two operators: what a call is handed, what it refuses in its order, what it answers and leaves.
 -- Assumes nothing.
-use Rattle.std.specs.Prelude.{ℕ, ◌≤◌, ◌<◌, not, List, [], ◌∷◌, ◌++◌, ltb, eqb, length, Float}
-use Rattle.std.proofs.Common.{subst, ltb-false, leb-false, eqb-true}
-use Rattle.std.proofs.lemmas.Bool.{not-false}
-use Rattle.lists.specs.Test.{any_below}
+use Rattle.std.specs.Prelude.{ℕ, ◌≤◌, not, List, [], ◌∷◌, ◌++◌, ltb, eqb, length, Float}
 use Rattle.refusal.specs.Bounds.{max_entries, output_steps}
-use Rattle.refusal.specs.Steps.{Step, Passed}
-use Rattle.refusal.proofs.Steps.{passed_clear, passed_front, passed_back}
-use Rattle.refusal.specs.Groups.{grouped, AllPassed}
-use Rattle.refusal.proofs.Groups.{groups_passed}
-use Rattle.columns.specs.Columns.{FactorLists, factor_lists, outside_at, outside, bound_steps}
-use Rattle.columns.proofs.Factor.{bound_steps-sound}
+use Rattle.refusal.specs.Steps.{Step}
+use Rattle.refusal.specs.Groups.{grouped}
+use Rattle.columns.specs.Columns.{FactorLists, factor_lists, outside, bound_steps}
 use Rattle.columns.specs.Stored.{stored_steps}
 use Rattle.columns.specs.Operator.{operator_rows, operator_bound_steps, operator_steps}
-use Rattle.columns.proofs.Operator.{operator_steps-sound}
 use Rattle.selection.specs.Selection.{Selection, selection, Lent, Room, room_of, default_limit, fill_steps, selected_table, Accepted}
-use Rattle.selection.proofs.Call.{fill_accepted}
 use Rattle.diagnostics.specs.declared.Selected.{Selected}
 use Rattle.request_marks.specs.CrossRequests.{cross_requested, OperatorPairs}
-use Rattle.request_marks.proofs.CrossRequests.{cross_requested_ranged}
 use Rattle.quadratic_form.specs.RowValue.{row_pair_values}
 use Rattle.operator_values.specs.Output.{SelectedOutput}
 

@@ -1,42 +1,20 @@
 -- The exact case of covariances: for whole weights each row pair's value is the exact vᵀXu, and exchanging the operators gives the same. Beyond unit
 -- diagonals, what reads back.
 -- Assumes nothing.
-use Rattle.std.specs.Prelude.{ℕ, ◌+◌, ◌-◌, ◌^◌, ◌<◌, ◌≡◌, length, ℤ, pos, Float}
-use Rattle.std.proofs.Common.{arith, sym, subst, ◌∙◌}
-use Rattle.std.proofs.Math.Path.{ap}
+use Rattle.std.specs.Prelude.{ℕ, ◌+◌, ◌-◌, ◌<◌, ◌≡◌, length, ℤ, Float}
 use mathlib.Core.List.{List}
 use Rattle.std.proofs.Math.ListN.{get_or}
 use Rattle.std.specs.Float.Ieee.{nan}
-use Rattle.lists.specs.Tabulate.{tabulate_at, tabulate-length}
-use Rattle.lists.specs.Overwrite.{overwrite_at}
-use Rattle.refusal.specs.Steps.{Step, answered, Passed}
-use Rattle.refusal.proofs.Told.{told_passed, told_answer}
 use Rattle.columns.specs.Columns.{start, value}
-use Rattle.columns.proofs.Factor.{starts_end}
 use Rattle.integers.specs.Matrix.{Matrix}
-use Rattle.integers.specs.Inverse.{Inverse, WholeInverse}
-use Rattle.takahashi.specs.Entries.{Entry}
 use Rattle.exact.specs.Multiple.{Whole}
 use Rattle.exact.specs.Factor.{factor}
-use Rattle.exact.specs.ExactCase.{ones}
-use Rattle.closed_set.specs.ClosedSet.{request}
-use Rattle.diagnostics.specs.declared.SelectedInverseDiagnostics.{SelectedInverseDiagnostics}
 use Rattle.diagnostics.specs.declared.SelectedInverseStatus.TheVariants.{Complete}
-use Rattle.diagnostics.specs.declared.Selected.{Selected}
-use Rattle.diagnostics.specs.Selected.{selected_reply_of}
-use Rattle.selection.specs.Selection.{Selection, Lent, room_of, selected_answer, selected_table, ResultLists, filling_of}
-use Rattle.exact_entries.specs.DyadicEntries.{DyadicCall, ReadsMultiples}
-use Rattle.exact_entries.proofs.DyadicEntries.{dyadic_entries}
-use Rattle.exact_entries.specs.ExactEntries.{ExactCall, ReadsBack}
-use Rattle.exact_entries.proofs.ExactEntries.{exact_entries, exact_either, exact_symmetric}
-use Rattle.request_marks.proofs.CrossRequests.{cross_requested_lem}
-use Rattle.quadratic_form.specs.RowValue.{term_column, row_pair_value, row_pair_values}
+use Rattle.selection.specs.Selection.{Lent, selected_answer}
+use Rattle.exact_entries.specs.ExactEntries.{ReadsBack}
+use Rattle.quadratic_form.specs.RowValue.{term_column}
 use Rattle.quadratic_form.specs.ExactCross.{bilinear, RowsWithin}
-use Rattle.quadratic_form.proofs.ExactCross.{bilinear-exchanged, cross_value_exact}
-use Rattle.operator_values.specs.Output.{output_after}
-use Rattle.operator_values.proofs.Output.{after_complete}
-use Rattle.covariances.specs.Covariances.{Operator, CovarianceCall, covariance_selection, covariance_steps, covariance_values, Covariances}
-use Rattle.covariances.specs.Covariances.{AcceptedCovariances}
+use Rattle.covariances.specs.Covariances.{Operator, CovarianceCall, covariance_selection}
 
 -- the first place of an operator's row, and how many places it has
 abbrev pub first_place : Operator → ℕ → ℕ

@@ -1,17 +1,16 @@
 -- Laws of specs/Answer.antt.
-use Rattle.std.specs.Prelude.{ℕ, suc, ◌+◌, ◌-◌, ◌*◌, ◌≤◌, ◌<◌, min, max, ◌≡◌, refl, Bool, true, ◌⊎◌, ◌↔◌, List, [], ◌∷◌, ◌++◌, map, length, get_or}
+use Rattle.std.specs.Prelude.{ℕ, suc, ◌+◌, ◌-◌, ◌*◌, ◌≤◌, ◌<◌, min, max, ◌≡◌, refl, Bool, true, ◌↔◌, List, [], ◌∷◌, ◌++◌, map, length, get_or}
 use Rattle.std.proofs.Common.{arith, sym, ap, ap₂, subst, subst₂, ◌∙◌, le-ltb}
 use Rattle.std.proofs.lemmas.List.{length-map}
-use Rattle.lists.specs.Tabulate.{tabulate, tabulate-length, tabulate_at, tabulate_cong, tabulate-of}
+use Rattle.lists.specs.Tabulate.{tabulate-length, tabulate_at, tabulate_cong, tabulate-of}
 use Rattle.lists.specs.Overwrite.{overwrite, overwrite_at}
 use Rattle.lists.specs.Select.{get_d_mapped}
 use Rattle.refusal.specs.Steps.{Step, Reply, answered, Passed}
 use Rattle.refusal.proofs.Steps.{first_passed, after_passed, clear_passed, passed_append, passed_front}
 use Rattle.refusal.proofs.Told.{told_passed, told_answer}
-use Rattle.columns.specs.Kept.{nonzero, pattern}
-use Rattle.closed_set.specs.ClosedSet.{Needed, Leads}
+use Rattle.closed_set.specs.ClosedSet.{Leads}
 use Rattle.closed_set.specs.Requests.{requested}
-use Rattle.chains.specs.Chain.{Chain, LowerBack, Shown, pair_at}
+use Rattle.chains.specs.Chain.{Shown, pair_at}
 use Rattle.chains.proofs.Chain.{chain_some, chain_first, chain_leads, chain_last}
 use Rattle.levels.specs.Written.{rows_of, columns_of}
 use Rattle.dependency_chain.specs.Chain.{ChainCall, chain_to, chain_room_steps, asked_steps, chain_steps, ChainListed}

@@ -1,28 +1,23 @@
 -- Laws of specs/Laws.antt.
-use Rattle.std.specs.Prelude.{ℕ, ◌+◌, ◌-◌, ◌*◌, ◌≤◌, ◌<◌, min, max, ◌≡◌, Bool, ◌↔◌, List, [], length}
+use Rattle.std.specs.Prelude.{ℕ, ◌-◌, ◌*◌, ◌≤◌, ◌<◌, min, max, ◌≡◌, Bool, ◌↔◌, List, [], length}
 use Rattle.std.proofs.Common.{arith, ltb-false, leb-false}
-use Rattle.refusal.specs.Bounds.{max_dimension}
 use Rattle.refusal.specs.Steps.{Passed}
 use Rattle.refusal.proofs.Steps.{passed_clear, passed_front}
 use Rattle.refusal.proofs.Groups.{groups_passed}
-use Rattle.pairs.specs.Scratch.{chain_words}
 use Rattle.columns.specs.Columns.{bound_steps}
-use Rattle.columns.specs.Factor.{Factor}
 use Rattle.columns.proofs.Factor.{bound_steps-sound}
 use Rattle.columns.proofs.Stored.{stored_steps-sound}
 use Rattle.columns.specs.Kept.{nonzero, pattern}
 use Rattle.closed_set.specs.ClosedSet.{Needed, Pattern, Ranged}
-use Rattle.closed_set.specs.Requests.{Requests, requested}
+use Rattle.closed_set.specs.Requests.{requested}
 use Rattle.closed_set.proofs.Requests.{requested_ranged}
 use Rattle.closed_set.proofs.FactorPattern.{factor_pattern}
 use Rattle.chains.specs.Chain.{Shown}
 use Rattle.chains.proofs.ChainOf.{chain_shown, chain_empty, chain_of_needed, chain_of_most}
 use Rattle.selection.specs.RequestSteps.{request_bound_steps}
 use Rattle.selection.proofs.RequestSteps.{request_steps-sound}
-use Rattle.levels.specs.Levels.{level_word}
-use Rattle.levels.specs.Written.{BackInput}
 use Rattle.dependency_chain.specs.Chain.{ChainCall, chain_to, seek_steps, asked_groups, asked_steps}
-use Rattle.dependency_chain.specs.Laws.{ListInput, SeekInput}
+use Rattle.dependency_chain.specs.Laws.{SeekInput}
 
 -- the steps pass only for a call that has this
 pub asked_accepted : (x : ChainCall) (s : List ℕ) → Passed (asked_steps x (length s))

@@ -1,22 +1,13 @@
 -- What a reader of a reply knows: the pairs that the chain lists begin with start at a request, each is a dependency of the one before, the last is the
 -- pair that was asked for, no chain is shorter, and of another as short the last pair in which they differ is higher by column then row.
 -- Assumes nothing.
-use Rattle.std.specs.Prelude.{ℕ, suc, ◌+◌, ◌-◌, ◌*◌, ◌≤◌, ◌<◌, min, max, ◌≡◌, refl, Bool, true, ◌⊎◌, ◌↔◌, List, [], ◌∷◌, ◌++◌, map, length, get_or}
-use Rattle.std.proofs.Common.{arith, sym, ap, ap₂, subst, subst₂, ◌∙◌, le-ltb}
-use Rattle.std.proofs.lemmas.List.{length-map}
-use Rattle.lists.specs.Tabulate.{tabulate, tabulate-length, tabulate_at, tabulate_cong, tabulate-of}
-use Rattle.lists.specs.Overwrite.{overwrite, overwrite_at}
-use Rattle.lists.specs.Select.{get_d_mapped}
-use Rattle.refusal.specs.Steps.{Step, Reply, answered, Passed}
-use Rattle.refusal.proofs.Steps.{first_passed, after_passed, clear_passed, passed_append, passed_front}
-use Rattle.refusal.proofs.Told.{told_passed, told_answer}
+use Rattle.std.specs.Prelude.{ℕ, ◌+◌, ◌-◌, ◌≤◌, ◌<◌, min, max, ◌≡◌, Bool, true, ◌⊎◌, List, length, get_or}
+use Rattle.lists.specs.Tabulate.{tabulate}
 use Rattle.columns.specs.Kept.{nonzero, pattern}
 use Rattle.closed_set.specs.ClosedSet.{Needed, Leads}
 use Rattle.closed_set.specs.Requests.{requested}
-use Rattle.chains.specs.Chain.{Chain, LowerBack, Shown, pair_at}
-use Rattle.chains.proofs.Chain.{chain_some, chain_first, chain_leads, chain_last}
-use Rattle.levels.specs.Written.{rows_of, columns_of}
-use Rattle.dependency_chain.specs.Chain.{ChainCall, chain_to, chain_room_steps, asked_steps, chain_steps, ChainListed}
+use Rattle.chains.specs.Chain.{Chain, LowerBack}
+use Rattle.dependency_chain.specs.Chain.{ChainCall}
 
 -- the first k pairs of two lists
 abbrev pub first_pairs : ℕ → List ℕ → List ℕ → List (ℕ × ℕ)

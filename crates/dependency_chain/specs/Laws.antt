@@ -1,28 +1,12 @@
 -- What a call for a chain that is not refused has, and what its answer means.
 -- Assumes nothing.
-use Rattle.std.specs.Prelude.{ℕ, ◌+◌, ◌-◌, ◌*◌, ◌≤◌, ◌<◌, min, max, ◌≡◌, Bool, ◌↔◌, List, [], length}
-use Rattle.std.proofs.Common.{arith, ltb-false, leb-false}
+use Rattle.std.specs.Prelude.{ℕ, ◌+◌, ◌*◌, ◌≤◌, ◌<◌, ◌≡◌, List, length}
 use Rattle.refusal.specs.Bounds.{max_dimension}
-use Rattle.refusal.specs.Steps.{Passed}
-use Rattle.refusal.proofs.Steps.{passed_clear, passed_front}
-use Rattle.refusal.proofs.Groups.{groups_passed}
 use Rattle.pairs.specs.Scratch.{chain_words}
-use Rattle.columns.specs.Columns.{bound_steps}
 use Rattle.columns.specs.Factor.{Factor}
-use Rattle.columns.proofs.Factor.{bound_steps-sound}
-use Rattle.columns.proofs.Stored.{stored_steps-sound}
-use Rattle.columns.specs.Kept.{nonzero, pattern}
-use Rattle.closed_set.specs.ClosedSet.{Needed, Pattern, Ranged}
-use Rattle.closed_set.specs.Requests.{Requests, requested}
-use Rattle.closed_set.proofs.Requests.{requested_ranged}
-use Rattle.closed_set.proofs.FactorPattern.{factor_pattern}
-use Rattle.chains.specs.Chain.{Shown}
-use Rattle.chains.proofs.ChainOf.{chain_shown, chain_empty, chain_of_needed, chain_of_most}
-use Rattle.selection.specs.RequestSteps.{request_bound_steps}
-use Rattle.selection.proofs.RequestSteps.{request_steps-sound}
+use Rattle.closed_set.specs.Requests.{Requests}
 use Rattle.levels.specs.Levels.{level_word}
 use Rattle.levels.specs.Written.{BackInput}
-use Rattle.dependency_chain.specs.Chain.{ChainCall, chain_to, seek_steps, asked_groups, asked_steps}
 
 -- a pair, its level, and the words of the levels
 pub record ListInput (n : ℕ) (starts rows : List ℕ) (values r c level : ℕ) (s : List ℕ) : Type 0 where

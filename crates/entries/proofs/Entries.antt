@@ -1,17 +1,9 @@
 -- Laws of specs/Entries.antt.
-use Rattle.std.specs.Prelude.{ℕ, ◌+◌, ◌≡◌, Bool, List, length, Float}
-use Rattle.lists.specs.Select.{tally}
-use Rattle.lists.specs.Tabulate.{tabulate, tabulate-length}
-use Rattle.lists.specs.Cells.{cells, cell_count}
-use Rattle.pairs.specs.ColumnOrder.{by_column, column_first, column_end, set_size}
+use Rattle.std.specs.Prelude.{ℕ, ◌+◌, ◌≡◌, Bool, length}
+use Rattle.lists.specs.Tabulate.{tabulate-length}
+use Rattle.pairs.specs.ColumnOrder.{set_size}
 use Rattle.pairs.proofs.ColumnOrder.{set_size-length}
-use Rattle.columns.specs.Columns.{value}
-use Rattle.columns.specs.Kept.{diag, desc}
-use Rattle.columns.specs.Form.{Form, cholesky, pivoted}
-use Rattle.takahashi.specs.Recurrence.{table}
-use Rattle.exact.specs.Exact.{floats, float_off, float_on}
-use Rattle.exact.specs.PivotCase.{pivot_off, pivot_on}
-use Rattle.entries.specs.Entries.{column_count, position, entry_starts, entry_rows, entry_values, float_table, pivot_table, below_step, diagonal_step, form_table}
+use Rattle.entries.specs.Entries.{column_count, entry_starts, entry_rows, entry_values}
 
 pub entry_starts-length : (n : ℕ) (S : ℕ → ℕ → Bool) → length (entry_starts n S) ≡ n + 1
 entry_starts-length n S = tabulate-length (column_count n S) (n + 1)

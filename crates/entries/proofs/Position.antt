@@ -9,11 +9,9 @@ use Rattle.lists.specs.Select.{select, tally, select_yes, select_next, select_co
 use Rattle.lists.specs.Tabulate.{tabulate_cong}
 use Rattle.lists.specs.Overwrite.{overwrite, overwrite-length, overwrite_at, overwrite_past}
 use Rattle.lists.specs.Cells.{cells, cell_count, cells_next, cells-length, cells_cong, cell_count_next, cell_count_mono, cell_count_cong}
-use Rattle.pairs.specs.Scratch.{queue_start}
-use Rattle.pairs.specs.ColumnOrder.{column_place, by_column, column_first, column_end, set_size}
+use Rattle.pairs.specs.ColumnOrder.{by_column, column_first, column_end, set_size}
 use Rattle.entries.specs.Entries.{column_count, position, entry_starts, entry_rows, entry_values}
 use Rattle.entries.proofs.Entries.{entry_values-length}
-use Rattle.entries.specs.Position.{Positioned}
 
 -- ---- one column
 

@@ -3,7 +3,7 @@ use Rattle.std.specs.Prelude.{ℕ, suc, ◌+◌, ◌≤◌, ◌<◌, ◌≡◌, 
 use Rattle.std.proofs.Common.{sym, ap, ◌∙◌}
 use Rattle.std.proofs.Math.Path.{ap₂}
 use Rattle.std.proofs.Math.Bool.{◌||◌}
-use Rattle.lists.specs.Test.{any, any_in, any_below, any_all, any_in_below, any_in_all, or_neither_left, or_neither_right}
+use Rattle.lists.specs.Test.{any, any_below, any_all, any_in_below, any_in_all, or_neither_left, or_neither_right}
 use Rattle.columns.specs.Columns.{start}
 use Rattle.columns.specs.Kept.{kept}
 use Rattle.columns.specs.Factor.{Factor}
@@ -11,10 +11,9 @@ use Rattle.columns.specs.WholeFactor.{whole_value, whole_nonzero, whole_stored, 
 use Rattle.takahashi.specs.Entries.{Ascend}
 use Rattle.takahashi.specs.Recurrence.{RecurrenceClosed}
 use Rattle.exact.specs.Multiple.{Small}
-use Rattle.exact.specs.ExactCase.{unit_table, WithinBound}
+use Rattle.exact.specs.ExactCase.{WithinBound}
 use Rattle.exact.specs.Checked.{beyond}
 use Rattle.exact.proofs.Checked.{small_within, within_small}
-use Rattle.exact.specs.Exceeds.{set_exceeds}
 use Rattle.exact.proofs.Exceeds.{none_within, within_none}
 use Rattle.entries.proofs.Descendants.{places_ascend}
 use Rattle.entries.specs.WholeTable.{whole_table, kept_exceeds, exceeds, KeptSmall}

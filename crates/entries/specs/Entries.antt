@@ -1,11 +1,10 @@
 -- The result of a selected inverse over a set of pairs: starts, rows and values, column by column, the rows of each ascending.
 -- Assumes nothing.
-use Rattle.std.specs.Prelude.{ℕ, ◌+◌, ◌≡◌, Bool, List, length, Float}
+use Rattle.std.specs.Prelude.{ℕ, ◌+◌, Bool, List, Float}
 use Rattle.lists.specs.Select.{tally}
-use Rattle.lists.specs.Tabulate.{tabulate, tabulate-length}
+use Rattle.lists.specs.Tabulate.{tabulate}
 use Rattle.lists.specs.Cells.{cells, cell_count}
-use Rattle.pairs.specs.ColumnOrder.{by_column, column_first, column_end, set_size}
-use Rattle.pairs.proofs.ColumnOrder.{set_size-length}
+use Rattle.pairs.specs.ColumnOrder.{by_column, column_first, column_end}
 use Rattle.columns.specs.Columns.{value}
 use Rattle.columns.specs.Kept.{diag, desc}
 use Rattle.columns.specs.Form.{Form, cholesky, pivoted}

@@ -1,22 +1,15 @@
 -- The exact recurrence of a factor of whole numbers with ones on its diagonal, and where it exceeds 2 ^ 53 over a set of pairs.
 -- Assumes nothing.
-use Rattle.std.specs.Prelude.{ℕ, suc, ◌+◌, ◌≤◌, ◌<◌, ◌≡◌, refl, Bool, true, false, ◌&&◌, ◌↔◌, List, length, ℤ}
-use Rattle.std.proofs.Common.{sym, ap, ◌∙◌}
-use Rattle.std.proofs.Math.Path.{ap₂}
+use Rattle.std.specs.Prelude.{ℕ, ◌+◌, ◌≤◌, ◌<◌, ◌≡◌, Bool, true, ◌&&◌, List, ℤ}
 use Rattle.std.proofs.Math.Bool.{◌||◌}
-use Rattle.lists.specs.Test.{any, any_in, any_below, any_all, any_in_below, any_in_all, or_neither_left, or_neither_right}
+use Rattle.lists.specs.Test.{any, any_in}
 use Rattle.columns.specs.Columns.{start}
 use Rattle.columns.specs.Kept.{kept}
-use Rattle.columns.specs.Factor.{Factor}
-use Rattle.columns.specs.WholeFactor.{whole_value, whole_nonzero, whole_stored, whole_desc}
-use Rattle.takahashi.specs.Entries.{Ascend}
-use Rattle.takahashi.specs.Recurrence.{RecurrenceClosed}
+use Rattle.columns.specs.WholeFactor.{whole_value, whole_nonzero, whole_desc}
 use Rattle.exact.specs.Multiple.{Small}
-use Rattle.exact.specs.ExactCase.{unit_table, WithinBound}
+use Rattle.exact.specs.ExactCase.{unit_table}
 use Rattle.exact.specs.Checked.{beyond}
-use Rattle.exact.proofs.Checked.{small_within, within_small}
 use Rattle.exact.specs.Exceeds.{set_exceeds}
-use Rattle.exact.proofs.Exceeds.{none_within, within_none}
 
 -- the exact recurrence at all pairs, whatever the size of its numbers
 unfoldable pub whole_table : ℕ → List ℕ → List ℕ → List ℤ → ℕ → ℕ → ℤ

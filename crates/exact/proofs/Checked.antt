@@ -1,12 +1,12 @@
 -- Laws of specs/Checked.antt.
-use Rattle.std.specs.Prelude.{ℕ, ◌^◌, ◌≡◌, refl, Bool, true, false, cond, ◌||◌, List, [], ◌∷◌, ◌++◌, ltb, ℤ, pos, nat_abs, ◌+ℤ◌, ◌*ℤ◌}
+use Rattle.std.specs.Prelude.{ℕ, ◌≡◌, refl, Bool, true, false, cond, ◌||◌, List, [], ◌∷◌, ◌++◌, ℤ, ◌+ℤ◌, ◌*ℤ◌}
 use Rattle.std.proofs.Common.{ap, ap₂, ◌∙◌, le-ltb, ltb-false}
 use Rattle.lists.specs.Test.{or_neither_left, or_neither_right}
 use Rattle.refusal.specs.Steps.{Reply, refused, answered}
 use Rattle.takahashi.specs.Recurrence.{Entry, Each, run}
 use Rattle.exact.specs.Multiple.{Small}
 use Rattle.exact.specs.Exact.{integers, Products, RunningSums}
-use Rattle.exact.specs.Checked.{beyond, sum_exceeds, plus_product, checked_run, checked_dot}
+use Rattle.exact.specs.Checked.{beyond, sum_exceeds, plus_product, checked_run}
 
 -- ---- a number is within exactly if it is small
 pub small_within : (z : ℤ) → Small z → beyond z ≡ false

@@ -3,9 +3,9 @@ use Rattle.std.specs.Prelude.{◌≡◌, ◌≢◌, List, [], ◌∷◌, ℕ, �
 use Rattle.std.proofs.Common.{sym, ◌∙◌, ap, ap₂, subst, lt_of_le_of_lt}
 use Rattle.std.proofs.Math.IntN.{zero-*ℤ}
 use Rattle.std.specs.Float.{binary64}
-use Rattle.std.specs.Float.Ieee.{low, add, sub, mul, div, neg}
+use Rattle.std.specs.Float.Ieee.{low, add, mul, div, neg}
 use Rattle.integers.proofs.Integer.{+ℤ-*ℤ, negℤ_*ℤ, *ℤ-assoc, *ℤ-cancel-r, *ℤ-nonzero}
-use Rattle.takahashi.specs.Recurrence.{Arithmetic, Entry, Each, run, dot, at, RecurrenceClosed, Solves}
+use Rattle.takahashi.specs.Recurrence.{Entry, Each, run, dot, at, RecurrenceClosed, Solves}
 use Rattle.takahashi.proofs.Recurrence.{closed_induction}
 use Rattle.exact.specs.Multiple.{Multiple, Small, zero_float, one_float}
 use Rattle.exact.proofs.Rounding.{unit_nonzero}

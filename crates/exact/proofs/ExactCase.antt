@@ -1,5 +1,5 @@
 -- Laws of specs/ExactCase.antt.
-use Rattle.std.specs.Prelude.{◌≡◌, refl, ◌≢◌, List, [], ◌∷◌, ℕ, suc, ◌^◌, ◌≤◌, ◌<◌, max, min, ℤ, pos, neg_ℤ, ◌+ℤ◌, ◌-ℤ◌, ◌*ℤ◌, Float}
+use Rattle.std.specs.Prelude.{◌≡◌, refl, ◌≢◌, List, [], ◌∷◌, ℕ, suc, ◌^◌, ◌≤◌, ◌<◌, max, min, ℤ, pos, ◌+ℤ◌, ◌-ℤ◌, ◌*ℤ◌, Float}
 use Rattle.std.proofs.Common.{sym, ◌∙◌, ap, zero-lt-suc, le_refl, lit≤}
 use Rattle.std.specs.Float.{binary64}
 use Rattle.std.specs.Float.Ieee.{low}
@@ -10,7 +10,7 @@ use Rattle.integers.specs.Inverse.{Inverse, WholeInverse, numerators, denominato
 use Rattle.integers.proofs.Inverse.{inverse_exists, unit_inverse_exists, inverse-symmetric}
 use Rattle.takahashi.specs.Entries.{Ascend}
 use Rattle.takahashi.proofs.Entries.{ascend_rows}
-use Rattle.takahashi.specs.Recurrence.{Entry, run, dot, at, Lower, RecurrenceClosed, table, Solves}
+use Rattle.takahashi.specs.Recurrence.{Entry, run, dot, at, Lower, RecurrenceClosed, Solves}
 use Rattle.takahashi.proofs.Recurrence.{table_solves, solves_part}
 use Rattle.exact.specs.Multiple.{Multiple, Small}
 use Rattle.exact.proofs.Rounding.{unit_nonzero}

@@ -3,14 +3,14 @@ use Rattle.std.specs.Prelude.{ℕ, ◌≤◌, ◌<◌, ◌≡◌, refl, Bool, tr
 use Rattle.std.proofs.Common.{le_of_lt, lt_of_le_of_lt, eq-or-lt_of_le, ap, ap₂, ◌∙◌, inl, inr}
 use Rattle.std.proofs.Math.Path.{sym, subst}
 use Rattle.std.proofs.Math.Bool.{false}
-use Rattle.lists.specs.Test.{any, any_in, any_below, any_all, any_in_below, any_in_all, or_neither_left, or_neither_right}
+use Rattle.lists.specs.Test.{any_in, any_below, any_all, any_in_below, any_in_all, or_neither_left, or_neither_right}
 use Rattle.takahashi.specs.Entries.{Entry, Each}
 use Rattle.takahashi.proofs.Entries.{each_of_rows}
 use Rattle.takahashi.specs.Recurrence.{at, RecurrenceClosed}
 use Rattle.takahashi.proofs.Recurrence.{at_sym, at_lower}
 use Rattle.exact.specs.Multiple.{Small}
 use Rattle.exact.specs.Exact.{Products, RunningSums}
-use Rattle.exact.specs.ExactCase.{unit_table, WithinBound}
+use Rattle.exact.specs.ExactCase.{WithinBound}
 use Rattle.exact.specs.Checked.{beyond, sum_exceeds}
 use Rattle.exact.proofs.Checked.{small_within, within_small, sum_small, small_sum, sum_exceeds_each}
 use Rattle.exact.specs.Exceeds.{entry_exceeds, set_exceeds, Z}

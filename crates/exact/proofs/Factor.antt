@@ -6,7 +6,7 @@ use Rattle.std.proofs.Math.Decide.{ℕ_discrete}
 use Rattle.std.proofs.Math.IntN.{+ℤ_assoc, +ℤ_comm, +ℤ_idl, +ℤ_idr, *ℤ_comm, zero-*ℤ}
 use Rattle.integers.specs.Sum.{Σℤ}
 use Rattle.integers.proofs.Sum.{sum_cong, sum_zero, sum_add, sum_single}
-use Rattle.integers.specs.Matrix.{Matrix, LowerTriangular}
+use Rattle.integers.specs.Matrix.{LowerTriangular}
 use Rattle.takahashi.proofs.Choice.{cond_same, cond_other}
 use Rattle.takahashi.specs.Entries.{Entry, Ascend}
 use Rattle.takahashi.specs.Recurrence.{run, dot}

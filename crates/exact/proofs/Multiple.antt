@@ -1,18 +1,15 @@
 -- Laws of specs/Multiple.antt.
-use Rattle.std.specs.Prelude.{◌≡◌, refl, Bool, true, false, not, cond, ◌⊎◌, ◌≢◌, ℕ, zero, suc, ◌+◌, ◌*◌, ◌-◌, ◌^◌, ◌≤◌, ◌<◌, T, ltb, eqb, ℤ, nat_abs, ◌-ℤ◌, Float}
+use Rattle.std.specs.Prelude.{◌≡◌, refl, Bool, true, false, not, cond, ◌≢◌, ℕ, zero, suc, ◌+◌, ◌*◌, ◌-◌, ◌^◌, ◌≤◌, ◌<◌, T, ltb, eqb, ℤ, nat_abs, ◌-ℤ◌, Float}
 use Rattle.std.proofs.Math.Path.{sym, ap, ap₂, subst}
-use Rattle.std.proofs.Common.{◌∙◌, inl, inr, mul-one, one-mul, mul_assoc, mul-pos, zero-mul, le_of_lt, eq-or-lt_of_le, lt_of_lt_of_le, zero-lt-suc, arith, ltb→lt, nltb→le, eqb→eq, lit<, pow-add, pow_pos, pow_mono, shl_lt}
+use Rattle.std.proofs.Common.{◌∙◌, mul-one, one-mul, mul-pos, zero-mul, le_of_lt, zero-lt-suc, arith, ltb→lt, nltb→le, eqb→eq}
 use Rattle.std.proofs.Math.IntN.{pos, neg_ℤ, ◌+ℤ◌, ◌*ℤ◌, +ℤ_comm, neg_ℤ-+ℤ, *ℤ_comm, zero-*ℤ, pos-ne-negsuc}
-use Rattle.std.proofs.Math.Pow.{pow-lt}
-use Rattle.std.specs.Float.{nan, inf, fin, Format, binary32, binary64}
-use Rattle.std.specs.Float.Ieee.{prec, emax, low, up, down, unlike, level, round, sum, add, sub, mul, div, neg, eq}
-use Rattle.std.specs.Float.Ieee.Exact.{HasValue, round_exact}
+use Rattle.std.specs.Float.{nan, inf, fin, binary64}
+use Rattle.std.specs.Float.Ieee.{low, up, down, unlike, level, round, sum, add, sub, mul, div, neg, eq}
 use Rattle.std.specs.Float.Ieee.Fits.{up_pos, down_pos, and_l, and_r, and_i, eq→eqb}
-use Rattle.std.specs.Float.Ieee.Scale.{round_same}
 use Rattle.integers.specs.Integer.{signed}
-use Rattle.integers.proofs.Integer.{signed_*, signed-not, signed_scale, signed_zero, nat_abs_signed, nat_abs_*, pos_minus_pos, pos_minus-larger}
+use Rattle.integers.proofs.Integer.{signed_*, signed-not, signed_scale, signed_zero, nat_abs_signed, pos_minus_pos, pos_minus-larger}
 use Rattle.integers.proofs.Integer.{+ℤ-*ℤ, negℤ_*ℤ, *ℤ-assoc, *ℤ-right-comm, *ℤ-interchange, *ℤ-cancel-r, *ℤ-zero-cancel, *ℤ-nonzero, pos_nonzero}
-use Rattle.exact.specs.Multiple.{Multiple, Whole, Small, zero_float, one_float}
+use Rattle.exact.specs.Multiple.{Multiple, Small, zero_float, one_float}
 use Rattle.exact.proofs.Rounding.{unit_nonzero, multiple_round}
 
 pub multiple_zero : (s : ℕ) → Multiple s zero_float (pos 0)

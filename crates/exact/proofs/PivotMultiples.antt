@@ -16,9 +16,8 @@ use Rattle.takahashi.proofs.Recurrence.{closed_induction}
 use Rattle.exact.specs.Multiple.{Multiple, Small, one_float}
 use Rattle.exact.proofs.Multiple.{multiple_one, multiple_neg, multiple_sub, multiple_div}
 use Rattle.exact.proofs.Rounding.{unit_nonzero}
-use Rattle.exact.specs.Exact.{integers, floats, Alike, BoundedSums, Represents}
+use Rattle.exact.specs.Exact.{integers, floats, Alike, Represents}
 use Rattle.exact.proofs.Exact.{bounded_sums, last_steps_exact}
-use Rattle.exact.specs.Factor.{factor}
 use Rattle.exact.proofs.Factor.{factor_diagonal_lem, factor_triangular}
 use Rattle.exact.proofs.SelectedInverse.{run_scale, below_entry, at_is, column_product}
 use Rattle.exact.specs.ExactCase.{ones, unit_table, WithinBound}

@@ -1,12 +1,8 @@
 -- Whole numbers held to 2 ^ 53 in size, up to which f64 has each of them: whether a number, or a product or a sum of a running sum, is beyond it.
 -- Assumes nothing.
-use Rattle.std.specs.Prelude.{ℕ, ◌^◌, ◌≡◌, refl, Bool, true, false, cond, ◌||◌, List, [], ◌∷◌, ◌++◌, ltb, ℤ, pos, nat_abs, ◌+ℤ◌, ◌*ℤ◌}
-use Rattle.std.proofs.Common.{ap, ap₂, ◌∙◌, le-ltb, ltb-false}
-use Rattle.lists.specs.Test.{or_neither_left, or_neither_right}
+use Rattle.std.specs.Prelude.{ℕ, ◌^◌, Bool, false, cond, ◌||◌, List, [], ◌∷◌, ltb, ℤ, pos, nat_abs, ◌+ℤ◌, ◌*ℤ◌}
 use Rattle.refusal.specs.Steps.{Reply, refused, answered}
-use Rattle.takahashi.specs.Recurrence.{Entry, Each, run}
-use Rattle.exact.specs.Multiple.{Small}
-use Rattle.exact.specs.Exact.{integers, Products, RunningSums}
+use Rattle.takahashi.specs.Recurrence.{Entry}
 
 -- z is beyond 2 ^ 53 in size; 2 ^ 53 and its negative are not
 abbrev pub beyond : ℤ → Bool

@@ -1,13 +1,9 @@
 -- The exact recurrence over a set of pairs, said over the multipliers of 1 / c, and f64's beside it: where every exact product, sum, quotient and entry
 -- over the set is a multiple of 2 ^ -s with a multiplier of at most 2 ^ 53 in size, f64's entries are the exact ones. Assumes nothing.
-use Rattle.std.specs.Prelude.{◌≡◌, ◌≢◌, List, [], ◌∷◌, ℕ, ◌^◌, ◌≤◌, ◌<◌, ℤ, pos, neg_ℤ, ◌+ℤ◌, ◌-ℤ◌, ◌*ℤ◌, Float}
-use Rattle.std.proofs.Common.{sym, ◌∙◌, ap, ap₂, subst, lt_of_le_of_lt}
-use Rattle.std.proofs.Math.IntN.{zero-*ℤ}
+use Rattle.std.specs.Prelude.{◌≡◌, List, [], ◌∷◌, ℕ, ◌^◌, ◌≤◌, ◌<◌, ℤ, pos, neg_ℤ, ◌+ℤ◌, ◌-ℤ◌, ◌*ℤ◌, Float}
 use Rattle.std.specs.Float.{binary64}
 use Rattle.std.specs.Float.Ieee.{low, add, sub, mul, div, neg}
-use Rattle.integers.proofs.Integer.{+ℤ-*ℤ, negℤ_*ℤ, *ℤ-assoc, *ℤ-cancel-r, *ℤ-nonzero}
-use Rattle.takahashi.specs.Recurrence.{Arithmetic, Entry, Each, run, dot, at, RecurrenceClosed, Solves}
-use Rattle.takahashi.proofs.Recurrence.{closed_induction}
+use Rattle.takahashi.specs.Recurrence.{Arithmetic, Entry, dot, at}
 use Rattle.exact.specs.Multiple.{Multiple, Small, zero_float, one_float}
 
 -- the integers' arithmetic

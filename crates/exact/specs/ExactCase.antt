@@ -1,21 +1,10 @@
 -- The exact case: f64's recurrence gives the inverse's own entries over a closed set of pairs where every exact step stays within 2 ^ 53. Assumes nothing.
 -- A factor L is given by its diagonal and, for each column, the list of its entries below the diagonal with ascending rows; `factor` is its matrix.
-use Rattle.std.specs.Prelude.{◌≡◌, refl, ◌≢◌, List, [], ◌∷◌, ℕ, suc, ◌^◌, ◌≤◌, ◌<◌, max, min, ℤ, pos, neg_ℤ, ◌+ℤ◌, ◌-ℤ◌, ◌*ℤ◌, Float}
-use Rattle.std.proofs.Common.{sym, ◌∙◌, ap, zero-lt-suc, le_refl, lit≤}
-use Rattle.std.specs.Float.{binary64}
-use Rattle.std.specs.Float.Ieee.{low}
-use Rattle.integers.proofs.Integer.{*ℤ-idl, *ℤ-idr, pos_nonzero}
-use Rattle.integers.specs.Matrix.{Matrix, identity}
-use Rattle.integers.proofs.Matrix.{symmetric_ordered}
-use Rattle.integers.specs.Inverse.{Inverse, WholeInverse, numerators, denominator}
-use Rattle.integers.proofs.Inverse.{inverse_exists, unit_inverse_exists, inverse-symmetric}
-use Rattle.takahashi.specs.Entries.{Ascend}
-use Rattle.takahashi.proofs.Entries.{ascend_rows}
-use Rattle.takahashi.specs.Recurrence.{Entry, run, dot, at, Lower, RecurrenceClosed, table, Solves}
-use Rattle.takahashi.proofs.Recurrence.{table_solves, solves_part}
-use Rattle.exact.specs.Multiple.{Multiple, Small}
-use Rattle.exact.specs.Exact.{integers, floats, float_off, float_on, Alike, Recurs, Products, RunningSums, Kept, Bounded}
-use Rattle.exact.specs.Factor.{factor}
+use Rattle.std.specs.Prelude.{List, ℕ, ◌<◌, ℤ, pos, neg_ℤ, ◌-ℤ◌}
+use Rattle.integers.specs.Matrix.{Matrix}
+use Rattle.takahashi.specs.Recurrence.{Entry, at, table}
+use Rattle.exact.specs.Multiple.{Small}
+use Rattle.exact.specs.Exact.{integers, Products, RunningSums}
 
 -- a diagonal of ones
 abbrev pub ones : ℕ → ℤ

@@ -1,21 +1,9 @@
 -- Factors of two and three columns worked through: what the theorems ask can be met. Assumes nothing.
 -- F2 and F3 have ones on the diagonal: f64's recurrence, the exact one and the inverse are computed. `sixteenths` is in multiples of 1 / 16.
 -- The last factor's inverse has another fraction outside the set.
-use Rattle.std.specs.Prelude.{◌≡◌, refl, true, false, List, [], ◌∷◌, map, ℕ, zero, suc, ◌<◌, ℤ, pos, negsuc, neg_ℤ, ◌-ℤ◌, ◌*ℤ◌, Float}
-use Rattle.std.proofs.Common.{sym, subst, lt_irrefl, arith, lit≤, lit<}
-use Rattle.std.proofs.Math.IntN.{zero-*ℤ}
-use Rattle.std.specs.Float.{fin, binary64}
-use Rattle.std.specs.Float.Ieee.{add, sub, mul, div, neg, to_bits}
-use Rattle.integers.proofs.Integer.{pos_nonzero}
-use Rattle.integers.specs.Matrix.{Matrix, identity, transpose, product}
-use Rattle.integers.specs.Inverse.{Inverse, WholeInverse, numerators, denominator}
-use Rattle.takahashi.specs.Entries.{Ascend}
-use Rattle.takahashi.specs.Recurrence.{Entry, Rows, dot, at, Lower, RecurrenceClosed, table, Solves}
-use Rattle.takahashi.proofs.Recurrence.{lower_closed, table_solves}
-use Rattle.exact.specs.Multiple.{Multiple, Whole, Small, one_float}
-use Rattle.exact.specs.Exact.{integers, floats, float_off, float_on, Alike, Recurs, Products, RunningSums, Kept, Bounded}
-use Rattle.exact.specs.Factor.{factor}
-use Rattle.exact.specs.ExactCase.{ones, unit_table, WithinBound}
+use Rattle.std.specs.Prelude.{List, [], ◌∷◌, ℕ, zero, suc, ℤ, pos, negsuc}
+use Rattle.integers.specs.Matrix.{Matrix}
+use Rattle.takahashi.specs.Recurrence.{Entry}
 
 -- a list of one entry
 abbrev pub one : {W : Type 0} → ℕ → W → List (Entry W)

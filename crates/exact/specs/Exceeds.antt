@@ -1,17 +1,10 @@
 -- Where the exact recurrence for a diagonal of ones exceeds 2 ^ 53 over a set of pairs, and that this is what the exact case excludes.
 -- Assumes nothing.
-use Rattle.std.specs.Prelude.{ℕ, ◌≤◌, ◌<◌, ◌≡◌, refl, Bool, true, ◌&&◌, ◌||◌, ◌↔◌, ◌⊎◌, List, ℤ, pos}
-use Rattle.std.proofs.Common.{le_of_lt, lt_of_le_of_lt, eq-or-lt_of_le, ap, ap₂, ◌∙◌, inl, inr}
-use Rattle.std.proofs.Math.Path.{sym, subst}
-use Rattle.std.proofs.Math.Bool.{false}
-use Rattle.lists.specs.Test.{any, any_in, any_below, any_all, any_in_below, any_in_all, or_neither_left, or_neither_right}
-use Rattle.takahashi.specs.Entries.{Entry, Each}
-use Rattle.takahashi.proofs.Entries.{each_of_rows}
+use Rattle.std.specs.Prelude.{ℕ, ◌≤◌, ◌<◌, ◌≡◌, Bool, true, ◌&&◌, ◌||◌, ◌↔◌, List, ℤ, pos}
+use Rattle.lists.specs.Test.{any, any_in}
+use Rattle.takahashi.specs.Entries.{Entry}
 use Rattle.takahashi.specs.Recurrence.{at, RecurrenceClosed}
-use Rattle.takahashi.proofs.Recurrence.{at_sym, at_lower}
-use Rattle.exact.specs.Multiple.{Small}
-use Rattle.exact.specs.Exact.{Products, RunningSums}
-use Rattle.exact.specs.ExactCase.{unit_table, WithinBound}
+use Rattle.exact.specs.ExactCase.{unit_table}
 use Rattle.exact.specs.Checked.{beyond, sum_exceeds}
 
 -- the entry (i, j) of a table, or a product or a running sum of the recurrence that gives it, is beyond 2 ^ 53: one line for entries below and on the

@@ -6,7 +6,7 @@ use Rattle.closed_set.specs.ClosedSet.{Pattern}
 use Rattle.closed_set.proofs.ClosedSet.{needed_range, needed_member, member_needed}
 use Rattle.entries.specs.Entries.{column_count, position}
 use Rattle.entries.proofs.Position.{column_count_mono, position_in, position_below, position_rises, position_onto}
-use Rattle.selection.specs.Selection.{Selection, selected_pattern, Lent, room_of, Accepted, selected_set, selected_size}
+use Rattle.selection.specs.Selection.{Selection, selected_pattern, Lent, room_of, Accepted, selected_set}
 use Rattle.exact_entries.specs.Recurrence.{InClosedSet}
 use Rattle.exact_entries.proofs.Recurrence.{selected_pattern_lem}
 use Rattle.exact_entries.specs.Count.{Counts}

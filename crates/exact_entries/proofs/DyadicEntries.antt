@@ -1,12 +1,12 @@
 -- Laws of specs/DyadicEntries.antt.
-use Rattle.std.specs.Prelude.{ℕ, suc, ◌^◌, ◌≤◌, ◌<◌, max, min, ◌≡◌, refl, false, ◌↔◌, ◌≢◌, List, T, ℤ, pos, ◌*ℤ◌, Float}
+use Rattle.std.specs.Prelude.{ℕ, suc, ◌^◌, ◌≤◌, ◌<◌, max, min, ◌≡◌, refl, false, ◌≢◌, List, T, ℤ, pos, ◌*ℤ◌, Float}
 use Rattle.std.proofs.Common.{le_trans, ap, subst, ◌∙◌, lit≤}
 use Rattle.std.specs.Float.Ieee.{of_bits, le, lt, eq}
 use Rattle.lists.specs.Test.{or_neither_right}
-use Rattle.refusal.specs.Steps.{Step, refused, answered, Passed}
+use Rattle.refusal.specs.Steps.{Step, Passed}
 use Rattle.columns.specs.Kept.{f0, nonzero, entry, diag, desc}
 use Rattle.columns.specs.Diagonal.{Diagonals}
-use Rattle.columns.specs.Form.{cholesky, Divisors}
+use Rattle.columns.specs.Form.{Divisors}
 use Rattle.closed_set.proofs.ClosedSet.{needed_range}
 use Rattle.integers.specs.Matrix.{Matrix}
 use Rattle.integers.specs.Inverse.{Inverse}
@@ -14,16 +14,15 @@ use Rattle.takahashi.specs.Entries.{Entry, Ascend}
 use Rattle.takahashi.specs.Recurrence.{at, RecurrenceClosed}
 use Rattle.exact.specs.Multiple.{Multiple}
 use Rattle.exact.proofs.Multiple.{multiple_zero, multiple_eq}
-use Rattle.exact.specs.Exact.{Alike, Recurs, Bounded}
+use Rattle.exact.specs.Exact.{Alike}
 use Rattle.exact.specs.Factor.{factor}
 use Rattle.exact.proofs.ExactCase.{has_inverse, multiples_ordered, dyadic}
-use Rattle.diagnostics.specs.declared.SelectedInverseStatus.TheVariants.{Complete}
-use Rattle.selection.specs.Selection.{Selection, selected_pattern, filling_of, Lent, room_of, Accepted, selected_size, selected_answer, selected_table, ResultLists}
+use Rattle.selection.specs.Selection.{Selection, selected_pattern, filling_of, Lent, room_of, Accepted, selected_table, ResultLists}
 use Rattle.selection.specs.Call.{Call, selection_of, selected_steps}
 use Rattle.selection.proofs.Call.{accepted}
 use Rattle.entries.proofs.Descendants.{desc-ascend}
 use Rattle.exact_entries.proofs.Columns.{places_descend, alike_ascend, alike_each, needed_closed}
-use Rattle.exact_entries.specs.Recurrence.{InClosedSet, found}
+use Rattle.exact_entries.specs.Recurrence.{InClosedSet}
 use Rattle.exact_entries.proofs.Recurrence.{selected_pattern_lem, table_recurs_as, reads_recurrence}
 use Rattle.exact_entries.specs.DyadicEntries.{DyadicCall, ReadsMultiples}
 

@@ -1,5 +1,5 @@
 -- Laws of specs/DyadicWorked.antt.
-use Rattle.std.specs.Prelude.{ℕ, ◌*◌, ◌^◌, ◌≤◌, ◌<◌, ◌≡◌, refl, Bool, true, false, ◌≢◌, List, [], ◌∷◌, ℤ, pos, negsuc, nat_abs, ◌*ℤ◌, Float}
+use Rattle.std.specs.Prelude.{ℕ, ◌*◌, ◌^◌, ◌≤◌, ◌<◌, ◌≡◌, refl, Bool, false, ◌≢◌, List, [], ◌∷◌, ℤ, pos, negsuc, nat_abs, ◌*ℤ◌, Float}
 use Rattle.std.proofs.Common.{arith, one-mul, sym, ap, ◌∙◌, lit≤, lit<, pow_pos, pow_mono}
 use Rattle.std.proofs.Math.IntN.{zero-*ℤ}
 use Rattle.std.specs.Float.{fin}
@@ -10,15 +10,15 @@ use Rattle.lists.specs.Sum.{sum_to}
 use Rattle.lists.specs.Cells.{cells, cell_count}
 use Rattle.lists.specs.Tabulate.{tabulate}
 use Rattle.lists.specs.Overwrite.{overwrite, filled}
-use Rattle.refusal.specs.Steps.{Step, Reply, refused, answered, Passed, first}
+use Rattle.refusal.specs.Steps.{refused, answered, Passed, first}
 use Rattle.bits.specs.Bits.{bit_words}
 use Rattle.pairs.specs.Pair.{pair_total}
 use Rattle.pairs.specs.Scratch.{scratch_words}
-use Rattle.columns.specs.Columns.{bound_steps, broken_steps, starts_steps, rows_steps, column_steps, FactorLists, factor_lists}
+use Rattle.columns.specs.Columns.{bound_steps, broken_steps, starts_steps, rows_steps, column_steps, factor_lists}
 use Rattle.columns.specs.Stored.{finite_steps, stored_steps}
 use Rattle.columns.specs.Diagonal.{diagonal_steps}
 use Rattle.columns.specs.Kept.{nonzero, diag, desc, factor_pairs}
-use Rattle.columns.specs.Examples.{whole, f2_starts, f2_rows}
+use Rattle.columns.specs.Examples.{f2_starts, f2_rows}
 use Rattle.integers.proofs.Integer.{*ℤ-cancel-r, *ℤ-nonzero, nat_abs_*, nat_abs_pos, products}
 use Rattle.integers.specs.Matrix.{Matrix}
 use Rattle.integers.specs.Inverse.{Inverse}
@@ -40,17 +40,17 @@ use Rattle.selection.specs.RequestSteps.{request_steps}
 use Rattle.diagnostics.specs.Diagnosis.{diagnosis}
 use Rattle.diagnostics.specs.declared.SelectedInverseStatus.TheVariants.{Complete}
 use Rattle.selection.specs.Diagnosis.{diagnosis_of}
-use Rattle.selection.specs.Selection.{Selection, selection, selected_answer, selected_table, default_limit, Room, lists, Lent, room_of, room_steps, Accepted, ResultLists, filling_of}
+use Rattle.selection.specs.Selection.{Selection, selection, selected_answer, selected_table, default_limit, Room, Lent, room_of, room_steps, Accepted, ResultLists, filling_of}
 use Rattle.selection.proofs.Selection.{lists_passed}
 use Rattle.selection.specs.Call.{Call, call, selection_of, selected_steps}
 use Rattle.selection.proofs.Call.{accepted}
-use Rattle.exact_entries.specs.Recurrence.{InClosedSet, found}
+use Rattle.exact_entries.specs.Recurrence.{InClosedSet}
 use Rattle.exact_entries.specs.DyadicEntries.{DyadicCall, ReadsMultiples}
 use Rattle.exact_entries.proofs.DyadicEntries.{dyadic_inverse, dyadic_call}
 use Rattle.exact_entries.proofs.ExactEntries.{exact_dyadic}
-use Rattle.exact_entries.specs.Worked.{f2_lent, f2_cleared, f2-call}
+use Rattle.exact_entries.specs.Worked.{f2_lent, f2-call}
 use Rattle.exact_entries.proofs.Worked.{f2_accepted, f2-call_exact}
-use Rattle.exact_entries.specs.DyadicWorked.{sixteenths_values, sixteenths_factor, sixteenth, sixteenths_lists, SixteenthsLeft, sixteenths_found, SixteenthsRead, sixteenths-call}
+use Rattle.exact_entries.specs.DyadicWorked.{sixteenths_values, sixteenths_factor, SixteenthsLeft, sixteenths_found, SixteenthsRead, sixteenths-call}
 
 diagonals_are : (j : ℕ) → j < 2 → Multiple 4 (diag f2_starts f2_rows sixteenths_values j) (sixteenths-diag j)
 unfolding select picked of_bits of_int ne

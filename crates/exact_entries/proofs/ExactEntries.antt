@@ -1,8 +1,7 @@
 -- Laws of specs/ExactEntries.antt.
-use Rattle.std.specs.Prelude.{ℕ, suc, ◌≤◌, ◌<◌, max, min, ◌≡◌, refl, ◌↔◌, List, ℤ, pos, ◌*ℤ◌, Float}
+use Rattle.std.specs.Prelude.{ℕ, suc, ◌≤◌, ◌<◌, max, min, ◌≡◌, refl, List, ℤ, pos, ◌*ℤ◌, Float}
 use Rattle.std.proofs.Common.{sym, subst, ◌∙◌, lit≤}
-use Rattle.refusal.specs.Steps.{Step, refused, answered, Passed}
-use Rattle.columns.specs.Kept.{desc}
+use Rattle.refusal.specs.Steps.{Step, Passed}
 use Rattle.columns.specs.Form.{Form, cholesky, pivoted, divisor}
 use Rattle.closed_set.proofs.ClosedSet.{needed_range}
 use Rattle.integers.proofs.Integer.{*ℤ-idl, *ℤ-idr}
@@ -11,16 +10,14 @@ use Rattle.integers.specs.Inverse.{WholeInverse}
 use Rattle.takahashi.specs.Entries.{Entry, Ascend}
 use Rattle.takahashi.specs.Recurrence.{at, RecurrenceClosed}
 use Rattle.exact.specs.Multiple.{Whole}
-use Rattle.exact.specs.Exact.{Alike}
 use Rattle.exact.specs.Factor.{factor}
-use Rattle.exact.specs.ExactCase.{ones, unit_table, WithinBound}
+use Rattle.exact.specs.ExactCase.{ones, unit_table}
 use Rattle.exact.proofs.ExactCase.{whole_inverse, unit_recurs, unit_bounded, unit_has_inverse, unit_symmetric, unit_ordered}
 use Rattle.exact.proofs.PivotMultiples.{unit_pivot_recurs, unit_pivot_bounded, whole_pivot_inverse}
-use Rattle.diagnostics.specs.declared.SelectedInverseStatus.TheVariants.{Complete}
-use Rattle.selection.specs.Selection.{Selection, selected_pattern, filling_of, Lent, room_of, Accepted, selected_size, selected_answer, selected_table, ResultLists}
+use Rattle.selection.specs.Selection.{Selection, selected_pattern, filling_of, Lent, room_of, Accepted, selected_table, ResultLists}
 use Rattle.selection.specs.Call.{Call, selection_of, selected_steps}
 use Rattle.selection.proofs.Call.{accepted}
-use Rattle.exact_entries.specs.Recurrence.{InClosedSet, found}
+use Rattle.exact_entries.specs.Recurrence.{InClosedSet}
 use Rattle.exact_entries.proofs.Recurrence.{selected_pattern_lem, reads_recurrence}
 use Rattle.exact_entries.specs.DyadicEntries.{DyadicCall}
 use Rattle.exact_entries.proofs.DyadicEntries.{multipliers_ascend, multipliers_closed, dyadic_at}

@@ -4,16 +4,14 @@ use Rattle.std.proofs.Common.{le_trans, ap, subst, ◌∙◌, lit≤}
 use Rattle.refusal.specs.Steps.{Step, Passed}
 use Rattle.columns.specs.Columns.{value}
 use Rattle.columns.specs.Kept.{desc}
-use Rattle.columns.specs.Form.{pivoted, Divisors, Pivots}
+use Rattle.columns.specs.Form.{Divisors, Pivots}
 use Rattle.closed_set.proofs.ClosedSet.{needed_range}
 use Rattle.integers.specs.Matrix.{Matrix}
 use Rattle.integers.specs.PivotInverse.{PivotInverse}
 use Rattle.takahashi.specs.Entries.{Entry, Ascend}
 use Rattle.takahashi.specs.Recurrence.{at}
 use Rattle.exact.specs.Multiple.{Multiple}
-use Rattle.exact.specs.Exact.{Alike}
 use Rattle.exact.specs.Factor.{factor}
-use Rattle.exact.specs.PivotMultiples.{PivotRecurs, PivotBounded}
 use Rattle.exact.proofs.PivotMultiples.{has_pivot_inverse, pivots_ordered, pivot_dyadic}
 use Rattle.selection.specs.Selection.{Selection, selected_pattern, filling_of, Lent, room_of, Accepted, selected_table, ResultLists}
 use Rattle.exact_entries.specs.Recurrence.{InClosedSet}

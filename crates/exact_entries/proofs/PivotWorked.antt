@@ -1,5 +1,5 @@
 -- Laws of specs/PivotWorked.antt.
-use Rattle.std.specs.Prelude.{ℕ, zero, suc, ◌<◌, ◌≡◌, refl, true, false, List, [], ◌∷◌, ℤ, pos, negsuc, neg_ℤ, ◌-ℤ◌, ◌*ℤ◌, Float}
+use Rattle.std.specs.Prelude.{ℕ, ◌<◌, ◌≡◌, refl, true, false, List, [], ◌∷◌, ℤ, pos, negsuc, neg_ℤ, ◌-ℤ◌, ◌*ℤ◌, Float}
 use Rattle.std.proofs.Common.{lt_irrefl, lit≤, lit<}
 use Rattle.std.specs.Float.{fin}
 use Rattle.std.specs.Float.Ieee.{of_bits, of_int, ne, le, add, sub, mul, div, neg}
@@ -12,10 +12,9 @@ use Rattle.refusal.specs.Steps.{Step, answered, Passed}
 use Rattle.columns.specs.Columns.{value, factor_lists}
 use Rattle.columns.specs.Kept.{f0, nonzero, desc}
 use Rattle.columns.specs.Form.{pivoted, Pivots}
-use Rattle.columns.specs.Examples.{whole, f2_starts, f2_rows, f2_values}
+use Rattle.columns.specs.Examples.{f2_starts, f2_rows, f2_values}
 use Rattle.integers.specs.Matrix.{Matrix, identity, transpose, product}
 use Rattle.integers.specs.PivotInverse.{columns_by, PivotInverse}
-use Rattle.takahashi.specs.Entries.{Entry}
 use Rattle.takahashi.specs.Recurrence.{dot, at, Lower}
 use Rattle.exact.specs.Multiple.{Multiple, Small}
 use Rattle.exact.specs.Exact.{integers, Alike, Products, RunningSums, Kept}

@@ -1,11 +1,11 @@
 -- Laws of specs/ReadBack.antt.
-use Rattle.std.specs.Prelude.{ℕ, ◌+◌, ◌-◌, ◌≤◌, ◌<◌, max, min, ◌≡◌, refl, Bool, true, false, cond, ◌&&◌, List, ltb, length, get_or, take}
+use Rattle.std.specs.Prelude.{ℕ, ◌+◌, ◌-◌, ◌≤◌, ◌<◌, max, min, ◌≡◌, refl, Bool, true, false, cond, ◌&&◌, List, length, get_or, take}
 use Rattle.std.proofs.Common.{arith, le_refl, sym, ap, subst, ◌∙◌, ap₂, lt-ltb, le-ltb}
 use Rattle.std.proofs.Math.Decide.{dec_lt}
 use Rattle.lists.specs.Test.{not_so}
 use Rattle.lists.specs.Overwrite.{overwrite, overwrite-length, overwrite_at}
 use Rattle.lists.specs.Tabulate.{tabulate_at}
-use Rattle.refusal.specs.Steps.{Step, Reply, refused, answered, Passed}
+use Rattle.refusal.specs.Steps.{Step, refused, answered, Passed}
 use Rattle.pairs.specs.ColumnOrder.{set_size}
 use Rattle.columns.specs.Columns.{start, row}
 use Rattle.closed_set.specs.ClosedSet.{Needed, member, Pattern, Ranged}

@@ -1,30 +1,28 @@
 -- Laws of specs/Recurrence.antt.
-use Rattle.std.specs.Prelude.{ℕ, ◌+◌, ◌≤◌, max, min, ◌≡◌, Bool, cond, ◌↔◌, List, take, length, Float}
+use Rattle.std.specs.Prelude.{ℕ, ◌+◌, ◌≤◌, ◌≡◌, Bool, cond, List, take, length, Float}
 use Rattle.std.proofs.Common.{arith, ap, subst, ◌∙◌, le-leb}
 use Rattle.std.specs.Float.{nan}
-use Rattle.refusal.specs.Steps.{Step, Reply, refused, answered, Passed}
+use Rattle.refusal.specs.Steps.{Step, refused, answered, Passed}
 use Rattle.pairs.specs.Pair.{pair_total}
 use Rattle.columns.specs.Columns.{factor_lists}
 use Rattle.columns.specs.Kept.{nonzero, desc}
 use Rattle.columns.specs.Form.{Form, divisor}
 use Rattle.columns.specs.Numbers.{Numbers}
 use Rattle.columns.proofs.Numbers.{numbers}
-use Rattle.closed_set.specs.ClosedSet.{Needed, Pattern}
+use Rattle.closed_set.specs.ClosedSet.{Pattern}
 use Rattle.closed_set.proofs.ClosedSet.{needed_range, needed_member}
 use Rattle.closed_set.proofs.Size.{closure_size_most}
 use Rattle.takahashi.specs.Recurrence.{at, Lower, Solves}
 use Rattle.takahashi.proofs.Recurrence.{solves_part}
 use Rattle.exact.specs.Exact.{floats}
-use Rattle.diagnostics.specs.declared.SelectedInverseStatus.TheVariants.{Complete}
 use Rattle.closed_set.proofs.FactorPattern.{factor_pattern}
 use Rattle.entries.specs.Entries.{below_step, diagonal_step}
-use Rattle.result.specs.Lookup.{lookup}
 use Rattle.result.specs.Counted.{lookup_looks}
 use Rattle.result.specs.Halving.{lookup_within}
 use Rattle.result.proofs.Halving.{within_lookup}
 use Rattle.exact_entries.specs.ReadBack.{read_back}
 use Rattle.exact_entries.proofs.ReadBack.{result_left, lookup_left, looks_left, needed_covered, other_covered}
-use Rattle.selection.specs.Selection.{Selection, selection, Lent, Room, room_of, Accepted, selected_set, selected_size, selected_answer, selected_table, selected_pattern}
+use Rattle.selection.specs.Selection.{Selection, selection, Lent, Room, room_of, Accepted, selected_set, selected_size, selected_table, selected_pattern}
 use Rattle.selection.specs.Selection.{filling_of, ResultLists}
 use Rattle.selection.proofs.Status.{selected_complete_lem}
 use Rattle.entries.proofs.Descendants.{form_solves}

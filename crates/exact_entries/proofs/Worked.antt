@@ -9,7 +9,7 @@ use Rattle.lists.specs.Sum.{sum_to}
 use Rattle.lists.specs.Cells.{cells, cell_count}
 use Rattle.lists.specs.Tabulate.{tabulate}
 use Rattle.lists.specs.Overwrite.{overwrite, filled}
-use Rattle.refusal.specs.Steps.{Step, Reply, refused, answered, Passed, first}
+use Rattle.refusal.specs.Steps.{refused, answered, Passed, first}
 use Rattle.bits.specs.Bits.{bit_words}
 use Rattle.pairs.specs.Pair.{pair_total}
 use Rattle.pairs.specs.Scratch.{scratch_words}
@@ -38,17 +38,17 @@ use Rattle.selection.specs.RequestSteps.{request_steps}
 use Rattle.diagnostics.specs.Diagnosis.{diagnosis}
 use Rattle.diagnostics.specs.declared.SelectedInverseStatus.TheVariants.{Complete}
 use Rattle.selection.specs.Diagnosis.{diagnosis_of}
-use Rattle.selection.specs.Selection.{Selection, selecting, selected_set, selected_size, selected_answer, selected_table, Room, lists, Lent, room_of, room_steps, Accepted, ResultLists, filling_of}
+use Rattle.selection.specs.Selection.{Selection, selecting, selected_set, selected_size, selected_answer, selected_table, Room, Lent, room_of, room_steps, Accepted, ResultLists, filling_of}
 use Rattle.selection.proofs.Selection.{lists_passed}
 use Rattle.selection.proofs.Status.{selected_complete_lem}
 use Rattle.selection.specs.Call.{Call, call, selection_of, selected_steps}
 use Rattle.selection.proofs.Call.{accepted}
 use Rattle.exact_entries.specs.Recurrence.{InClosedSet, found}
 use Rattle.exact_entries.proofs.Recurrence.{selected_numbers_lem, found_within, reads_recurrence}
-use Rattle.exact_entries.specs.ExactEntries.{ExactCall, ReadsBack}
+use Rattle.exact_entries.specs.ExactEntries.{ExactCall}
 use Rattle.exact_entries.proofs.ExactEntries.{exact_inverse, exact_symmetric, exact_at, exact_call}
 use Rattle.exact_entries.proofs.Count.{selected_counts}
-use Rattle.exact_entries.specs.Worked.{f2_lent, f2_result, f2_cleared, f2_lists, F2Left, f2_found, F2ReadsBack, f2-call}
+use Rattle.exact_entries.specs.Worked.{f2_lent, f2_result, F2Left, f2_found, F2ReadsBack, f2-call}
 
 -- ---- what every call on F2 has
 pub f2_diagonals : (j : ℕ) → j < 2 → Whole (diag f2_starts f2_rows f2_values j) (pos 1)

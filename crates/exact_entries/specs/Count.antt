@@ -1,13 +1,7 @@
 -- The closed set's size counts its pairs: their positions are the numbers below it, one for each pair.
 -- Assumes nothing.
-use Rattle.std.specs.Prelude.{ℕ, ◌+◌, ◌≤◌, ◌<◌, ◌≡◌, Bool, true, List}
-use Rattle.std.proofs.Common.{arith, sym, ap, subst, ◌∙◌}
-use Rattle.columns.proofs.Factor.{neither_below}
-use Rattle.closed_set.specs.ClosedSet.{Pattern}
-use Rattle.closed_set.proofs.ClosedSet.{needed_range, needed_member, member_needed}
-use Rattle.entries.specs.Entries.{column_count, position}
-use Rattle.entries.proofs.Position.{column_count_mono, position_in, position_below, position_rises, position_onto}
-use Rattle.selection.specs.Selection.{Selection, selected_pattern, Lent, room_of, Accepted, selected_set, selected_size}
+use Rattle.std.specs.Prelude.{ℕ, ◌<◌, ◌≡◌}
+use Rattle.selection.specs.Selection.{Selection, selected_size}
 use Rattle.exact_entries.specs.Recurrence.{InClosedSet}
 
 -- each pair of the set has its own number below the size, and each such number is a pair's

@@ -1,30 +1,19 @@
 -- The exact case, from a call's inputs to what a lookup returns: whole numbers with diagonals of 1, or pivots of 1, which are the
 -- multiples of 2 ^ -s with s = 0.
 -- Assumes nothing.
-use Rattle.std.specs.Prelude.{ℕ, suc, ◌≤◌, ◌<◌, max, min, ◌≡◌, refl, ◌↔◌, List, ℤ, pos, ◌*ℤ◌, Float}
-use Rattle.std.proofs.Common.{sym, subst, ◌∙◌, lit≤}
-use Rattle.refusal.specs.Steps.{Step, refused, answered, Passed}
+use Rattle.std.specs.Prelude.{ℕ, ◌≤◌, ◌<◌, max, min, ◌≡◌, ◌↔◌, List, ℤ, pos, Float}
+use Rattle.refusal.specs.Steps.{refused, answered}
 use Rattle.columns.specs.Kept.{desc}
-use Rattle.columns.specs.Form.{Form, cholesky, pivoted, divisor}
-use Rattle.closed_set.proofs.ClosedSet.{needed_range}
-use Rattle.integers.proofs.Integer.{*ℤ-idl, *ℤ-idr}
+use Rattle.columns.specs.Form.{divisor}
 use Rattle.integers.specs.Matrix.{Matrix}
-use Rattle.integers.specs.Inverse.{WholeInverse}
-use Rattle.takahashi.specs.Entries.{Entry, Ascend}
-use Rattle.takahashi.specs.Recurrence.{at, RecurrenceClosed}
+use Rattle.takahashi.specs.Entries.{Entry}
 use Rattle.exact.specs.Multiple.{Whole}
 use Rattle.exact.specs.Exact.{Alike}
 use Rattle.exact.specs.Factor.{factor}
-use Rattle.exact.specs.ExactCase.{ones, unit_table, WithinBound}
-use Rattle.exact.proofs.ExactCase.{whole_inverse, unit_recurs, unit_bounded, unit_has_inverse, unit_symmetric, unit_ordered}
-use Rattle.exact.proofs.PivotMultiples.{unit_pivot_recurs, unit_pivot_bounded, whole_pivot_inverse}
+use Rattle.exact.specs.ExactCase.{WithinBound}
 use Rattle.diagnostics.specs.declared.SelectedInverseStatus.TheVariants.{Complete}
-use Rattle.selection.specs.Selection.{Selection, selected_pattern, filling_of, Lent, room_of, Accepted, selected_size, selected_answer, selected_table, ResultLists}
-use Rattle.selection.specs.Call.{Call, selection_of, selected_steps}
-use Rattle.selection.proofs.Call.{accepted}
+use Rattle.selection.specs.Selection.{Selection, Lent, selected_size, selected_answer}
 use Rattle.exact_entries.specs.Recurrence.{InClosedSet, found}
-use Rattle.exact_entries.specs.DyadicEntries.{DyadicCall}
-use Rattle.exact_entries.specs.PivotEntries.{DyadicPivots}
 
 module _ (x : Selection) where
   -- every kept diagonal of L is 1, or, where pivots are given, every pivot is; the other kept entries are the whole numbers `whole`; and no product, sum or

@@ -1,25 +1,18 @@
 -- The exact case of factors given as L, D, L transposed, from a call's inputs to what a lookup returns: the kept entries of L below its diagonal of ones and the
 -- pivots are whole multiples of 2 ^ -s. What is claimed is `ReadsMultiples`, as of L * Lᵀ, with P / Q an inverse of L * D * Lᵀ.
 -- Assumes nothing.
-use Rattle.std.specs.Prelude.{ℕ, suc, ◌^◌, ◌≤◌, ◌<◌, max, min, ◌≡◌, ◌≢◌, List, ℤ, pos, ◌*ℤ◌, Float}
-use Rattle.std.proofs.Common.{le_trans, ap, subst, ◌∙◌, lit≤}
-use Rattle.refusal.specs.Steps.{Step, Passed}
+use Rattle.std.specs.Prelude.{ℕ, ◌^◌, ◌≤◌, ◌<◌, ◌≡◌, List, ℤ, pos, Float}
 use Rattle.columns.specs.Columns.{value}
 use Rattle.columns.specs.Kept.{desc}
-use Rattle.columns.specs.Form.{pivoted, Divisors, Pivots}
-use Rattle.closed_set.proofs.ClosedSet.{needed_range}
+use Rattle.columns.specs.Form.{pivoted}
 use Rattle.integers.specs.Matrix.{Matrix}
-use Rattle.integers.specs.PivotInverse.{PivotInverse}
-use Rattle.takahashi.specs.Entries.{Entry, Ascend}
-use Rattle.takahashi.specs.Recurrence.{at}
+use Rattle.takahashi.specs.Entries.{Entry}
 use Rattle.exact.specs.Multiple.{Multiple}
 use Rattle.exact.specs.Exact.{Alike}
 use Rattle.exact.specs.Factor.{factor}
 use Rattle.exact.specs.PivotMultiples.{PivotRecurs, PivotBounded}
-use Rattle.exact.proofs.PivotMultiples.{has_pivot_inverse, pivots_ordered, pivot_dyadic}
-use Rattle.selection.specs.Selection.{Selection, selected_pattern, filling_of, Lent, room_of, Accepted, selected_table, ResultLists}
+use Rattle.selection.specs.Selection.{Selection}
 use Rattle.exact_entries.specs.Recurrence.{InClosedSet}
-use Rattle.exact_entries.specs.DyadicEntries.{ReadsMultiples}
 
 -- for one s from 0 to 53: the factor is L of L * D * Lᵀ with these pivots, which are whole multiples of 2 ^ -s by `w`, as are the kept entries below L's diagonal
 -- by `l`; `z` are the multipliers of the entries of the exact recurrence over the closed set; and every exact product, sum, quotient and entry of that recurrence

@@ -1,40 +1,12 @@
 -- F2 of document 01 with the pivots 2 and 4, in quarters: the hypotheses of the exact case of L * D * Lᵀ are met, with s = 2, and the inverse's entries
 -- 3 / 2, -1 / 2 and 1 / 4 read back. With pivots of 1 it is the case s = 0.
 -- Assumes nothing.
-use Rattle.std.specs.Prelude.{ℕ, zero, suc, ◌<◌, ◌≡◌, refl, true, false, List, [], ◌∷◌, ℤ, pos, negsuc, neg_ℤ, ◌-ℤ◌, ◌*ℤ◌, Float}
-use Rattle.std.proofs.Common.{lt_irrefl, lit≤, lit<}
-use Rattle.std.specs.Float.{fin}
-use Rattle.std.specs.Float.Ieee.{of_bits, of_int, ne, le, add, sub, mul, div, neg}
-use Rattle.std.specs.Float.Ieee.Scale.{finite}
-use Rattle.lists.specs.Test.{any}
-use Rattle.lists.specs.Select.{select, picked}
-use Rattle.lists.specs.Sum.{sum_to}
-use Rattle.lists.specs.Cells.{cell_count}
-use Rattle.refusal.specs.Steps.{Step, answered, Passed}
-use Rattle.columns.specs.Columns.{value, factor_lists}
-use Rattle.columns.specs.Kept.{f0, nonzero, desc}
-use Rattle.columns.specs.Form.{pivoted, Pivots}
-use Rattle.columns.specs.Examples.{whole, f2_starts, f2_rows, f2_values}
-use Rattle.integers.specs.Matrix.{Matrix, identity, transpose, product}
-use Rattle.integers.specs.PivotInverse.{columns_by, PivotInverse}
+use Rattle.std.specs.Prelude.{ℕ, zero, suc, List, [], ◌∷◌, ℤ, pos, negsuc, Float}
+use Rattle.columns.specs.Columns.{value}
+use Rattle.columns.specs.Examples.{whole}
+use Rattle.integers.specs.Matrix.{Matrix}
 use Rattle.takahashi.specs.Entries.{Entry}
-use Rattle.takahashi.specs.Recurrence.{dot, at, Lower}
-use Rattle.exact.specs.Multiple.{Multiple, Small}
-use Rattle.exact.specs.Exact.{integers, Alike, Products, RunningSums, Kept}
 use Rattle.exact.specs.Factor.{factor}
-use Rattle.exact.specs.PivotMultiples.{PivotRecurs, PivotBounded}
-use Rattle.exact.proofs.Examples.{columns₂, pairs₂}
-use Rattle.closed_set.specs.ClosedSet.{reach, member, request, dependency}
-use Rattle.closed_set.proofs.ClosedSet.{needed_range}
-use Rattle.closed_set.specs.Requests.{requested}
-use Rattle.closed_set.proofs.FactorPattern.{factor_pattern}
-use Rattle.entries.specs.Entries.{pivot_table}
-use Rattle.diagnostics.specs.declared.SelectedInverseStatus.TheVariants.{Complete}
-use Rattle.selection.specs.Selection.{Selection, selecting, selected_answer, selected_table, Lent, room_of, Accepted, ResultLists, filling_of}
-use Rattle.exact_entries.specs.Recurrence.{InClosedSet, found}
-use Rattle.exact_entries.specs.DyadicEntries.{ReadsMultiples}
-use Rattle.exact_entries.specs.PivotEntries.{DyadicPivots}
-use Rattle.exact_entries.specs.Worked.{f2_lent}
 
 -- F2 with the pivots 2 and 4, the request (0, 0) and limit 3
 abbrev pub two-four : List Float

@@ -1,5 +1,5 @@
 -- Laws of specs/Inverse.antt.
-use Rattle.std.specs.Prelude.{◌≡◌, refl, Bool, cond, ◌⊎◌, ◌≢◌, eqb, pos, negsuc, neg_ℤ, nat_abs, ◌+ℤ◌, ◌-ℤ◌, ◌*ℤ◌}
+use Rattle.std.specs.Prelude.{◌≡◌, refl, Bool, cond, ◌⊎◌, ◌≢◌, pos, negsuc, neg_ℤ, nat_abs, ◌+ℤ◌, ◌-ℤ◌, ◌*ℤ◌}
 use Rattle.std.proofs.Math.Path.{sym}
 use Rattle.std.proofs.Common.{◌∙◌, ap, ap₂, subst, inl, inr, le_refl, le_of_lt, le_of_suc-le-suc, eq-or-lt_of_le, not-suc-le-zero, ne_of_lt, ne_of_gt, mul-pos, lt_trans, eq-eqb, ne_eqb}
 use Prim.Native.Nat.{ℕ, zero, suc, ◌*◌, ◌<◌}

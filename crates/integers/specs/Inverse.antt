@@ -1,13 +1,10 @@
 -- The inverse of L * Lᵀ for L = l / c, where l is of integers and lower triangular with no zero on its diagonal: integers P over one common denominator Q.
 -- There is one, in integers where the diagonal is of ones; every one is symmetric; of P * l the part on and below the diagonal is known. Assumes nothing.
-use Rattle.std.specs.Prelude.{◌≡◌, refl, Bool, cond, ◌⊎◌, ◌≢◌, eqb, pos, negsuc, neg_ℤ, nat_abs, ◌+ℤ◌, ◌-ℤ◌, ◌*ℤ◌}
-use Rattle.std.proofs.Math.Path.{sym}
-use Rattle.std.proofs.Common.{◌∙◌, ap, ap₂, subst, inl, inr, le_refl, le_of_lt, le_of_suc-le-suc, eq-or-lt_of_le, not-suc-le-zero, ne_of_lt, ne_of_gt, mul-pos, lt_trans, eq-eqb, ne_eqb}
+use Rattle.std.specs.Prelude.{◌≡◌, cond, eqb, pos, nat_abs, ◌-ℤ◌, ◌*ℤ◌}
 use Prim.Native.Nat.{ℕ, zero, suc, ◌*◌, ◌<◌}
-use Rattle.std.proofs.Math.Nat.{le_step}
-use Rattle.std.proofs.Math.IntN.{ℤ, +ℤ_comm, +ℤ_idr, +ℤ_invr, *ℤ_comm, *ℤ-zero, zero-*ℤ, -ℤ-+ℤ_cancel}
+use Rattle.std.proofs.Math.IntN.{ℤ}
 use Rattle.integers.specs.Sum.{Σℤ}
-use Rattle.integers.specs.Matrix.{Matrix, identity, transpose, product, Same, LowerTriangular}
+use Rattle.integers.specs.Matrix.{Matrix, identity, transpose, product, Same}
 
 -- (l / c) * (l / c)ᵀ * (P / Q) is the identity, on indices below n: said with no fraction
 pub record Inverse (n : ℕ) (c : ℤ) (l P : Matrix) (Q : ℕ) : Type 0 where

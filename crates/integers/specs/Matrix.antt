@@ -1,9 +1,5 @@
 -- Matrices of integers as functions of two indices, used on indices below n. Equality is said on those indices alone. Assumes nothing.
-use Rattle.std.specs.Prelude.{◌≡◌, refl, Bool, cond, ◌⊎◌, ◌≢◌, ℕ, zero, suc, ◌≤◌, ◌<◌, max, min, eqb, ℤ, pos, ◌*ℤ◌}
-use Rattle.std.proofs.Common.{sym, ◌∙◌, ap, ap₂, inl, inr, le_refl, le_of_lt, le_of_suc-le-suc, eq-or-lt_of_le, not-suc-le-zero, arith, eq-eqb, ne_eqb}
-use Rattle.std.proofs.Math.Nat.{le_step}
-use Rattle.std.proofs.Math.Decide.{ℕ_discrete, dec_le, dec_lt}
-use Rattle.std.proofs.Math.IntN.{*ℤ-zero, *ℤ_comm, zero-*ℤ}
+use Rattle.std.specs.Prelude.{◌≡◌, cond, ◌≢◌, ℕ, ◌<◌, eqb, ℤ, pos, ◌*ℤ◌}
 use Rattle.integers.specs.Sum.{Σℤ}
 
 -- the entry in row i and column j

@@ -1,7 +1,6 @@
 -- The lesser and the greater of two whole numbers. Assumes nothing.
-use Rattle.std.specs.Prelude.{◌≡◌, refl, Bool, true, false, cond, ℤ, ◌≤ℤ◌}
-use Rattle.std.proofs.Common.{ap}
-use Rattle.std.specs.Int.Signed.{le_z, ≤ℤ_refl}
+use Rattle.std.specs.Prelude.{cond, ℤ}
+use Rattle.std.specs.Int.Signed.{le_z}
 
 abbrev pub minℤ : ℤ → ℤ → ℤ
 minℤ a b = cond (le_z a b) a b

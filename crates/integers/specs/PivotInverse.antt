@@ -2,10 +2,7 @@
 -- other than 0: integers P over one common denominator Q, as for L * Lᵀ. There is one; every one is symmetric; of P * l the part on and below the diagonal is known.
 -- Assumes nothing.
 use Rattle.std.specs.Prelude.{◌≡◌, ◌≢◌, ℕ, ◌*◌, ◌<◌, ℤ, pos, nat_abs, ◌*ℤ◌}
-use Rattle.std.proofs.Common.{sym, ◌∙◌, mul-pos}
-use Rattle.std.proofs.Math.Path.{ap}
-use Rattle.std.proofs.Math.IntN.{*ℤ-zero, zero-*ℤ}
-use Rattle.integers.specs.Matrix.{Matrix, identity, transpose, product, Same, LowerTriangular}
+use Rattle.integers.specs.Matrix.{Matrix, identity, transpose, product, LowerTriangular}
 use Rattle.integers.specs.Inverse.{diagonal_product, adjugate}
 
 -- l with each column times its w

@@ -1,15 +1,12 @@
 -- The rows and positions of a set's pairs, written column by column from its marks: what each step asks, and what it leaves.
 -- Assumes nothing.
-use Rattle.std.specs.Prelude.{ℕ, ◌+◌, ◌/◌, ◌≤◌, ◌<◌, ◌≡◌, true, List, length, get_or, drop}
+use Rattle.std.specs.Prelude.{ℕ, ◌+◌, ◌≤◌, ◌<◌, ◌≡◌, true, List, length, get_or, drop}
 use Rattle.lists.specs.Select.{tally}
 use Rattle.lists.specs.Overwrite.{overwrite}
-use Rattle.bits.proofs.Bits.{bit_same}
 use Rattle.refusal.specs.Bounds.{max_dimension}
 use Rattle.pairs.specs.Pair.{pair_total, max_pairs}
 use Rattle.pairs.specs.Scratch.{queue_start}
-use Rattle.pairs.proofs.Scratch.{queue_start_mark}
 use Rattle.pairs.specs.ColumnOrder.{col_start, column_place, column_marking, set_size}
-use Rattle.pairs.proofs.ColumnOrder.{column_place_below}
 use Rattle.layout.specs.ColumnRows.{column_test, ListColumnInput, ColumnListed}
 use Rattle.entries.specs.Entries.{entry_starts, entry_rows, column_count, position}
 use Rattle.entries.specs.Position.{Positioned}

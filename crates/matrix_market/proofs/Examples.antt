@@ -1,17 +1,15 @@
 -- Laws of specs/Examples.antt.
 use Rattle.std.specs.Prelude.{ℕ, ◌+◌, ◌<◌, ◌≡◌, refl, Bool, false, cond, ◌&&◌, ◌||◌, List, [], ◌∷◌, ◌++◌, map, eqb, replicate}
 use Rattle.std.proofs.Common.{arith}
-use Prim.Native.Char.{code}
-use Prim.Native.String.{String, [] as ended, ◌∷◌ as ◌then◌}
-use Rattle.lists.specs.Every.{every, some}
+use Prim.Native.String.{String, ◌∷◌ as ◌then◌}
+use Rattle.lists.specs.Every.{every}
 use Rattle.lists.specs.Sum.{sum_to}
 use Rattle.lists.specs.Select.{select, picked}
-use Rattle.lists.specs.Tabulate.{tabulate}
 use Rattle.lists.specs.Cells.{cells, cell_count}
-use Rattle.refusal.specs.Steps.{Reply, refused, answered, first, verdict, Passed}
+use Rattle.refusal.specs.Steps.{refused, answered, first, verdict, Passed}
 use Rattle.matrix_market.specs.Text.{joined, on_first, split, fields, is_blank, nonempty, is_digit, numeral}
-use Rattle.matrix_market.specs.File.{header, same_bytes, comment, from_size, first_line, later_lines, body, size_fields, entries, are_numbers, outside_pair}
-use Rattle.matrix_market.specs.File.{file_requests, file_rows, file_columns, file_size_steps, file_entry_steps, file_steps, file_answer}
+use Rattle.matrix_market.specs.File.{header, comment, entries, are_numbers}
+use Rattle.matrix_market.specs.File.{file_requests, file_rows, file_columns, file_size_steps, file_steps, file_answer}
 use Rattle.matrix_market.specs.Decimal.{digits_within, decimal}
 use Rattle.matrix_market.proofs.Decimal.{decimal_leads}
 use Rattle.matrix_market.specs.FileOf.{spaced, file_of}

@@ -1,15 +1,11 @@
 -- Laws of specs/File.antt.
-use Rattle.std.specs.Prelude.{ℕ, ◌-◌, ◌≤◌, ◌<◌, ◌≡◌, refl, Bool, true, false, cond, not, ◌&&◌, ◌||◌, List, [], ◌∷◌, ◌++◌, map, eqb, ltb, length, get_or}
+use Rattle.std.specs.Prelude.{ℕ, ◌-◌, ◌≤◌, ◌<◌, ◌≡◌, refl, Bool, true, cond, List, [], ◌∷◌, map, eqb, length}
 use Rattle.std.proofs.Common.{arith, not-suc-le-zero, sym, ap, ap₂, ◌∙◌, eqb-true, eq-eqb, ne_eqb}
 use Rattle.std.proofs.lemmas.Bool.{false≢true}
 use Rattle.std.proofs.lemmas.List.{length-map}
-use Rattle.lists.specs.Every.{every, some}
-use Rattle.lists.specs.Tabulate.{tabulate, tabulate-length}
+use Rattle.lists.specs.Tabulate.{tabulate-length}
 use Rattle.lists.specs.Test.{and_left, and_right, and_both}
-use Rattle.refusal.specs.Bounds.{max_dimension, max_entries}
-use Rattle.refusal.specs.Steps.{Step}
-use Rattle.matrix_market.specs.Text.{lines, fields, empty, nonempty, is_digit, numeral}
-use Rattle.matrix_market.specs.File.{header, first_line, later_lines, comment, skipped, from_size, body, size_fields, line_entries, entries, are_numbers, number, dimension_of, pair_of, diagonal_pair, every_diagonal, stand_for, file_requests, request_rows, request_columns, same_bytes, file_size_steps, outside_index, outside_pair, outside_entry, malformed, file_entry_steps, file_room_steps, file_steps, file_answer, file_rows, file_columns, request_count}
+use Rattle.matrix_market.specs.File.{pair_of, diagonal_pair, every_diagonal, stand_for, same_bytes, request_count}
 
 -- ---- laws
 -- entries stand for their pairs: as many requests, repeats kept

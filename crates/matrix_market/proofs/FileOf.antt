@@ -1,13 +1,12 @@
 -- Laws of specs/FileOf.antt.
-use Rattle.std.specs.Prelude.{ℕ, ◌+◌, ◌≤◌, ◌<◌, ◌≡◌, Bool, List, [], ◌∷◌, ◌++◌, map}
+use Rattle.std.specs.Prelude.{ℕ, ◌≤◌, ◌<◌, ◌≡◌, Bool, List, ◌∷◌}
 use Rattle.std.proofs.Common.{ap₂}
-use Rattle.lists.specs.Cells.{cells, cells_cong}
-use Rattle.pairs.specs.ColumnOrder.{by_column, column_first, column_end, set_size}
+use Rattle.lists.specs.Cells.{cells_cong}
+use Rattle.pairs.specs.ColumnOrder.{by_column, column_first, column_end}
 use Rattle.pairs.proofs.ColumnOrder.{set_size_cong}
 use Rattle.matrix_market.specs.Text.{joined}
-use Rattle.matrix_market.specs.Decimal.{decimal}
 use Rattle.matrix_market.specs.File.{header}
-use Rattle.matrix_market.specs.FileOf.{spaced, number_line, size_line, entry_line, entry_lines, file_of}
+use Rattle.matrix_market.specs.FileOf.{size_line, entry_line, file_of}
 
 -- equal sets give equal bytes
 pub file_cong : (n : ℕ) (S R : ℕ → ℕ → Bool) → ((r c : ℕ) → c ≤ r → r < n → S r c ≡ R r c) → file_of n S ≡ file_of n R

@@ -1,5 +1,5 @@
 -- Laws of specs/Text.antt.
-use Rattle.std.specs.Prelude.{ℕ, ◌+◌, ◌-◌, ◌*◌, ◌≡◌, Bool, cond, not, ◌&&◌, ◌||◌, eqb, leb}
+use Rattle.std.specs.Prelude.{ℕ, ◌+◌, ◌-◌, ◌*◌, ◌≡◌, Bool, cond, not, ◌&&◌, eqb}
 use Rattle.std.proofs.Math.Path.{refl, ap}
 use Rattle.std.proofs.Common.{sym, ap₂, ◌∙◌, eqb-true}
 use Rattle.std.proofs.Math.Bool.{true, false}
@@ -7,7 +7,7 @@ use Rattle.std.proofs.lemmas.Bool.{false≢true}
 use mathlib.Core.List.{List, [], ◌∷◌, ◌++◌}
 use Rattle.lists.specs.Every.{every}
 use Rattle.lists.specs.Test.{and_left, and_right, and_both}
-use Rattle.matrix_market.specs.Text.{on_first, split, line_end, lines, empty, nonempty, is_blank, fields, is_digit, numeral, joined, solid, filled_one}
+use Rattle.matrix_market.specs.Text.{on_first, split, line_end, lines, empty, nonempty, is_blank, fields, numeral, joined, solid, filled_one}
 
 module _ (ends : ℕ → Bool) where
   on_first_solid : (b : ℕ) (ls : List (List ℕ)) → ends b ≡ false → every (solid ends) ls ≡ true → every (solid ends) (on_first b ls) ≡ true

@@ -1,23 +1,10 @@
 -- An accepted file is a request: what holds of a file that no step refuses.
 -- Assumes nothing.
 use Prim.Native.Nat.{ℕ, ◌≤◌, ◌<◌}
-use Rattle.std.proofs.Common.{arith, ap, ◌∙◌}
-use Rattle.std.specs.Prelude.{◌≡◌, true, false, List, [], ◌∷◌, ◌++◌, map, eqb, length, get_or}
-use Rattle.std.proofs.Math.Path.{sym}
-use Rattle.std.proofs.Math.ListN.{length-map}
-use borrow.Author.Tests.{eqb-true, eqb-false, ltb-false, not-false}
-use Rattle.lists.specs.Every.{some}
-use Rattle.lists.specs.Test.{or_neither_left, or_neither_right}
-use Rattle.lists.specs.Select.{get_d_mapped}
-use Rattle.lists.specs.Tabulate.{tabulate-length, tabulate_at}
+use Rattle.std.specs.Prelude.{◌≡◌, List, length, get_or}
 use Rattle.refusal.specs.Bounds.{max_dimension, max_entries}
-use Rattle.refusal.specs.Steps.{Step, Passed, Clear}
-use Rattle.refusal.proofs.Steps.{passed_clear, clear_passed, passed_front, passed_back}
 use Rattle.matrix_market.specs.Text.{lines}
-use Rattle.matrix_market.specs.Examples.{told, sample}
-use Rattle.matrix_market.specs.File.{header, first_line, size_fields, entries, number, dimension_of, pair_of, diagonal_pair, every_diagonal, stand_for, file_requests, file_rows, file_columns}
-use Rattle.matrix_market.specs.File.{same_bytes, outside_index, outside_pair, outside_entry, request_rows, request_columns}
-use Rattle.matrix_market.specs.File.{file_size_steps, file_entry_steps, file_room_steps, file_steps}
+use Rattle.matrix_market.specs.File.{header, first_line, size_fields, entries, number, dimension_of, file_requests, file_rows, file_columns}
 
 -- the header, sizes and requests within the bounds, as many entries as counted, each request inside on or below the diagonal, and room for them
 pub record AcceptedFile (text : List ℕ) (rows columns : ℕ) : Type 0 where

@@ -1,12 +1,8 @@
 -- A Matrix Market file of requests: its header, size line and entry lines, what is refused of it, and its requests.
 -- Assumes nothing.
-use Rattle.std.specs.Prelude.{ℕ, ◌-◌, ◌≤◌, ◌<◌, ◌≡◌, refl, Bool, true, false, cond, not, ◌&&◌, ◌||◌, List, [], ◌∷◌, ◌++◌, map, eqb, ltb, length, get_or}
-use Rattle.std.proofs.Common.{arith, not-suc-le-zero, sym, ap, ap₂, ◌∙◌, eqb-true, eq-eqb, ne_eqb}
-use Rattle.std.proofs.lemmas.Bool.{false≢true}
-use Rattle.std.proofs.lemmas.List.{length-map}
+use Rattle.std.specs.Prelude.{ℕ, ◌-◌, Bool, true, false, cond, not, ◌&&◌, ◌||◌, List, [], ◌∷◌, ◌++◌, map, eqb, ltb, length, get_or}
 use Rattle.lists.specs.Every.{every, some}
-use Rattle.lists.specs.Tabulate.{tabulate, tabulate-length}
-use Rattle.lists.specs.Test.{and_left, and_right, and_both}
+use Rattle.lists.specs.Tabulate.{tabulate}
 use Rattle.refusal.specs.Bounds.{max_dimension, max_entries}
 use Rattle.refusal.specs.Steps.{Step}
 use Rattle.matrix_market.specs.Text.{lines, fields, empty, nonempty, is_digit, numeral}

@@ -1,13 +1,9 @@
 -- Text as a list of bytes: its lines, the fields of a line, and decimal numbers.
 -- Assumes nothing.
-use Rattle.std.specs.Prelude.{ℕ, ◌+◌, ◌-◌, ◌*◌, ◌≡◌, Bool, cond, not, ◌&&◌, ◌||◌, eqb, leb}
-use Rattle.std.proofs.Math.Path.{refl, ap}
-use Rattle.std.proofs.Common.{sym, ap₂, ◌∙◌, eqb-true}
+use Rattle.std.specs.Prelude.{ℕ, ◌+◌, ◌-◌, ◌*◌, Bool, cond, not, ◌&&◌, ◌||◌, eqb, leb}
 use Rattle.std.proofs.Math.Bool.{true, false}
-use Rattle.std.proofs.lemmas.Bool.{false≢true}
 use mathlib.Core.List.{List, [], ◌∷◌, ◌++◌}
 use Rattle.lists.specs.Every.{every}
-use Rattle.lists.specs.Test.{and_left, and_right, and_both}
 
 -- b in front of the first part
 unfoldable pub on_first : ℕ → List (List ℕ) → List (List ℕ)

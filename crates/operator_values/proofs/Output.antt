@@ -2,15 +2,13 @@
 use Rattle.std.specs.Prelude.{ℕ, ◌≡◌, Bool, true, false, cond, List, Float}
 use Rattle.std.proofs.Common.{sym, ap, ◌∙◌, le-leb}
 use Rattle.lists.specs.Overwrite.{overwrite, cleared}
-use Rattle.refusal.specs.Steps.{Step, answered, refused, verdict, first, after, Passed}
+use Rattle.refusal.specs.Steps.{Step, answered, refused, verdict, first, Passed}
 use Rattle.refusal.proofs.Steps.{first_refused, first_passed, after_refused, after_passed}
 use Rattle.refusal.specs.Refusal.{refusal_number}
 use Rattle.refusal.specs.declared.Refusal.{Refusal}
 use Rattle.diagnostics.specs.declared.SelectedInverseDiagnostics.{SelectedInverseDiagnostics}
 use Rattle.diagnostics.specs.declared.SelectedInverseStatus.TheVariants.{Complete}
-use Rattle.diagnostics.specs.declared.Selected.{Selected}
 use Rattle.diagnostics.specs.declared.Selected.TheVariants.{Answered, Refused}
-use Rattle.diagnostics.specs.Selected.{selected_reply_of}
 use Rattle.selection.specs.Selection.{Selection, Lent, lists, scratch_words, selected_complete, selected_answer, filling_of, ResultLists}
 use Rattle.selection.proofs.Selection.{lists_refused}
 use Rattle.selection.proofs.Status.{selected_complete_lem}

@@ -24,18 +24,18 @@ use Rattle.diagnostics.specs.Selected.{selected_reply_of}
 use Rattle.selection.specs.Selection.{Lent, room_of, selected_answer, selected_table, ResultLists, filling_of}
 use Rattle.exact_entries.specs.DyadicEntries.{DyadicCall, ReadsMultiples}
 use Rattle.exact_entries.proofs.DyadicEntries.{dyadic_entries}
-use Rattle.exact_entries.specs.ExactEntries.{ExactCall, ReadsBack}
+use Rattle.exact_entries.specs.ExactEntries.{ExactCall}
 use Rattle.exact_entries.proofs.ExactEntries.{exact_entries, exact_either}
 use Rattle.request_marks.proofs.OperatorRequests.{places_requested}
 use Rattle.operator_values.specs.Output.{output_after}
 use Rattle.operator_values.proofs.Output.{after_complete}
 use Rattle.quadratic_form.specs.RowValue.{term_column, row_value, operator_values, operator_value}
-use Rattle.quadratic_form.specs.ExactRow.{quadratic, RowWithin}
+use Rattle.quadratic_form.specs.ExactRow.{quadratic}
 use Rattle.quadratic_form.proofs.ExactRow.{row_value_exact}
 use Rattle.operator_variances.specs.Transformed.{TransformedCall, transformed_selection, transformed_steps, transformed_values}
 use Rattle.operator_variances.specs.Transformed.{TransformedDiagonal, AcceptedTransformed}
 use Rattle.operator_variances.proofs.Transformed.{transformed_accepted}
-use Rattle.operator_variances.specs.ExactVariances.{first_of_row, places_of_row, ExactRow, TransformedExact}
+use Rattle.operator_variances.specs.ExactVariances.{first_of_row, places_of_row, TransformedExact}
 
 module _ (x : TransformedCall) (lent : Lent) (output : List Float) (passed : Passed (transformed_steps x (room_of lent) (length output)))
     (whole : ℕ → List (Entry ℤ)) (E : ExactCall (transformed_selection x) whole) (X : Matrix) (is : WholeInverse x.factor.n (factor ones whole) X) where

@@ -1,24 +1,19 @@
 -- Laws of specs/Transformed.antt.
-use Rattle.std.specs.Prelude.{ℕ, ◌≤◌, not, List, [], ◌∷◌, ◌++◌, eqb, length, Float}
+use Rattle.std.specs.Prelude.{ℕ, length}
 use Rattle.std.proofs.Common.{ltb-false}
 use Rattle.refusal.specs.Bounds.{output_steps}
-use Rattle.refusal.specs.Steps.{Step, Passed}
+use Rattle.refusal.specs.Steps.{Passed}
 use Rattle.refusal.proofs.Steps.{passed_clear, passed_front}
-use Rattle.refusal.specs.Groups.{grouped, AllPassed}
+use Rattle.refusal.specs.Groups.{AllPassed}
 use Rattle.refusal.proofs.Groups.{groups_passed}
-use Rattle.columns.specs.Columns.{FactorLists, factor_lists, bound_steps}
+use Rattle.columns.specs.Columns.{bound_steps}
 use Rattle.columns.proofs.Factor.{bound_steps-sound}
-use Rattle.columns.specs.Stored.{stored_steps}
-use Rattle.columns.specs.Operator.{operator_rows, operator_bound_steps, operator_steps, OperatorRows}
+use Rattle.columns.specs.Operator.{operator_rows, operator_bound_steps}
 use Rattle.columns.proofs.Operator.{operator_steps-sound}
-use Rattle.selection.specs.Selection.{Selection, selection, Lent, Room, room_of, default_limit, fill_steps, selected_table, Accepted}
+use Rattle.selection.specs.Selection.{Room}
 use Rattle.selection.proofs.Call.{fill_accepted}
-use Rattle.diagnostics.specs.declared.Selected.{Selected}
-use Rattle.request_marks.specs.OperatorRequests.{operator_requested}
 use Rattle.request_marks.proofs.OperatorRequests.{operator_requested_ranged}
-use Rattle.quadratic_form.specs.RowValue.{operator_values}
-use Rattle.operator_values.specs.Output.{SelectedOutput}
-use Rattle.operator_variances.specs.Transformed.{TransformedCall, transformed_call, transformed_selection, column_count_steps, transformed_groups, transformed_steps, transformed_values, TransformedDiagonal, AcceptedTransformed}
+use Rattle.operator_variances.specs.Transformed.{TransformedCall, transformed_selection, transformed_groups, transformed_steps, AcceptedTransformed}
 
 module _ (x : TransformedCall) (lengths : Room) (output : ℕ) (p : Passed (transformed_steps x lengths output)) where
   passed : AllPassed (transformed_groups x lengths output)

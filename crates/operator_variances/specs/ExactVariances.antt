@@ -1,40 +1,17 @@
 -- The exact case of operator variances: for whole weights each row's value is the exact vᵀXv. Beyond unit diagonals, what reads back.
 -- Assumes nothing.
-use Rattle.std.specs.Prelude.{ℕ, ◌+◌, ◌-◌, ◌^◌, ◌<◌, ◌≡◌, List, length, get_or, ℤ, pos, Float}
-use Rattle.std.proofs.Common.{arith, sym, ap, ◌∙◌}
-use Rattle.std.proofs.Math.Path.{subst}
+use Rattle.std.specs.Prelude.{ℕ, ◌+◌, ◌-◌, ◌<◌, ◌≡◌, List, get_or, ℤ, Float}
 use Rattle.std.specs.Float.{nan}
-use Rattle.lists.specs.Tabulate.{tabulate_at, tabulate-length}
-use Rattle.lists.specs.Overwrite.{overwrite_at}
-use Rattle.refusal.specs.Steps.{Step, answered, Passed}
-use Rattle.refusal.proofs.Told.{told_passed, told_answer}
 use Rattle.columns.specs.Columns.{start, value}
 use Rattle.columns.specs.Operator.{operator_rows}
 use Rattle.integers.specs.Matrix.{Matrix}
-use Rattle.integers.specs.Inverse.{Inverse, WholeInverse}
-use Rattle.takahashi.specs.Entries.{Entry}
 use Rattle.exact.specs.Multiple.{Whole}
-use Rattle.exact.specs.Exact.{floats}
-use Rattle.exact.specs.Factor.{factor}
-use Rattle.exact.specs.ExactCase.{ones}
-use Rattle.closed_set.specs.ClosedSet.{request}
-use Rattle.diagnostics.specs.declared.SelectedInverseDiagnostics.{SelectedInverseDiagnostics}
 use Rattle.diagnostics.specs.declared.SelectedInverseStatus.TheVariants.{Complete}
-use Rattle.diagnostics.specs.declared.Selected.{Selected}
-use Rattle.diagnostics.specs.Selected.{selected_reply_of}
-use Rattle.selection.specs.Selection.{Lent, room_of, selected_answer, selected_table, ResultLists, filling_of}
-use Rattle.exact_entries.specs.DyadicEntries.{DyadicCall, ReadsMultiples}
-use Rattle.exact_entries.proofs.DyadicEntries.{dyadic_entries}
-use Rattle.exact_entries.specs.ExactEntries.{ExactCall, ReadsBack}
-use Rattle.exact_entries.proofs.ExactEntries.{exact_entries, exact_either}
-use Rattle.request_marks.proofs.OperatorRequests.{places_requested}
-use Rattle.operator_values.specs.Output.{output_after}
-use Rattle.operator_values.proofs.Output.{after_complete}
-use Rattle.quadratic_form.specs.RowValue.{term_column, row_value, operator_values, operator_value}
+use Rattle.selection.specs.Selection.{Lent, selected_answer}
+use Rattle.exact_entries.specs.ExactEntries.{ReadsBack}
+use Rattle.quadratic_form.specs.RowValue.{term_column}
 use Rattle.quadratic_form.specs.ExactRow.{quadratic, RowWithin}
-use Rattle.quadratic_form.proofs.ExactRow.{row_value_exact}
-use Rattle.operator_variances.specs.Transformed.{TransformedCall, transformed_selection, transformed_steps, transformed_values}
-use Rattle.operator_variances.specs.Transformed.{TransformedDiagonal, AcceptedTransformed}
+use Rattle.operator_variances.specs.Transformed.{TransformedCall, transformed_selection}
 
 module _ (x : TransformedCall) where
   -- the first place of row i, and how many places it has

@@ -4,15 +4,14 @@ use Rattle.std.proofs.Common.{arith, sym, ap, subst, ◌∙◌, ⊎_elim}
 use native.Mathlib.Nat.{eq-or-lt_of_le, mul-suc, suc-mul, zero-mul, mul-sub, mul-add, mul-le-mul}
 use Rattle.std.proofs.Math.Numerals.{add-one}
 use Rattle.std.proofs.Math.Decide.{dec_le}
-use Rattle.std.specs.Prelude.{◌≡◌, Bool, true, false, List, length}
+use Rattle.std.specs.Prelude.{◌≡◌, Bool, true, false, length}
 use Rattle.std.proofs.Math.Path.{refl}
-use Rattle.bits.specs.Bits.{bit_at}
 use Rattle.lists.specs.Sum.{bit, bit_most, sum_to, sum_to_add, sum_to_eq, sum_to_le, sum_to_most}
 use Rattle.lists.specs.Select.{tally_sum}
 use Rattle.lists.specs.Cells.{cells, cell_count, cells-length, cell_count_cong}
 use Rattle.pairs.specs.Pair.{pair_total}
 use Rattle.pairs.proofs.Pair.{pair_total-half}
-use Rattle.pairs.specs.ColumnOrder.{col_start, column_place, column_marking, by_column, column_first, column_end, set_size}
+use Rattle.pairs.specs.ColumnOrder.{col_start, column_place, by_column, column_first, column_end, set_size}
 
 -- ---- where columns start
 

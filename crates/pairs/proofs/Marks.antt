@@ -1,5 +1,5 @@
 -- Laws of specs/Marks.antt.
-use Rattle.std.specs.Prelude.{ℕ, ◌+◌, ◌-◌, ◌/◌, ◌≤◌, ◌<◌, ◌≡◌, refl, Bool, false, ◌&&◌, ◌||◌, List, eqb, length, get_or}
+use Rattle.std.specs.Prelude.{ℕ, ◌+◌, ◌-◌, ◌/◌, ◌≤◌, ◌<◌, ◌≡◌, refl, Bool, false, ◌||◌, List, eqb, length, get_or}
 use Rattle.std.proofs.Common.{arith, sym, ap, ap₂, ◌∙◌, length-set, eqb-true, eq-eqb}
 use Rattle.std.proofs.Math.Bool.{or-false, or_assoc}
 use Rattle.lists.specs.Test.{and_left, and_right, and_both, same_truth}
@@ -7,7 +7,6 @@ use Rattle.lists.specs.Sum.{bit, sum_to, sum_to_eq}
 use Rattle.lists.specs.Select.{tally, tally_sum}
 use Rattle.bits.specs.Bits.{bit_at, with_bit}
 use Rattle.bits.proofs.Bits.{bit-clear, bit_set, word_below}
-use Rattle.refusal.specs.Bounds.{max_dimension}
 use Rattle.pairs.specs.Pair.{pair_total, row_place, pair_count}
 use Rattle.pairs.proofs.Pair.{row_place_below, row_place_same, pair_count_sum}
 use Rattle.pairs.specs.Scratch.{mark_words}

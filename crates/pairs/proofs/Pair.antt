@@ -1,5 +1,5 @@
 -- Laws of specs/Pair.antt.
-use Rattle.std.specs.Prelude.{ℕ, zero, suc, ◌+◌, ◌-◌, ◌*◌, ◌/◌, ◌≤◌, ◌<◌, min, max, ◌≡◌, refl, Bool, true, ◌&&◌, ◌⊎◌, List, eqb}
+use Rattle.std.specs.Prelude.{ℕ, zero, suc, ◌+◌, ◌-◌, ◌*◌, ◌/◌, ◌≤◌, ◌<◌, min, max, ◌≡◌, refl, Bool, true, ◌&&◌, ◌⊎◌, eqb}
 use Rattle.std.proofs.Common.{arith, add-one, sym, ap, ap₂, subst, ◌∙◌, ⊎_elim, eqb-true, eq-eqb}
 use native.Mathlib.Nat.{eq-or-lt_of_le, mul-suc, suc-mul, mul-le-mul, zero-mul}
 use Rattle.std.proofs.Math.Decide.{dec_le}
@@ -7,7 +7,7 @@ use Rattle.lists.specs.Test.{and_left, and_right, and_both}
 use Rattle.lists.specs.Sum.{bit, sum_to, sum_to_add, sum_to_eq}
 use Rattle.lists.specs.Select.{tally_sum}
 use Rattle.refusal.specs.Bounds.{max_dimension}
-use Rattle.lists.specs.Cells.{cells, cell_count, cells_cong, cell_count_cong}
+use Rattle.lists.specs.Cells.{cell_count, cells_cong, cell_count_cong}
 use Rattle.pairs.specs.Pair.{pair_total, row_place, ordered, row_start, row_end, pair_rows, pair_columns, pair_count, max_pairs}
 
 -- ---- how many

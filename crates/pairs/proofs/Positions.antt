@@ -3,7 +3,7 @@ use Rattle.std.specs.Prelude.{ℕ, ◌+◌, min, max, ◌≡◌, List, get_or}
 use Rattle.std.proofs.Common.{arith, ap, ap₂}
 use Rattle.pairs.specs.Scratch.{queue_start}
 use Rattle.pairs.specs.ColumnOrder.{column_place}
-use Rattle.pairs.specs.Positions.{position_word, position_at, inverse_at}
+use Rattle.pairs.specs.Positions.{position_at, inverse_at}
 
 -- the pair in either order
 pub position_at_ordered : (n : ℕ) (s : List ℕ) (i k : ℕ) → position_at n s (max i k) (min i k) ≡ position_at n s i k

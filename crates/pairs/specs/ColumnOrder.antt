@@ -1,17 +1,9 @@
 -- Pairs (r, c) with c ≤ r < n column by column, the rows of each column ascending: their places, and how many of them a set has.
 -- Assumes nothing.
-use Prim.Native.Nat.{ℕ, zero, suc, ◌+◌, ◌-◌, ◌*◌, ◌/◌, ◌≤◌, ◌<◌}
-use Rattle.std.proofs.Common.{arith, sym, ap, subst, ◌∙◌, ⊎_elim}
-use native.Mathlib.Nat.{eq-or-lt_of_le, mul-suc, suc-mul, zero-mul, mul-sub, mul-add, mul-le-mul}
-use Rattle.std.proofs.Math.Numerals.{add-one}
-use Rattle.std.proofs.Math.Decide.{dec_le}
-use Rattle.std.specs.Prelude.{◌≡◌, Bool, true, false, List, length}
-use Rattle.std.proofs.Math.Path.{refl}
+use Prim.Native.Nat.{ℕ, zero, suc, ◌+◌, ◌-◌}
+use Rattle.std.specs.Prelude.{Bool, List}
 use Rattle.bits.specs.Bits.{bit_at}
-use Rattle.lists.specs.Sum.{bit, bit_most, sum_to, sum_to_add, sum_to_eq, sum_to_le, sum_to_most}
-use Rattle.lists.specs.Select.{tally_sum}
-use Rattle.lists.specs.Cells.{cells, cell_count, cells-length, cell_count_cong}
-use Rattle.pairs.specs.Pair.{pair_total}
+use Rattle.lists.specs.Cells.{cell_count}
 
 -- where column c starts
 unfoldable pub col_start : ℕ → ℕ → ℕ

@@ -1,16 +1,9 @@
 -- A set of pairs as marks: the bit at a pair's place, row by row, is set for a member.
 -- Assumes nothing.
-use Rattle.std.specs.Prelude.{ℕ, ◌+◌, ◌-◌, ◌/◌, ◌≤◌, ◌<◌, ◌≡◌, refl, Bool, false, ◌&&◌, ◌||◌, List, eqb, length, get_or}
-use Rattle.std.proofs.Common.{arith, sym, ap, ap₂, ◌∙◌, length-set, eqb-true, eq-eqb}
-use Rattle.std.proofs.Math.Bool.{or-false, or_assoc}
-use Rattle.lists.specs.Test.{and_left, and_right, and_both, same_truth}
-use Rattle.lists.specs.Sum.{bit, sum_to, sum_to_eq}
-use Rattle.lists.specs.Select.{tally, tally_sum}
-use Rattle.bits.specs.Bits.{bit_at, with_bit}
-use Rattle.bits.proofs.Bits.{bit-clear, bit_set, word_below}
+use Rattle.std.specs.Prelude.{ℕ, ◌/◌, ◌≤◌, ◌<◌, ◌≡◌, Bool, ◌&&◌, ◌||◌, List, eqb, length}
+use Rattle.bits.specs.Bits.{bit_at}
 use Rattle.refusal.specs.Bounds.{max_dimension}
-use Rattle.pairs.specs.Pair.{pair_total, row_place, pair_count}
-use Rattle.pairs.specs.Scratch.{mark_words}
+use Rattle.pairs.specs.Pair.{row_place}
 
 -- the set that the marks say
 abbrev pub marking : List ℕ → ℕ → ℕ → Bool

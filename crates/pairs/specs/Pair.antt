@@ -1,14 +1,8 @@
 -- Pairs (r, c) with c ≤ r < n: how many there are, their places row by row, and the pairs of a set ascending by row then column.
 -- Assumes nothing.
-use Rattle.std.specs.Prelude.{ℕ, zero, suc, ◌+◌, ◌-◌, ◌*◌, ◌/◌, ◌≤◌, ◌<◌, min, max, ◌≡◌, refl, Bool, true, ◌&&◌, ◌⊎◌, List, eqb}
-use Rattle.std.proofs.Common.{arith, add-one, sym, ap, ap₂, subst, ◌∙◌, ⊎_elim, eqb-true, eq-eqb}
-use native.Mathlib.Nat.{eq-or-lt_of_le, mul-suc, suc-mul, mul-le-mul, zero-mul}
-use Rattle.std.proofs.Math.Decide.{dec_le}
-use Rattle.lists.specs.Test.{and_left, and_right, and_both}
-use Rattle.lists.specs.Sum.{bit, sum_to, sum_to_add, sum_to_eq}
-use Rattle.lists.specs.Select.{tally_sum}
+use Rattle.std.specs.Prelude.{ℕ, ◌+◌, ◌*◌, ◌/◌, min, max, Bool, ◌&&◌, List, eqb}
 use Rattle.refusal.specs.Bounds.{max_dimension}
-use Rattle.lists.specs.Cells.{cells, cell_count, cells_cong, cell_count_cong}
+use Rattle.lists.specs.Cells.{cells, cell_count}
 
 -- T, the number of pairs
 unfoldable pub pair_total : ℕ → ℕ

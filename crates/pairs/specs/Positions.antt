@@ -1,7 +1,6 @@
 -- Positions of pairs among the entries of a list: each stands in the word of scratch that is as far past the queue's start as the pair's place.
 -- Assumes nothing.
-use Rattle.std.specs.Prelude.{ℕ, ◌+◌, min, max, ◌≡◌, List, get_or}
-use Rattle.std.proofs.Common.{arith, ap, ap₂}
+use Rattle.std.specs.Prelude.{ℕ, ◌+◌, min, max, List, get_or}
 use Rattle.pairs.specs.Scratch.{queue_start}
 use Rattle.pairs.specs.ColumnOrder.{column_place}
 

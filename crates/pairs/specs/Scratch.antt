@@ -1,11 +1,8 @@
 -- The words of scratch that a call uses: the marks of pairs, one bit for each, and behind them a word for each pair, where the queue stands and later the
 -- positions. Assumes nothing.
-use Rattle.std.specs.Prelude.{ℕ, ◌+◌, ◌*◌, ◌/◌, ◌%◌, ◌≤◌, ◌<◌, ◌≡◌, refl}
-use Rattle.std.proofs.Common.{arith}
+use Rattle.std.specs.Prelude.{ℕ, ◌+◌, ◌*◌, ◌/◌, ◌%◌}
 use Rattle.bits.specs.Bits.{bit_words}
-use Rattle.bits.proofs.Bits.{word_below, bit_words_most}
-use Rattle.refusal.specs.Bounds.{max_dimension}
-use Rattle.pairs.specs.Pair.{pair_total, max_pairs}
+use Rattle.pairs.specs.Pair.{pair_total}
 
 -- how many words hold the marks, ceil(T/32)
 abbrev pub mark_words : ℕ → ℕ

@@ -9,7 +9,7 @@ use Rattle.refusal.specs.Bounds.{max_dimension}
 use Rattle.pairs.specs.Scratch.{mark_words}
 use Rattle.pairs.specs.Pair.{ordered}
 use Rattle.pairs.proofs.Pair.{ordered_is, is_ordered}
-use Rattle.pairs.specs.Marks.{Added, HasMark, single}
+use Rattle.pairs.specs.Marks.{Added, single}
 use Rattle.pairs.proofs.Marks.{pair_marked, added_none, added_also, added_agree}
 use Rattle.columns.specs.Columns.{start, row}
 use Rattle.columns.specs.Kept.{kept, kept_row, kept_pair}
@@ -17,7 +17,7 @@ use Rattle.columns.specs.Factor.{Factor}
 use Rattle.columns.proofs.Factor.{factor_column}
 use Rattle.columns.specs.Operator.{operator_rows, OperatorRows}
 use Rattle.columns.specs.OperatorPair.{occurs, operator_pair}
-use Rattle.pattern_lists.specs.PatternMarks.{entry_set, column_set, columns_set, MarkEntryInput, MarkColumnInput, term_set, terms_set, row_set, rows_set, MarkTermsInput, MarkOrderedInput}
+use Rattle.pattern_lists.specs.PatternMarks.{entry_set, columns_set, MarkColumnInput, row_set, rows_set, MarkTermsInput, MarkOrderedInput}
 
 module _ (rows : List ℕ) (nz : ℕ → Bool) (c p : ℕ) where
   -- an entry above the diagonal or of value 0 is dropped, and marks nothing

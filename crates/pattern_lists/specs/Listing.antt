@@ -1,15 +1,12 @@
 -- The marked pairs of a row, written behind the pairs that are listed already.
 -- Assumes nothing.
-use Rattle.std.specs.Prelude.{ℕ, ◌+◌, ◌/◌, ◌≤◌, ◌<◌, ◌≡◌, refl, List, map, length}
-use Rattle.std.proofs.Common.{arith, sym, ap, ◌∙◌}
+use Rattle.std.specs.Prelude.{ℕ, ◌+◌, ◌/◌, ◌≤◌, ◌<◌, ◌≡◌, List, map, length}
 use Rattle.lists.specs.Select.{select, tally}
-use Rattle.lists.specs.Overwrite.{overwrite, overwrite_none, splice, splice-overwrite}
-use Rattle.lists.specs.Cells.{cells, cells_none, cells_next, cells-length, cell_count, cell_count_next, cell_count_mono}
+use Rattle.lists.specs.Overwrite.{overwrite, splice}
 use Rattle.bits.specs.Bits.{bit_words}
 use Rattle.pairs.specs.Scratch.{mark_words}
 use Rattle.refusal.specs.Bounds.{max_dimension}
-use Rattle.pairs.specs.Pair.{pair_total, max_pairs, row_start, row_end, pair_rows, pair_columns, pair_count}
-use Rattle.pairs.proofs.Pair.{pair_total_mono}
+use Rattle.pairs.specs.Pair.{pair_total, max_pairs, pair_rows, pair_columns, pair_count}
 use Rattle.pairs.specs.Marks.{marking}
 use Rattle.set_bits.specs.Zeros.{Zeros}
 

@@ -1,23 +1,12 @@
 -- The sets of pairs that the loops over a factor's entries and an operator's terms mark, and that they are the pairs of the factor and of the operator.
 -- Assumes nothing.
-use Rattle.std.specs.Prelude.{ℕ, ◌+◌, ◌≤◌, ◌<◌, ◌≡◌, refl, Bool, true, false, ◌&&◌, List, leb, eqb, length, get_or}
-use Rattle.std.proofs.Common.{arith, ap, subst, ◌∙◌, le-leb, eqb-true, eq-eqb}
-use Rattle.std.proofs.Math.Decide.{dec_le}
-use Rattle.std.proofs.Math.Bool.{and-false}
-use Rattle.std.proofs.lemmas.Bool.{lt-leb}
-use Rattle.lists.specs.Test.{any, any_in, any_none, any_next, any-hit, any_found, any_in_none, any_in_next, any_in-hit, any_in_found, and_left, and_right, and_both, same_truth}
+use Rattle.std.specs.Prelude.{ℕ, ◌+◌, ◌≤◌, ◌<◌, Bool, ◌&&◌, List, length, get_or}
+use Rattle.lists.specs.Test.{any, any_in}
 use Rattle.refusal.specs.Bounds.{max_dimension}
-use Rattle.pairs.specs.Scratch.{mark_words}
 use Rattle.pairs.specs.Pair.{ordered}
-use Rattle.pairs.proofs.Pair.{ordered_is, is_ordered}
-use Rattle.pairs.specs.Marks.{Added, HasMark, single}
-use Rattle.pairs.proofs.Marks.{pair_marked, added_none, added_also, added_agree}
+use Rattle.pairs.specs.Marks.{HasMark, single}
 use Rattle.columns.specs.Columns.{start, row}
-use Rattle.columns.specs.Kept.{kept, kept_row, kept_pair}
-use Rattle.columns.specs.Factor.{Factor}
-use Rattle.columns.proofs.Factor.{factor_column}
-use Rattle.columns.specs.Operator.{operator_rows, OperatorRows}
-use Rattle.columns.specs.OperatorPair.{occurs, operator_pair}
+use Rattle.columns.specs.Kept.{kept}
 
 -- ---- a factor
 

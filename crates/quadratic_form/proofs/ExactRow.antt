@@ -1,10 +1,8 @@
 -- Laws of specs/ExactRow.antt.
-use Rattle.std.specs.Prelude.{ℕ, ◌+◌, ◌-◌, ◌<◌, ℤ, Float}
-use Rattle.takahashi.specs.Recurrence.{at}
+use Rattle.std.specs.Prelude.{ℕ, ◌-◌, ℤ, Float}
 use Rattle.exact.specs.Multiple.{Whole}
 use Rattle.exact.specs.Exact.{floats}
 use Rattle.quadratic_form.specs.RowValue.{row_value}
-use Rattle.quadratic_form.specs.ExactCross.{bilinear, RowsWithin}
 use Rattle.quadratic_form.proofs.ExactCross.{cross_value_exact}
 use Rattle.quadratic_form.specs.ExactRow.{quadratic, RowWithin, WholeRow}
 

@@ -1,14 +1,7 @@
 -- The value of two rows: from zero, for each a of the first row and for each b of the second, (w(a)·v(b))·Z(a, b) is added.
 -- Over any arithmetic; in f64 each product and each sum is rounded once, in this order. Assumes nothing.
-use Prim.Native.Nat.{ℕ, zero, suc, ◌+◌, ◌-◌, ◌≤◌, ◌<◌}
-use native.Mathlib.Omega.{arith}
-use Rattle.std.specs.Prelude.{◌≡◌, Float}
-use Rattle.std.proofs.Math.Path.{refl, ap, ap₂}
-use Rattle.std.proofs.Common.{sym, ◌∙◌}
-use Rattle.std.specs.Float.Ieee.{of_bits}
-use Rattle.columns.specs.Kept.{f0}
+use Prim.Native.Nat.{ℕ, zero, suc, ◌+◌, ◌-◌}
 use Rattle.takahashi.specs.Recurrence.{Arithmetic, at}
-use Rattle.exact.specs.Exact.{floats}
 
 -- k and l give the columns of the places of the two operators, w and v their weights; Z is a table of the lower triangle
 module _ (A : Arithmetic) (k l : ℕ → ℕ) (w v : ℕ → A.Carrier) (Z : ℕ → ℕ → A.Carrier) where

@@ -1,21 +1,11 @@
 -- The exact case of two rows: where weights and entries are whole numbers and the exact products and sums stay within 2^53 in size, the rows' value in f64
 -- is the whole number vᵀXu.
 -- Assumes nothing.
-use Prim.Native.Nat.{ℕ, zero, suc, ◌+◌, ◌-◌, ◌≤◌, ◌<◌}
-use Rattle.std.proofs.Common.{arith, sym, ap₂, ◌∙◌, lit≤}
-use Rattle.std.specs.Prelude.{◌≡◌, ℤ, ◌+ℤ◌, ◌*ℤ◌, Float}
-use Rattle.std.proofs.Math.Path.{subst}
-use Rattle.std.proofs.Math.IntN.{+ℤ_assoc, +ℤ_idr, *ℤ_comm}
-use Rattle.std.specs.Float.{binary64}
-use Rattle.std.specs.Float.Ieee.{mul}
-use Rattle.integers.proofs.Integer.{*ℤ-idr}
+use Prim.Native.Nat.{ℕ, suc, ◌+◌, ◌<◌}
+use Rattle.std.specs.Prelude.{ℤ, ◌+ℤ◌, ◌*ℤ◌, Float}
 use Rattle.integers.specs.Sum.{Σℤ}
-use Rattle.integers.proofs.Sum.{sum_cong, sum_swap}
 use Rattle.takahashi.specs.Recurrence.{at}
 use Rattle.exact.specs.Multiple.{Whole, Small}
-use Rattle.exact.proofs.Multiple.{multiple_zero, multiple_mul, multiple_add}
-use Rattle.exact.specs.Exact.{floats}
-use Rattle.quadratic_form.specs.CrossValue.{term, add_terms, add_places, cross_value}
 
 -- k and l give the columns of the places of the two operators, v and u their weights; the rows have `size` places from s on and `width` places from t on
 module _ (k l : ℕ → ℕ) (v u : ℕ → ℤ) (X : ℕ → ℕ → ℤ) (s size t width : ℕ) where

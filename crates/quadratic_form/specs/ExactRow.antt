@@ -1,11 +1,9 @@
 -- The exact case of an operator's row: where weights and entries are whole numbers and the exact products and sums stay within 2^53 in size,
 -- the row's value in f64 is the whole number vᵀXv. It is the case of two equal rows.
 -- Assumes nothing.
-use Rattle.std.specs.Prelude.{ℕ, ◌+◌, ◌-◌, ◌<◌, ℤ, Float}
+use Rattle.std.specs.Prelude.{ℕ, ◌+◌, ◌<◌, ℤ, Float}
 use Rattle.takahashi.specs.Recurrence.{at}
 use Rattle.exact.specs.Multiple.{Whole}
-use Rattle.exact.specs.Exact.{floats}
-use Rattle.quadratic_form.specs.RowValue.{row_value}
 use Rattle.quadratic_form.specs.ExactCross.{bilinear, RowsWithin}
 
 -- vᵀXv: k gives the column of a place of the operator, v its weight; the row has `size` places, from s on

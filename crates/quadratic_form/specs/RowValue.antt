@@ -1,6 +1,6 @@
 -- The value of an operator's row: from zero, for each a of the row and for each b of the row, (w(a)·w(b))·Z(a, b) is added. It is the value of the row
 -- with itself. Assumes nothing.
-use Rattle.std.specs.Prelude.{ℕ, ◌+◌, ◌≡◌, refl, List, length, get_or, Float}
+use Rattle.std.specs.Prelude.{ℕ, ◌+◌, List, length, get_or, Float}
 use Rattle.lists.specs.Tabulate.{tabulate}
 use Rattle.columns.specs.Columns.{start, value}
 use Rattle.columns.specs.Operator.{operator_rows}

@@ -1,8 +1,7 @@
 -- A call's steps as groups, one after the other: they pass exactly if each group passes, and the first group that refuses decides.
 -- Assumes nothing.
-use Rattle.std.specs.Prelude.{ℕ, ◌≡◌, refl, List, [], ◌∷◌, ◌++◌}
-use Rattle.std.proofs.Common.{◌∙◌}
-use Rattle.refusal.specs.Steps.{Step, refused, verdict, Passed, first}
+use Rattle.std.specs.Prelude.{List, [], ◌∷◌, ◌++◌}
+use Rattle.refusal.specs.Steps.{Step, Passed}
 
 -- the steps of the first group, then those of the next, and so on
 abbrev pub grouped : List (List Step) → List Step

@@ -1,11 +1,7 @@
 -- The lowest step decides: a call's reply is the number of the first condition that holds, or its answer where none does.
 -- Assumes nothing.
-use Prim.Native.Nat.{ℕ, zero, suc, ◌+◌, ◌<◌}
-use Rattle.std.proofs.Common.{arith, not-suc-le-zero, eq-or-lt_of_le, le_of_suc-le-suc, sym, ap, ◌∙◌}
-use Rattle.std.proofs.Math.Numerals.{add-one}
+use Prim.Native.Nat.{ℕ, zero, suc, ◌+◌}
 use Rattle.std.specs.Prelude.{◌≡◌, Bool, true, false, List, [], ◌∷◌, ◌++◌}
-use Rattle.std.proofs.Math.Path.{refl, subst}
-use Rattle.std.proofs.Math.Logic.{⊎_elim}
 
 -- a refusal's number and the condition for it
 abbrev pub Step : Type 0

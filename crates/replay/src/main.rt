@@ -1,4 +1,6 @@
 // Reads cases from standard input, makes their calls and writes the answers, both in the text form that replay/README.md gives.
+#![tactic(auto)]
+
 mod cases;
 mod floors;
 mod permutations;

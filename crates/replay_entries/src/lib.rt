@@ -1,4 +1,6 @@
 // Cases of selected entries, of a factor with pivots too.
+#![tactic(auto)]
+
 use answer_text::answers::{put_answer, put_result};
 use case_lists::lent::{lent_result_values, lent_rows, lent_scratch, lent_starts};
 use case_lists::limits::{Limit, limit_of};

@@ -1,4 +1,6 @@
 // Cases of Matrix Market files: requests read from one, and written as one.
+#![tactic(auto)]
+
 use answer_text::answers::{put_file, put_read, put_requests, put_written};
 use case_lists::lent::{lent_file, lent_scratch, lent_words};
 use case_lists::{ROOM, bytes_of, columns_of, request_dimension, rows_of};

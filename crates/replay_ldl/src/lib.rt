@@ -1,4 +1,6 @@
 // The calls of cases of a factor with pivots.
+#![tactic(auto)]
+
 use answer_text::answers::put_answer;
 use case_lists::limits::{Limit, limit_of};
 use case_lists::{

@@ -1,4 +1,6 @@
 // Cases that read a result: lookups, its diagonal list, searches in a column.
+#![tactic(auto)]
+
 pub mod pair_lookups;
 mod searches;
 

@@ -1,4 +1,6 @@
 // Cases of pattern lists, of a factor or of an operator, and of chains.
+#![tactic(auto)]
+
 mod chain_cases;
 
 use answer_text::answers::{put_listed, put_pairs};

@@ -1,4 +1,6 @@
 // Cases of the calls that fill result lists and an output: the diagonal in original order, variances of an operator's rows, covariances of two operators' rows.
+#![tactic(auto)]
+
 use answer_text::answers::{put_answer, put_output, put_result};
 use case_lists::lent::{lent_output, lent_result_values, lent_rows, lent_scratch, lent_starts};
 use case_lists::{

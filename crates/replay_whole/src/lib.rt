@@ -1,4 +1,6 @@
 // Cases of the whole-number engine: selected entries, and lookups in their result.
+#![tactic(auto)]
+
 mod pair_lookups;
 
 use answer_text::answers::{put_answer, put_ok, put_whole_result};

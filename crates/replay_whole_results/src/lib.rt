@@ -1,4 +1,6 @@
 // Cases of the calls on a result of whole numbers: bounds on a row's variance, and variances along a track.
+#![tactic(auto)]
+
 use answer_text::answers::{put_bounds, put_checked, put_whole_output};
 use case_lists::lent::lent_whole_output;
 use case_lists::{ROOM, cells, columns, highs, lows, rows, starts, whole_values, width};

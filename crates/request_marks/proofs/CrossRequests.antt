@@ -1,17 +1,14 @@
 -- Laws of specs/CrossRequests.antt.
-use Rattle.std.specs.Prelude.{ℕ, ◌+◌, ◌≤◌, ◌<◌, max, min, ◌≡◌, refl, Bool, true, ◌↔◌, List, length}
+use Rattle.std.specs.Prelude.{ℕ, ◌+◌, ◌≤◌, ◌<◌, max, min, ◌≡◌, refl, true, ◌↔◌, List, length}
 use Rattle.std.proofs.Common.{arith, sym, subst₂}
 use Rattle.std.proofs.Math.ListN.{get_or}
-use Rattle.lists.specs.Test.{any, any_in, any-hit, any_found, any_in-hit, any_in_found}
-use Rattle.refusal.specs.Bounds.{max_dimension}
-use Rattle.pairs.specs.Pair.{pair_total, ordered}
+use Rattle.lists.specs.Test.{any-hit, any_found, any_in-hit, any_in_found}
+use Rattle.pairs.specs.Pair.{ordered}
 use Rattle.pairs.proofs.Pair.{ordered_is, is_ordered}
-use Rattle.pairs.specs.Scratch.{queue_start}
 use Rattle.columns.specs.Columns.{start}
 use Rattle.columns.proofs.Factor.{starts_end}
-use Rattle.columns.specs.Operator.{operator_rows, OperatorRows}
 use Rattle.closed_set.specs.ClosedSet.{Ranged}
-use Rattle.request_marks.specs.CrossRequests.{with_columns, cross_set, pair_set, cross_requested, OperatorPairs, CrossInput, CrossRequest}
+use Rattle.request_marks.specs.CrossRequests.{with_columns, pair_set, cross_requested, OperatorPairs, CrossRequest}
 
 -- a place of the one row and one of the other make a request
 pub cross_requested_lem : (aStarts aColumns bStarts bColumns a_rows b_rows : List ℕ) (p a b : ℕ) → p < length a_rows

@@ -1,12 +1,10 @@
 -- Laws of specs/DiagonalMarks.antt.
-use Rattle.std.specs.Prelude.{ℕ, ◌+◌, ◌≤◌, ◌<◌, ◌≡◌, refl, Bool, true, ◌&&◌, List, eqb, ltb, length}
+use Rattle.std.specs.Prelude.{ℕ, ◌<◌, ◌≡◌, refl, true, ◌&&◌, eqb, ltb}
 use Rattle.std.proofs.Common.{arith, ap₂, eqb-true, eq-eqb, ltb-true, lt-ltb}
 use Rattle.lists.specs.Test.{and_left, and_right}
-use Rattle.refusal.specs.Bounds.{max_dimension}
-use Rattle.pairs.specs.Pair.{pair_total, ordered}
-use Rattle.pairs.specs.Scratch.{queue_start}
+use Rattle.pairs.specs.Pair.{ordered}
 use Rattle.closed_set.specs.ClosedSet.{Ranged}
-use Rattle.request_marks.specs.DiagonalMarks.{diagonal_pairs, DiagonalsInput}
+use Rattle.request_marks.specs.DiagonalMarks.{diagonal_pairs}
 
 pub diagonal_requested : (n j : ℕ) → j < n → diagonal_pairs n j j ≡ true
 diagonal_requested n j l = ap₂ ◌&&◌ (lt-ltb j n l) (eq-eqb j j refl)

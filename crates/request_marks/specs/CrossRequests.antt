@@ -1,17 +1,13 @@
 -- The requests of row pairs of two operators: every pair of a column of the one row and a column of the other, put in order.
 -- Assumes nothing.
-use Rattle.std.specs.Prelude.{ℕ, ◌+◌, ◌≤◌, ◌<◌, max, min, ◌≡◌, refl, Bool, true, ◌↔◌, List, length}
-use Rattle.std.proofs.Common.{arith, sym, subst₂}
+use Rattle.std.specs.Prelude.{ℕ, ◌+◌, ◌≤◌, ◌<◌, max, min, ◌≡◌, Bool, List, length}
 use Rattle.std.proofs.Math.ListN.{get_or}
-use Rattle.lists.specs.Test.{any, any_in, any-hit, any_found, any_in-hit, any_in_found}
+use Rattle.lists.specs.Test.{any, any_in}
 use Rattle.refusal.specs.Bounds.{max_dimension}
 use Rattle.pairs.specs.Pair.{pair_total, ordered}
-use Rattle.pairs.proofs.Pair.{ordered_is, is_ordered}
 use Rattle.pairs.specs.Scratch.{queue_start}
 use Rattle.columns.specs.Columns.{start}
-use Rattle.columns.proofs.Factor.{starts_end}
 use Rattle.columns.specs.Operator.{operator_rows, OperatorRows}
-use Rattle.closed_set.specs.ClosedSet.{Ranged}
 
 -- x with the columns of the places from t to below f
 abbrev pub with_columns : ℕ → List ℕ → ℕ → ℕ → ℕ → ℕ → Bool

@@ -1,12 +1,9 @@
 -- All diagonals as requested pairs.
 -- Assumes nothing.
-use Rattle.std.specs.Prelude.{ℕ, ◌+◌, ◌≤◌, ◌<◌, ◌≡◌, refl, Bool, true, ◌&&◌, List, eqb, ltb, length}
-use Rattle.std.proofs.Common.{arith, ap₂, eqb-true, eq-eqb, ltb-true, lt-ltb}
-use Rattle.lists.specs.Test.{and_left, and_right}
+use Rattle.std.specs.Prelude.{ℕ, ◌+◌, ◌≤◌, Bool, ◌&&◌, List, eqb, ltb, length}
 use Rattle.refusal.specs.Bounds.{max_dimension}
-use Rattle.pairs.specs.Pair.{pair_total, ordered}
+use Rattle.pairs.specs.Pair.{pair_total}
 use Rattle.pairs.specs.Scratch.{queue_start}
-use Rattle.closed_set.specs.ClosedSet.{Ranged}
 
 -- (r, c) is one of the first n diagonals
 abbrev pub diagonal_pairs : ℕ → ℕ → ℕ → Bool

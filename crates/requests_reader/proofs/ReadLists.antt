@@ -2,7 +2,6 @@
 use Rattle.std.specs.Prelude.{ℕ, ◌≤◌, ◌<◌, ◌≡◌, refl, List, [], ◌∷◌, length, get_or}
 use Rattle.std.proofs.Common.{arith, ap, ◌∙◌}
 use Rattle.lists.specs.Overwrite.{overwrite, overwrite-length, overwrite_at}
-use Rattle.refusal.specs.Bounds.{max_dimension, max_entries}
 use Rattle.refusal.specs.Steps.{Step, Passed, after}
 use Rattle.refusal.proofs.Steps.{after_passed}
 use Rattle.refusal.proofs.Told.{told_passed, told_answer}

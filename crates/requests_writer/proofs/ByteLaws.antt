@@ -119,7 +119,7 @@ head-length n count =
       length-append a (decimal n),
     )
 
-pub head_most_lem : (n count : ℕ) → n ≤ max_dimension → count ≤ max_pairs → length (head_bytes n count) ≤ head_most
+head_most_lem : (n count : ℕ) → n ≤ max_dimension → count ≤ max_pairs → length (head_bytes n count) ≤ head_most
 head_most_lem n count h l = omega (arith, head-length n count, decimal_most n, decimal_most count)
 
 -- ---- byte by byte

@@ -1,15 +1,11 @@
 -- Laws of specs/Marked.antt.
-use Rattle.std.specs.Prelude.{ℕ, ◌≤◌, ◌<◌, ◌≡◌, Bool, List, eqb, length, get_or}
+use Rattle.std.specs.Prelude.{ℕ, ◌≤◌, ◌<◌, ◌≡◌, eqb}
 use Rattle.std.proofs.Common.{arith, ap₂, eqb-true, eq-eqb}
-use Rattle.lists.specs.Test.{any, same_truth}
-use Rattle.refusal.specs.Bounds.{max_dimension}
+use Rattle.lists.specs.Test.{same_truth}
 use Rattle.pairs.specs.Pair.{ordered}
 use Rattle.pairs.proofs.Pair.{ordered_is, is_ordered}
-use Rattle.pairs.specs.Scratch.{mark_words}
-use Rattle.pairs.specs.ColumnOrder.{column_place, column_marking}
+use Rattle.pairs.specs.ColumnOrder.{column_place}
 use Rattle.pairs.proofs.ColumnOrder.{column_place_same}
-use Rattle.closed_set.specs.Requests.{requested, Requests}
-use Rattle.requests_writer.specs.Marked.{MarksListed, MarkInput, MarkedRequests, requested_to}
 
 -- a place is one pair's
 pub place_ordered : (n a b r c : ℕ) → b ≤ a → a < n → c ≤ r → r < n → eqb (column_place n a b) (column_place n r c) ≡ ordered a b r c

@@ -1,19 +1,13 @@
 -- Laws of specs/Writer.antt.
-use Rattle.std.specs.Prelude.{ℕ, ◌≤◌, ◌<◌, ◌≡◌, Bool, not, ◌&&◌, List, [], ◌∷◌, ◌++◌, ltb, eqb, length, get_or}
+use Rattle.std.specs.Prelude.{ℕ, ◌≤◌, ◌<◌, List, length, get_or}
 use borrow.Author.Tests.{ltb-false, leb-false, eqb-true, not-false}
-use Rattle.lists.specs.Test.{any, any_below}
-use Rattle.lists.specs.Overwrite.{overwrite, cleared}
-use Rattle.refusal.specs.Bounds.{max_dimension, max_entries}
-use Rattle.refusal.specs.Refusal.{refusal_number}
-use Rattle.refusal.specs.Steps.{Reply, refused, answered, Step, first, after, Passed}
+use Rattle.lists.specs.Test.{any_below}
+use Rattle.refusal.specs.Bounds.{max_dimension}
+use Rattle.refusal.specs.Steps.{Passed}
 use Rattle.refusal.proofs.Steps.{passed_clear}
-use Rattle.columns.specs.Columns.{outside_at, outside}
-use Rattle.pairs.specs.Scratch.{mark_words}
-use Rattle.closed_set.specs.Requests.{requested, Requests}
-use Rattle.matrix_market.specs.FileOf.{file_of}
-use Rattle.requests_writer.specs.declared.WrittenRequests.{WrittenRequests}
-use Rattle.requests_writer.specs.declared.WrittenRequests.TheVariants.{Written, Refused}
-use Rattle.requests_writer.specs.Writer.{upper_at, some_upper, write_checks, requests_file, output_step, mark_steps, write_steps, written_reply, RequestsWritten, SetWritten}
+use Rattle.columns.specs.Columns.{outside_at}
+use Rattle.closed_set.specs.Requests.{Requests}
+use Rattle.requests_writer.specs.Writer.{upper_at, some_upper, write_checks}
 
 module _ (n : ℕ) (rows columns : List ℕ) (p : Passed (write_checks n rows columns)) where
   -- past them the lists are as long as each other, and their indices below n

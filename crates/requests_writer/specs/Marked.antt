@@ -1,14 +1,11 @@
 -- Requests as marks, one bit for each pair, column by column.
 -- Assumes nothing.
-use Rattle.std.specs.Prelude.{ℕ, ◌≤◌, ◌<◌, ◌≡◌, Bool, List, eqb, length, get_or}
-use Rattle.std.proofs.Common.{arith, ap₂, eqb-true, eq-eqb}
-use Rattle.lists.specs.Test.{any, same_truth}
+use Rattle.std.specs.Prelude.{ℕ, ◌≤◌, ◌<◌, ◌≡◌, Bool, List, length, get_or}
+use Rattle.lists.specs.Test.{any}
 use Rattle.refusal.specs.Bounds.{max_dimension}
 use Rattle.pairs.specs.Pair.{ordered}
-use Rattle.pairs.proofs.Pair.{ordered_is, is_ordered}
 use Rattle.pairs.specs.Scratch.{mark_words}
-use Rattle.pairs.specs.ColumnOrder.{column_place, column_marking}
-use Rattle.pairs.proofs.ColumnOrder.{column_place_same}
+use Rattle.pairs.specs.ColumnOrder.{column_marking}
 use Rattle.closed_set.specs.Requests.{requested, Requests}
 
 -- marks of all pairs of n columns, and a list that takes a column's rows

@@ -1,16 +1,14 @@
 -- Writing a request list: what is refused of it, and what the call leaves.
 -- Assumes nothing.
-use Rattle.std.specs.Prelude.{ℕ, ◌≤◌, ◌<◌, ◌≡◌, Bool, not, ◌&&◌, List, [], ◌∷◌, ◌++◌, ltb, eqb, length, get_or}
-use borrow.Author.Tests.{ltb-false, leb-false, eqb-true, not-false}
-use Rattle.lists.specs.Test.{any, any_below}
+use Rattle.std.specs.Prelude.{ℕ, ◌≡◌, Bool, not, ◌&&◌, List, [], ◌∷◌, ◌++◌, ltb, eqb, length, get_or}
+use Rattle.lists.specs.Test.{any}
 use Rattle.lists.specs.Overwrite.{overwrite, cleared}
 use Rattle.refusal.specs.Bounds.{max_dimension, max_entries}
 use Rattle.refusal.specs.Refusal.{refusal_number}
-use Rattle.refusal.specs.Steps.{Reply, refused, answered, Step, first, after, Passed}
-use Rattle.refusal.proofs.Steps.{passed_clear}
-use Rattle.columns.specs.Columns.{outside_at, outside}
+use Rattle.refusal.specs.Steps.{Reply, refused, answered, Step, first, after}
+use Rattle.columns.specs.Columns.{outside}
 use Rattle.pairs.specs.Scratch.{mark_words}
-use Rattle.closed_set.specs.Requests.{requested, Requests}
+use Rattle.closed_set.specs.Requests.{requested}
 use Rattle.matrix_market.specs.FileOf.{file_of}
 use Rattle.requests_writer.specs.declared.WrittenRequests.{WrittenRequests}
 use Rattle.requests_writer.specs.declared.WrittenRequests.TheVariants.{Written, Refused}

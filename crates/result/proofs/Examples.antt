@@ -1,5 +1,5 @@
 -- Laws of specs/Examples.antt.
-use Rattle.std.specs.Prelude.{List, [], ◌∷◌, ◌≡◌, refl, Float, negsuc}
+use Rattle.std.specs.Prelude.{[], ◌∷◌, ◌≡◌, refl, negsuc}
 use Rattle.std.specs.Float.{binary64}
 use Rattle.std.specs.Float.Ieee.{of_int}
 use Rattle.lists.specs.Test.{any, any_in}

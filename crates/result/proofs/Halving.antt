@@ -3,22 +3,21 @@ use Prim.Native.Nat.{ℕ, zero, suc, ◌+◌, ◌-◌, ◌/◌, ◌≤◌, ◌<�
 use native.Mathlib.Omega.{arith}
 use Rattle.std.proofs.Common.{le_refl, sym, subst, ◌∙◌}
 use Rattle.std.proofs.Math.Decide.{dec_lt}
-use Rattle.std.specs.Prelude.{◌≡◌, Bool, List, eqb, ltb, length, Float}
+use Rattle.std.specs.Prelude.{◌≡◌, Bool, List, eqb, length}
 use Rattle.std.proofs.Math.Path.{refl, ap}
 use Rattle.std.proofs.Math.Bool.{true, false, cond}
 use Rattle.std.proofs.lemmas.Bool.{false≢true}
 use Rattle.std.proofs.Math.Dec.{leb}
-use Rattle.std.specs.Float.{nan}
 use borrow.Author.Tests.{eq-eqb, ne_eqb, lt-ltb, le-ltb, lt-leb, le-leb, eqb-true, eqb-false}
 use Rattle.lists.specs.Test.{not_so}
-use Rattle.refusal.specs.Steps.{Reply, refused, answered}
+use Rattle.refusal.specs.Steps.{refused, answered}
 use Rattle.columns.specs.Columns.{start, row}
 use Rattle.columns.specs.Factor.{Ascends}
 use Rattle.result.specs.Place.{is_row, place_in, Stands, holds}
 use Rattle.result.proofs.Place.{place_in_at, place_in_absent, holds_stands, stands_holds}
 use Rattle.result.specs.Lookup.{dimension, lookup_place, value_at, lookup_of, WellFormed}
 use Rattle.result.proofs.Laws.{refused-answered, lookup_place_column, lookup_place-outside, lookup_place_lem}
-use Rattle.result.specs.Halving.{halving_in, halving, candidate, standing, halved_place, column_within, place_within, lookup_place_within, lookup_within_of, lookup_within}
+use Rattle.result.specs.Halving.{halving_in, halving, candidate, standing, halved_place, column_within, place_within, lookup_place_within, lookup_within_of}
 
 answered_same : {p q : ℕ} → answered p ≡ answered q → p ≡ q
 answered_same e = cc

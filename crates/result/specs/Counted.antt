@@ -1,16 +1,11 @@
 -- The places that a lookup looks at: those of the column search where it comes to that, else none.
 -- Assumes nothing.
-use Prim.Native.Nat.{ℕ, ◌+◌, ◌-◌, ◌*◌, ◌≤◌, ◌<◌, max, min}
-use Rattle.std.proofs.Common.{arith, le_refl, add-zero, ap₂, ◌∙◌, length-drop, length-take-le, get_or-take, get_or-drop}
-use Rattle.std.proofs.Math.Nat.{max-eq_left, max-eq_right, min-eq_left, min-eq_right}
-use Rattle.std.specs.Prelude.{◌≡◌, Bool, true, false, List, [], ◌∷◌, length, take, drop}
-use Rattle.std.proofs.Math.Path.{ap}
-use Rattle.std.proofs.Math.ListN.{length-take}
-use Rattle.refusal.specs.Steps.{Step, Passed, decide, verdict, refused, first, settle}
+use Prim.Native.Nat.{ℕ, ◌+◌, ◌-◌, max, min}
+use Rattle.std.specs.Prelude.{List, take, drop}
+use Rattle.refusal.specs.Steps.{first, settle}
 use Rattle.columns.specs.Columns.{start, row}
-use Rattle.result.specs.Digits.{binary_digits}
 use Rattle.result.specs.Looks.{looks}
-use Rattle.result.specs.Lookup.{dimension, column_faults, search_steps, WellFormed}
+use Rattle.result.specs.Lookup.{search_steps}
 
 -- the rows of column c
 abbrev pub column_rows : List ℕ → List ℕ → ℕ → List ℕ

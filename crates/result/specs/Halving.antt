@@ -1,23 +1,15 @@
 -- The lookup in lists that are taken to be a well-formed result: no column is read for its order, and the row's place is halved for.
 -- On any lists it stays inside them and what it replies is defined; in a well-formed result it is the lookup.
 -- Assumes nothing.
-use Prim.Native.Nat.{ℕ, zero, suc, ◌+◌, ◌-◌, ◌/◌, ◌≤◌, ◌<◌, max, min}
-use native.Mathlib.Omega.{arith}
-use Rattle.std.proofs.Common.{le_refl, sym, subst, ◌∙◌}
-use Rattle.std.proofs.Math.Decide.{dec_lt}
-use Rattle.std.specs.Prelude.{◌≡◌, Bool, List, eqb, ltb, length, Float}
-use Rattle.std.proofs.Math.Path.{refl, ap}
-use Rattle.std.proofs.Math.Bool.{true, false, cond}
-use Rattle.std.proofs.lemmas.Bool.{false≢true}
+use Prim.Native.Nat.{ℕ, zero, suc, ◌+◌, ◌-◌, ◌/◌, max, min}
+use Rattle.std.specs.Prelude.{List, eqb, ltb, length, Float}
+use Rattle.std.proofs.Math.Bool.{cond}
 use Rattle.std.proofs.Math.Dec.{leb}
 use Rattle.std.specs.Float.{nan}
-use borrow.Author.Tests.{eq-eqb, ne_eqb, lt-ltb, le-ltb, lt-leb, le-leb, eqb-true, eqb-false}
-use Rattle.lists.specs.Test.{not_so}
 use Rattle.refusal.specs.Steps.{Reply, refused, answered}
 use Rattle.columns.specs.Columns.{start, row}
-use Rattle.columns.specs.Factor.{Ascends}
-use Rattle.result.specs.Place.{is_row, place_in, Stands, holds}
-use Rattle.result.specs.Lookup.{dimension, lookup_place, value_at, lookup_of, WellFormed}
+use Rattle.result.specs.Place.{is_row}
+use Rattle.result.specs.Lookup.{dimension, value_at}
 
 -- of `size` places from base on: the middle one is taken for the base unless its row is above r, then the places left are halved again, at most k times
 unfoldable pub halving_in : ℕ → List ℕ → ℕ → ℕ → ℕ → ℕ

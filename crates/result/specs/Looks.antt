@@ -1,9 +1,7 @@
 -- How many places the column search looks at: the first place of a part, then its middle, then those of what lies below the middle or above it.
 -- Assumes nothing.
-use Rattle.std.specs.Prelude.{ℕ, zero, suc, ◌+◌, ◌-◌, ◌*◌, ◌/◌, ◌^◌, ◌≤◌, ◌<◌, ◌≡◌, refl, Bool, true, false, cond, List, [], ◌∷◌, eqb, ltb, length, take, drop}
-use Rattle.std.proofs.Common.{arith, pow-suc, ◌∙◌, length-drop, length-take-le, eq-eqb, ne_eqb, lt-ltb, le-ltb}
+use Rattle.std.specs.Prelude.{ℕ, zero, suc, ◌+◌, ◌/◌, cond, List, [], ◌∷◌, eqb, ltb, length, take, drop}
 use Rattle.columns.specs.Columns.{row}
-use Rattle.result.specs.Digits.{binary_digits}
 
 -- the looks at a part, of which at most k halves are taken; what lies below the middle has the first place in it
 unfoldable pub looks_in : ℕ → List ℕ → ℕ → ℕ

@@ -1,16 +1,11 @@
 -- The place of a row between two ends of a column's rows, and in a part of them: 8 where it is absent.
 -- Assumes nothing.
-use Rattle.std.specs.Prelude.{ℕ, ◌+◌, ◌-◌, ◌≤◌, ◌<◌, ◌≡◌, refl, Bool, true, false, eqb, length, take, drop}
-use Rattle.std.proofs.Common.{arith, zero-add, eq-or-lt_of_le, le_refl, sym, subst, ◌∙◌, ⊎_elim, length-drop, take_all, length-take-le, get_or-take, get_or-drop, eq-eqb, eqb-true}
-use Rattle.std.proofs.Math.Decide.{dec_lt}
-use Rattle.std.proofs.Math.Path.{ap}
+use Rattle.std.specs.Prelude.{ℕ, ◌+◌, ◌-◌, ◌≤◌, ◌<◌, ◌≡◌, Bool, eqb, length}
 use Rattle.std.proofs.Math.Bool.{not}
-use Rattle.std.proofs.lemmas.Bool.{false≢true}
 use mathlib.Core.List.{List, [], ◌∷◌}
-use Rattle.lists.specs.Test.{any_in, any_in_none, any_in-hit, any_in_found, not_so}
-use Rattle.lists.specs.Place.{place_from, place_from_at}
+use Rattle.lists.specs.Test.{any_in}
+use Rattle.lists.specs.Place.{place_from}
 use Rattle.refusal.specs.Steps.{Reply, refused, answered, first}
-use Rattle.refusal.proofs.Steps.{first_hit, first_skip, first_end}
 use Rattle.columns.specs.Columns.{row}
 use Rattle.columns.specs.Factor.{Ascends}
 

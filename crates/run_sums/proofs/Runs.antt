@@ -1,8 +1,7 @@
 -- Laws of specs/Runs.antt.
-use Rattle.std.specs.Prelude.{ℕ, ◌+◌, ◌-◌, ◌<◌, ◌≡◌, List, length, get_or, ℤ}
-use Rattle.lists.specs.Tabulate.{tabulate, tabulate-length, tabulate_at}
-use Rattle.integers.specs.Sum.{Σℤ}
-use Rattle.run_sums.specs.Runs.{block_sum, cell_entry, run_sum, runs, run_sums}
+use Rattle.std.specs.Prelude.{ℕ, ◌-◌, ◌<◌, ◌≡◌, List, length, get_or, ℤ}
+use Rattle.lists.specs.Tabulate.{tabulate-length, tabulate_at}
+use Rattle.run_sums.specs.Runs.{run_sum, runs, run_sums}
 
 pub run_sums-length : (Z : ℕ → ℕ → ℤ) (track : List ℕ) (k : ℕ) → length (run_sums Z track k) ≡ runs (length track) k
 unfolding run_sums

@@ -1,14 +1,7 @@
 -- A run grows by one cell at its end, and loses its first: by that cell's strip, its own entry and twice those with the cells of the rest. So a run slides by one cell
 -- with the strip of the one that leaves and of the one that comes. Assumes nothing.
-use Rattle.std.specs.Prelude.{ℕ, suc, ◌+◌, ◌*◌, ◌<◌, ◌≡◌, ℤ, ◌+ℤ◌, ◌-ℤ◌}
-use Rattle.std.proofs.Common.{arith, add-zero, sym, ap, ap₂, ◌∙◌}
-use Rattle.std.proofs.Math.IntN.{+ℤ_assoc, +ℤ_comm, +ℤ_idr, +ℤ-neg_ℤ_cancel}
-use Rattle.integers.proofs.Integer.{+ℤ-interchange}
+use Rattle.std.specs.Prelude.{ℕ, ◌+◌, ℤ, ◌+ℤ◌}
 use Rattle.integers.specs.Sum.{Σℤ}
-use Rattle.integers.proofs.Sum.{sum_cong, sum_add, sum_first}
-use Rattle.integers.specs.Size.{SizeWithin}
-use Rattle.integers.proofs.Size.{size_sums}
-use Rattle.run_sums.specs.Runs.{block_sum}
 
 -- the entries of the cell at place p with the m cells from f on
 abbrev pub line_sum : (ℕ → ℕ → ℤ) → ℕ → ℕ → ℕ → ℤ

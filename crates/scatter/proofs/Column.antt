@@ -11,7 +11,7 @@ use Rattle.std.proofs.lemmas.List.{length-map}
 use Rattle.std.proofs.Math.Seq.{get_or-set_other, take-length}
 use Rattle.lists.specs.Select.{get_d_mapped}
 use Rattle.refusal.specs.Bounds.{max_dimension}
-use Rattle.takahashi.specs.Recurrence.{Arithmetic, Entry, run, dot, at, Lower, Solves, table}
+use Rattle.takahashi.specs.Recurrence.{Arithmetic, Entry, run, dot, at, Lower, Solves}
 use Rattle.takahashi.proofs.Recurrence.{table_solves}
 use Rattle.scatter.specs.Scatter.{blank, row_at, entry_value, weigh, clear, terms, Between, steps, step_sum, stepped, ClosedPattern, Laid, column_values}
 use Rattle.scatter.proofs.Sums.{run_take, terms_run}

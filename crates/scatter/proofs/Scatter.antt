@@ -1,10 +1,10 @@
 -- Laws of specs/Scatter.antt.
-use Rattle.std.specs.Prelude.{◌≡◌, List, [], ◌∷◌, ◌++◌, map, ℕ, zero, suc, ◌+◌, ◌≤◌, ◌<◌, length, get_or, set, drop}
+use Rattle.std.specs.Prelude.{◌≡◌, List, ℕ, zero, ◌+◌, get_or, set}
 use Rattle.std.proofs.Math.Path.{refl}
 use Rattle.std.proofs.Math.Numerals.{add-one}
 use Rattle.refusal.specs.Bounds.{max_dimension}
-use Rattle.takahashi.specs.Recurrence.{Arithmetic, Entry, at}
-use Rattle.scatter.specs.Scatter.{blank, row_at, entry_value, marks, weigh, RowsMarked, clear, unmarks, terms, terms_at, Between, steps, step_sum, stepped, ClosedPattern, Laid, Known, Filled, column_values, columns_values}
+use Rattle.takahashi.specs.Recurrence.{Arithmetic}
+use Rattle.scatter.specs.Scatter.{clear, unmarks, steps, step_sum}
 
 -- ---- one turn more
 pub clear_none : {W : Type 0} (x : W) (sums : List W) → sums ≡ clear x sums 0

@@ -1,8 +1,6 @@
 -- The factor-pattern route of Takahashi's recurrence, over any arithmetic: what each of its loops leaves, by count, and the pattern it runs on.
 -- `none` stands for a value past a list's end. Assumes nothing.
 use Rattle.std.specs.Prelude.{◌≡◌, List, [], ◌∷◌, ◌++◌, map, ℕ, zero, suc, ◌+◌, ◌≤◌, ◌<◌, length, get_or, set, drop}
-use Rattle.std.proofs.Math.Path.{refl}
-use Rattle.std.proofs.Math.Numerals.{add-one}
 use Rattle.refusal.specs.Bounds.{max_dimension}
 use Rattle.takahashi.specs.Recurrence.{Arithmetic, Entry, at}
 

@@ -1,16 +1,11 @@
 -- The scatter adds each row's products in ascending order of the descendants: what the sums hold on the way over the columns of one descendant
 -- or of two, and that whole sums are the recurrence's. Assumes nothing.
-use Rattle.std.specs.Prelude.{◌≡◌, List, [], ◌∷◌, get_or, set, take}
-use Rattle.std.proofs.Math.Path.{refl, sym, ap, ap₂}
-use Rattle.std.proofs.Common.{◌∙◌, subst, inl, inr, eq-or-lt_of_le, le_refl, le_of_lt, le_trans, ne_of_lt, ne_of_gt, lt_of_lt_of_le, le_of_suc-le-suc, add-one, arith, length-set, get_or-set_same, get_or-set_other}
-use Prim.Native.Nat.{ℕ, zero, suc, ◌+◌, ◌≤◌, ◌<◌}
-use Rattle.std.proofs.Math.Nat.{suc_inj}
+use Rattle.std.specs.Prelude.{◌≡◌, List, get_or}
+use Prim.Native.Nat.{ℕ, ◌≤◌, ◌<◌}
 use Rattle.std.proofs.Math.ListN.{length}
-use Rattle.std.proofs.Math.Seq.{take-length}
 use Rattle.refusal.specs.Bounds.{max_dimension}
-use Rattle.takahashi.specs.Recurrence.{Arithmetic, Entry, run, at}
-use Rattle.takahashi.proofs.Recurrence.{at_sym, at_lower}
-use Rattle.scatter.specs.Scatter.{blank, row_at, entry_value, terms, terms_at, Between}
+use Rattle.takahashi.specs.Recurrence.{Arithmetic}
+use Rattle.scatter.specs.Scatter.{terms_at}
 
 module _ (A : Arithmetic) (none : A.Carrier) (Z : ℕ → ℕ → A.Carrier) (rows : List ℕ) (b : ℕ) (weights : List A.Carrier) where
   module _ (m : ℕ) where

@@ -1,12 +1,11 @@
 -- Laws of specs/Call.antt.
-use Rattle.std.specs.Prelude.{ℕ, ◌+◌, ◌≤◌, min, List, [], ◌∷◌, ◌++◌, length, Float}
+use Rattle.std.specs.Prelude.{ℕ, length}
 use Rattle.std.proofs.Common.{ltb-false}
-use Rattle.refusal.specs.Steps.{Step, Reply, first, Passed}
+use Rattle.refusal.specs.Steps.{Passed}
 use Rattle.refusal.proofs.Steps.{passed_clear, passed_front, passed_back}
-use Rattle.refusal.specs.Groups.{grouped, AllPassed}
+use Rattle.refusal.specs.Groups.{AllPassed}
 use Rattle.refusal.proofs.Groups.{groups_passed}
-use Rattle.pairs.specs.Pair.{pair_total}
-use Rattle.columns.specs.Columns.{FactorLists, factor_lists, bound_steps}
+use Rattle.columns.specs.Columns.{bound_steps}
 use Rattle.columns.specs.Factor.{FactorBounded}
 use Rattle.columns.proofs.Factor.{bound_steps-sound}
 use Rattle.columns.specs.Stored.{stored_steps}
@@ -14,13 +13,12 @@ use Rattle.columns.proofs.Stored.{stored_steps-sound, stored_steps_finite}
 use Rattle.columns.specs.Diagonal.{diagonal_steps}
 use Rattle.columns.proofs.Diagonal.{diagonal_steps-sound}
 use Rattle.closed_set.specs.ClosedSet.{Ranged}
-use Rattle.closed_set.specs.Requests.{requested, Requests}
+use Rattle.closed_set.specs.Requests.{Requests}
 use Rattle.closed_set.proofs.Requests.{requested_ranged}
-use Rattle.selection.specs.RequestSteps.{request_bound_steps, request_steps}
+use Rattle.selection.specs.RequestSteps.{request_bound_steps}
 use Rattle.selection.proofs.RequestSteps.{request_steps-sound}
-use Rattle.diagnostics.specs.declared.SelectedInverseDiagnostics.{SelectedInverseDiagnostics}
-use Rattle.selection.specs.Selection.{Selection, selection, cholesky_of, Lent, Room, room_of, scratch_words, room_steps, fill_steps, selected_answer, Accepted}
-use Rattle.selection.specs.Call.{Call, call, selection_of, selected_groups, selected_steps, selected_reply, EnoughRoom}
+use Rattle.selection.specs.Selection.{Selection, cholesky_of, Room, room_steps, fill_steps, Accepted}
+use Rattle.selection.specs.Call.{Call, selection_of, selected_groups, selected_steps, EnoughRoom}
 
 pub room_steps-sound : (n limit : ℕ) (lengths : Room) → Passed (room_steps n limit lengths) → EnoughRoom n limit lengths
 unfolding room_steps

@@ -1,5 +1,5 @@
 -- Laws of specs/Diagnosis.antt.
-use Rattle.std.specs.Prelude.{ℕ, ◌+◌, ◌≤◌, ◌<◌, min, ◌≡◌, refl, Bool, List, leb}
+use Rattle.std.specs.Prelude.{ℕ, ◌≤◌, ◌<◌, ◌≡◌, refl, Bool, List}
 use Rattle.std.proofs.Math.Path.{ap₂}
 use Rattle.columns.specs.Kept.{pattern}
 use Rattle.columns.specs.Factor.{Factor}
@@ -9,9 +9,7 @@ use Rattle.closed_set.proofs.ClosedSet.{member_cong}
 use Rattle.closed_set.specs.Size.{closure_size, requested_pairs}
 use Rattle.closed_set.proofs.Size.{closure_size_cong}
 use Rattle.closed_set.specs.KeptSet.{SameKept}
-use Rattle.diagnostics.specs.Diagnosis.{status_of, diagnosis}
-use Rattle.diagnostics.specs.declared.SelectedInverseDiagnostics.{SelectedInverseDiagnostics}
-use Rattle.selection.specs.Diagnosis.{closure_pairs, diagnosed, diagnosis_of}
+use Rattle.selection.specs.Diagnosis.{diagnosed, diagnosis_of}
 
 -- ---- equal patterns
 

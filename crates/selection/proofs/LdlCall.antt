@@ -1,27 +1,24 @@
 -- Laws of specs/LdlCall.antt.
-use Rattle.std.specs.Prelude.{ℕ, List, [], ◌∷◌, ◌++◌, length, Float}
-use Rattle.refusal.specs.Steps.{Step, Reply, first, Passed}
+use Rattle.std.specs.Prelude.{List, ◌++◌, length}
+use Rattle.refusal.specs.Steps.{Step, Passed}
 use Rattle.refusal.proofs.Steps.{passed_front, passed_back}
-use Rattle.refusal.specs.Groups.{grouped, AllPassed}
+use Rattle.refusal.specs.Groups.{AllPassed}
 use Rattle.refusal.proofs.Groups.{groups_passed}
-use Rattle.columns.specs.Columns.{FactorLists, factor_lists, bound_steps}
+use Rattle.columns.specs.Columns.{bound_steps}
 use Rattle.columns.specs.Kept.{nonzero}
 use Rattle.columns.proofs.Factor.{bound_steps-sound}
-use Rattle.columns.specs.Form.{pivoted}
-use Rattle.columns.specs.Pivots.{float_one, pivot_list_steps, pivot_steps}
+use Rattle.columns.specs.Pivots.{float_one, pivot_steps}
 use Rattle.columns.proofs.Pivots.{pivot_steps-sound}
-use Rattle.columns.specs.UnitDiagonals.{unit_steps, UnitDiagonals}
+use Rattle.columns.specs.UnitDiagonals.{UnitDiagonals}
 use Rattle.columns.proofs.UnitDiagonals.{unit_steps_sound}
-use Rattle.columns.specs.Stored.{stored_steps}
 use Rattle.columns.proofs.Stored.{stored_steps-sound, stored_steps_finite}
-use Rattle.closed_set.specs.Requests.{requested, Requests}
+use Rattle.closed_set.specs.Requests.{Requests}
 use Rattle.closed_set.proofs.Requests.{requested_ranged}
-use Rattle.diagnostics.specs.declared.SelectedInverseDiagnostics.{SelectedInverseDiagnostics}
-use Rattle.selection.specs.RequestSteps.{request_bound_steps, request_steps}
+use Rattle.selection.specs.RequestSteps.{request_bound_steps}
 use Rattle.selection.proofs.RequestSteps.{request_steps-sound}
-use Rattle.selection.specs.Selection.{Selection, selecting, Lent, Room, room_of, room_steps, selected_answer, Accepted}
+use Rattle.selection.specs.Selection.{Room, room_steps, Accepted}
 use Rattle.selection.proofs.Call.{room_steps-sound}
-use Rattle.selection.specs.LdlCall.{LdlCall, ldl_call, ldl_unit_steps, ldl_fill_steps, ldl_selection, ldl_groups, ldl_steps, ldl_reply}
+use Rattle.selection.specs.LdlCall.{LdlCall, ldl_unit_steps, ldl_selection, ldl_groups, ldl_steps}
 
 -- ---- the steps pass only for a call that has all this
 module _ (x : LdlCall) (lengths : Room) (p : Passed (ldl_steps x lengths)) where

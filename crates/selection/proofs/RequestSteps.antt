@@ -1,13 +1,12 @@
 -- Laws of specs/RequestSteps.antt.
-use Rattle.std.specs.Prelude.{ℕ, not, List, [], ◌∷◌, ltb, eqb, length}
+use Rattle.std.specs.Prelude.{ℕ, List, length}
 use borrow.Author.Tests.{leb-false, eqb-true, not-false}
 use Rattle.lists.specs.Test.{any_below}
-use Rattle.refusal.specs.Bounds.{max_entries}
-use Rattle.refusal.specs.Steps.{Step, Passed}
+use Rattle.refusal.specs.Steps.{Passed}
 use Rattle.refusal.proofs.Steps.{passed_clear}
-use Rattle.columns.specs.Columns.{outside_at, outside}
+use Rattle.columns.specs.Columns.{outside_at}
 use Rattle.closed_set.specs.Requests.{Requests}
-use Rattle.selection.specs.RequestSteps.{request_bound_steps, request_steps}
+use Rattle.selection.specs.RequestSteps.{request_steps}
 
 module _ (n dimension : ℕ) (rows columns : List ℕ) (p : Passed (request_steps n dimension rows columns)) where
   -- past 4 and 5 the lists are as long as each other, and their indices below n

@@ -1,25 +1,12 @@
 -- Laws of specs/Selection.antt.
-use Rattle.std.specs.Prelude.{ℕ, ◌+◌, ◌-◌, ◌*◌, ◌≤◌, min, ◌≡◌, refl, Bool, true, cond, List, [], ◌∷◌, ◌++◌, ltb, leb, length, drop, Float}
+use Rattle.std.specs.Prelude.{ℕ, ◌+◌, ◌-◌, ◌≤◌, ◌≡◌, refl, Bool, true, cond, List, [], ◌++◌, length, drop}
 use Rattle.std.proofs.Common.{arith, sym, ap, ◌∙◌, drop-drop}
 use Rattle.lists.specs.Tabulate.{tabulate, tabulate-length}
 use Rattle.lists.specs.Overwrite.{overwrite, filled, cleared}
-use Rattle.refusal.specs.Bounds.{max_dimension, max_entries}
-use Rattle.refusal.specs.Steps.{Step, refused, first, verdict, after, Passed}
+use Rattle.refusal.specs.Steps.{Step, refused, first, verdict, Passed}
 use Rattle.refusal.proofs.Steps.{after_refused, after_passed}
-use Rattle.pairs.specs.Pair.{pair_total}
-use Rattle.pairs.specs.Scratch.{scratch_words}
-use Rattle.columns.specs.Columns.{FactorLists}
-use Rattle.columns.specs.Kept.{nonzero, pattern}
-use Rattle.columns.specs.Factor.{Factor}
-use Rattle.columns.specs.Stored.{FiniteEntries}
-use Rattle.columns.specs.Diagonal.{diagonal_steps}
-use Rattle.columns.specs.Form.{Form, cholesky, kept_pairs, Divisors}
-use Rattle.closed_set.specs.ClosedSet.{member, Ranged}
-use Rattle.closed_set.specs.Size.{closure_size}
-use Rattle.diagnostics.specs.declared.SelectedInverseDiagnostics.{SelectedInverseDiagnostics}
-use Rattle.selection.specs.Diagnosis.{diagnosis_of}
-use Rattle.entries.specs.Entries.{entry_starts, entry_rows, entry_values, form_table}
-use Rattle.selection.specs.Selection.{Selection, LentOf, Lent, Room, room, lists, selecting, selection, cholesky_of, room_of, limit_factor, default_limit, room_steps, fill_steps, selected_pattern, selected_set, selected_size, selected_complete, selected_answer, selected_table, Filling, filled_starts, filled_rows, filled_values, cleared_scratch, ListsAfter, ResultLists, filling_of, Accepted}
+use Rattle.entries.specs.Entries.{entry_starts, entry_rows, entry_values}
+use Rattle.selection.specs.Selection.{LentOf, Filling, filled_starts, filled_rows, filled_values, cleared_scratch, ListsAfter, ResultLists}
 
 -- ---- cleared words
 

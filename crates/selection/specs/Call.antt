@@ -1,25 +1,15 @@
 -- Selected entries: what a call is handed, and what it refuses in its order.
 -- Assumes nothing.
 use Rattle.std.specs.Prelude.{ℕ, ◌+◌, ◌≤◌, min, List, [], ◌∷◌, ◌++◌, length, Float}
-use Rattle.std.proofs.Common.{ltb-false}
-use Rattle.refusal.specs.Steps.{Step, Reply, first, Passed}
-use Rattle.refusal.proofs.Steps.{passed_clear, passed_front, passed_back}
-use Rattle.refusal.specs.Groups.{grouped, AllPassed}
-use Rattle.refusal.proofs.Groups.{groups_passed}
+use Rattle.refusal.specs.Steps.{Step, Reply, first}
+use Rattle.refusal.specs.Groups.{grouped}
 use Rattle.pairs.specs.Pair.{pair_total}
 use Rattle.columns.specs.Columns.{FactorLists, factor_lists, bound_steps}
-use Rattle.columns.specs.Factor.{FactorBounded}
-use Rattle.columns.proofs.Factor.{bound_steps-sound}
 use Rattle.columns.specs.Stored.{stored_steps}
-use Rattle.columns.proofs.Stored.{stored_steps-sound, stored_steps_finite}
-use Rattle.columns.specs.Diagonal.{diagonal_steps}
-use Rattle.columns.proofs.Diagonal.{diagonal_steps-sound}
-use Rattle.closed_set.specs.ClosedSet.{Ranged}
-use Rattle.closed_set.specs.Requests.{requested, Requests}
-use Rattle.closed_set.proofs.Requests.{requested_ranged}
+use Rattle.closed_set.specs.Requests.{requested}
 use Rattle.selection.specs.RequestSteps.{request_bound_steps, request_steps}
 use Rattle.diagnostics.specs.declared.SelectedInverseDiagnostics.{SelectedInverseDiagnostics}
-use Rattle.selection.specs.Selection.{Selection, selection, cholesky_of, Lent, Room, room_of, scratch_words, room_steps, fill_steps, selected_answer, Accepted}
+use Rattle.selection.specs.Selection.{Selection, selection, Lent, Room, room_of, scratch_words, fill_steps, selected_answer}
 
 -- what a call is handed to read: a factor, two lists of requests with their dimension, and a limit
 pub record Call : Type 0 where

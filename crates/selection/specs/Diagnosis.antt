@@ -1,15 +1,7 @@
 -- The diagnosis of a factor, a set of requested pairs and a limit; what it takes from the factor are its pattern and the number of its kept pairs.
 -- Assumes nothing.
-use Rattle.std.specs.Prelude.{ℕ, ◌+◌, ◌≤◌, ◌<◌, min, ◌≡◌, refl, Bool, List, leb}
-use Rattle.std.proofs.Math.Path.{ap₂}
-use Rattle.columns.specs.Kept.{pattern}
-use Rattle.columns.specs.Factor.{Factor}
-use Rattle.columns.proofs.Pattern.{pattern_cong}
-use Rattle.closed_set.specs.ClosedSet.{member}
-use Rattle.closed_set.proofs.ClosedSet.{member_cong}
+use Rattle.std.specs.Prelude.{ℕ, ◌+◌, min, Bool, List, leb}
 use Rattle.closed_set.specs.Size.{closure_size, requested_pairs}
-use Rattle.closed_set.proofs.Size.{closure_size_cong}
-use Rattle.closed_set.specs.KeptSet.{SameKept}
 use Rattle.diagnostics.specs.Diagnosis.{status_of, diagnosis}
 use Rattle.diagnostics.specs.declared.SelectedInverseDiagnostics.{SelectedInverseDiagnostics}
 

@@ -1,25 +1,18 @@
 -- Selected entries of a factor given as L, D, L transposed: what a call is handed, what it refuses in document 02's order, and what passes.
 -- Assumes nothing.
 use Rattle.std.specs.Prelude.{ℕ, List, [], ◌∷◌, ◌++◌, length, Float}
-use Rattle.refusal.specs.Steps.{Step, Reply, first, Passed}
-use Rattle.refusal.proofs.Steps.{passed_front, passed_back}
-use Rattle.refusal.specs.Groups.{grouped, AllPassed}
-use Rattle.refusal.proofs.Groups.{groups_passed}
+use Rattle.refusal.specs.Steps.{Step, Reply, first}
+use Rattle.refusal.specs.Groups.{grouped}
 use Rattle.columns.specs.Columns.{FactorLists, factor_lists, bound_steps}
 use Rattle.columns.specs.Kept.{nonzero}
-use Rattle.columns.proofs.Factor.{bound_steps-sound}
 use Rattle.columns.specs.Form.{pivoted}
 use Rattle.columns.specs.Pivots.{float_one, pivot_list_steps, pivot_steps}
-use Rattle.columns.proofs.Pivots.{pivot_steps-sound}
-use Rattle.columns.specs.UnitDiagonals.{unit_steps, UnitDiagonals}
-use Rattle.columns.proofs.UnitDiagonals.{unit_steps_sound}
+use Rattle.columns.specs.UnitDiagonals.{unit_steps}
 use Rattle.columns.specs.Stored.{stored_steps}
-use Rattle.columns.proofs.Stored.{stored_steps-sound, stored_steps_finite}
-use Rattle.closed_set.specs.Requests.{requested, Requests}
-use Rattle.closed_set.proofs.Requests.{requested_ranged}
+use Rattle.closed_set.specs.Requests.{requested}
 use Rattle.diagnostics.specs.declared.SelectedInverseDiagnostics.{SelectedInverseDiagnostics}
 use Rattle.selection.specs.RequestSteps.{request_bound_steps, request_steps}
-use Rattle.selection.specs.Selection.{Selection, selecting, Lent, Room, room_of, room_steps, selected_answer, Accepted}
+use Rattle.selection.specs.Selection.{Selection, selecting, Lent, Room, room_of, room_steps, selected_answer}
 
 -- what a call is handed to read: a factor and its pivots, two lists of requests with their dimension, and a limit
 pub record LdlCall : Type 0 where

@@ -1,13 +1,9 @@
 -- What is refused of requests, a dimension and two lists: steps 4 and 5.
 -- Assumes nothing.
 use Rattle.std.specs.Prelude.{ℕ, not, List, [], ◌∷◌, ltb, eqb, length}
-use borrow.Author.Tests.{leb-false, eqb-true, not-false}
-use Rattle.lists.specs.Test.{any_below}
 use Rattle.refusal.specs.Bounds.{max_entries}
-use Rattle.refusal.specs.Steps.{Step, Passed}
-use Rattle.refusal.proofs.Steps.{passed_clear}
-use Rattle.columns.specs.Columns.{outside_at, outside}
-use Rattle.closed_set.specs.Requests.{Requests}
+use Rattle.refusal.specs.Steps.{Step}
+use Rattle.columns.specs.Columns.{outside}
 
 -- 1: too many requests; they are counted by their rows
 abbrev pub request_bound_steps : ℕ → List Step

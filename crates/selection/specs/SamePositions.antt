@@ -1,26 +1,11 @@
 -- Factors of one dimension with equal kept positions, and equal requests and limit: equal status and counts, equal starts and filled rows.
 -- Assumes nothing.
-use Rattle.std.specs.Prelude.{ℕ, ◌+◌, ◌≤◌, ◌<◌, ◌≡◌, Bool, true, cond, List, take, Float}
-use Rattle.std.proofs.Common.{sym, ap, subst, ◌∙◌, le-leb}
-use Rattle.lists.specs.Overwrite.{overwrite, overwrite_front}
-use Rattle.refusal.specs.Steps.{Step, Passed, answered}
-use Rattle.refusal.proofs.Steps.{first_passed}
-use Rattle.pairs.specs.ColumnOrder.{set_size}
-use Rattle.pairs.proofs.ColumnOrder.{set_size_cong}
+use Rattle.std.specs.Prelude.{ℕ, ◌+◌, ◌≡◌, Bool, List, take, Float}
 use Rattle.columns.specs.Columns.{factor_lists}
-use Rattle.columns.specs.Kept.{nonzero, pattern}
-use Rattle.columns.specs.Form.{Form, cholesky}
-use Rattle.columns.proofs.Form.{kept_pairs-pattern, pattern_pairs_cong}
-use Rattle.closed_set.specs.Requests.{requested}
-use Rattle.diagnostics.specs.declared.SelectedInverseDiagnostics.{SelectedInverseDiagnostics}
+use Rattle.columns.specs.Form.{Form}
 use Rattle.diagnostics.specs.declared.SelectedInverseStatus.TheVariants.{Complete}
-use Rattle.closed_set.specs.KeptSet.{SameKept}
-use Rattle.entries.specs.Entries.{entry_starts, entry_rows}
-use Rattle.entries.proofs.Entries.{entry_starts-length, entry_rows_length}
-use Rattle.entries.proofs.Position.{entry_starts_cong, entry_rows_cong}
-use Rattle.selection.specs.Selection.{Selection, selecting, LentOf, Lent, Room, room_of, Filling, filling_of, Accepted, selected_set, selected_size, selected_answer}
-use Rattle.selection.specs.Selection.{filled_starts, filled_rows, ResultLists}
-use Rattle.selection.specs.Call.{Call, call, selection_of, selected_steps, selected_reply}
+use Rattle.selection.specs.Selection.{Selection, selecting, Lent, selected_size, selected_answer}
+use Rattle.selection.specs.Call.{Call, call, selection_of, selected_reply}
 
 -- ---- two factors, each in either form, with the same descendants in each column
 

@@ -1,13 +1,10 @@
 -- Selected entries of the inverse for a factor, a set of requested pairs and a limit: what is answered, and what the lists hold afterwards.
 -- Every call that fills result lists is said in these words.
 -- Assumes nothing.
-use Rattle.std.specs.Prelude.{ℕ, ◌+◌, ◌-◌, ◌*◌, ◌≤◌, min, ◌≡◌, refl, Bool, true, cond, List, [], ◌∷◌, ◌++◌, ltb, leb, length, drop, Float}
-use Rattle.std.proofs.Common.{arith, sym, ap, ◌∙◌, drop-drop}
-use Rattle.lists.specs.Tabulate.{tabulate, tabulate-length}
-use Rattle.lists.specs.Overwrite.{overwrite, filled, cleared}
+use Rattle.std.specs.Prelude.{ℕ, ◌+◌, ◌*◌, ◌≤◌, min, ◌≡◌, Bool, cond, List, [], ◌∷◌, ◌++◌, ltb, leb, length, Float}
+use Rattle.lists.specs.Overwrite.{overwrite, cleared}
 use Rattle.refusal.specs.Bounds.{max_dimension, max_entries}
-use Rattle.refusal.specs.Steps.{Step, refused, first, verdict, after, Passed}
-use Rattle.refusal.proofs.Steps.{after_refused, after_passed}
+use Rattle.refusal.specs.Steps.{Step, after}
 use Rattle.pairs.specs.Pair.{pair_total}
 pub use Rattle.pairs.specs.Scratch.{scratch_words}
 use Rattle.columns.specs.Columns.{FactorLists}

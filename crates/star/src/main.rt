@@ -1,4 +1,6 @@
 // Runs F3 of document 01 with the request (0,0) and limit 6; prints status, counts and limit, then each pair with its value's bits.
+#![tactic(auto)]
+
 use answer_text::{put, put_value};
 use diagnostics::{Selected, SelectedInverseDiagnostics, SelectedInverseStatus};
 use selected::selected_inverse_entries_with_limit;

@@ -1,4 +1,6 @@
 // Runs document 01's starred cases: each module calls and compares.
+#![tactic(auto)]
+
 mod calls;
 mod closed_sets;
 mod floors;

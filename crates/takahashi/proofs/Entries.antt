@@ -1,5 +1,5 @@
 -- Laws of specs/Entries.antt.
-use Rattle.std.specs.Prelude.{List, [], ◌∷◌, ℕ, suc, ◌≤◌, ◌<◌}
+use Rattle.std.specs.Prelude.{List, [], ◌∷◌, ℕ, suc, ◌<◌}
 use Rattle.std.proofs.Math.Nat.{le_step}
 use Rattle.std.proofs.Common.{lt_of_lt_of_le}
 use Rattle.takahashi.specs.Entries.{Entry, Each, Rows, Ascend}

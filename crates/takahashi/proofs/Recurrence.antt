@@ -5,7 +5,7 @@ use Rattle.std.proofs.Math.Nat.{max_comm, min_comm, max-eq_left, min-eq_right}
 use Rattle.takahashi.proofs.Choice.{cond_same, cond_other}
 use Rattle.takahashi.proofs.Entries.{each_map, each_of_rows}
 use Rattle.takahashi.specs.Entries.{Entry, Each, Rows}
-use Rattle.takahashi.specs.Recurrence.{Arithmetic, run, dot, at, Lower, RecurrenceClosed, below, diagonal, column, stage, table, Solves}
+use Rattle.takahashi.specs.Recurrence.{Arithmetic, run, at, Lower, RecurrenceClosed, below, diagonal, column, stage, table, Solves}
 
 -- ---- a table read at either order
 pub at_sym : {W : Type 0} (Z : ℕ → ℕ → W) (i k : ℕ) → at Z i k ≡ at Z k i

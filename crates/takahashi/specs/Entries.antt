@@ -1,7 +1,5 @@
 -- Lists of entries of a column: a row and a value each. Facts of every entry's row, and rows that ascend. Assumes nothing.
 use Rattle.std.specs.Prelude.{List, [], ◌∷◌, ℕ, suc, ◌≤◌, ◌<◌}
-use Rattle.std.proofs.Math.Nat.{le_step}
-use Rattle.std.proofs.Common.{lt_of_lt_of_le}
 
 -- an entry of a column: its row, and the value there
 abbrev pub Entry : Type 0 → Type 0

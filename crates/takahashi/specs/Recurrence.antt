@@ -1,9 +1,7 @@
 -- The recurrence of the selected inverse, over any arithmetic: its definition as a table, and as equations between a table's entries. Assumes nothing.
 -- Columns are done from the last to the first. Z(i, j) below the diagonal is `off d S`, with d the factor's diagonal in the column j and S the running sum,
 -- from zero, of l * Z(i, k) over the column's entries (k, l) below the diagonal, in their order. Z(j, j) is `on d S`, with S that sum of l * Z(k, j).
-use Rattle.std.specs.Prelude.{◌≡◌, refl, cond, ◌⊎◌, ◌≢◌, List, [], ◌∷◌, ℕ, zero, suc, ◌+◌, ◌-◌, ◌≤◌, ◌<◌, min, max, eqb}
-use Rattle.std.proofs.Common.{sym, ◌∙◌, ap, ap₂, subst, inl, inr, eq-or-lt_of_le, add-zero, add-suc, add-sub_of_le, le_of_eq, le_of_lt, lt_trans, ne_of_gt, arith}
-use Rattle.std.proofs.Math.Nat.{max_comm, min_comm, max-eq_left, min-eq_right}
+use Rattle.std.specs.Prelude.{◌≡◌, cond, List, [], ◌∷◌, ℕ, zero, suc, ◌-◌, ◌≤◌, ◌<◌, min, max, eqb}
 pub use Rattle.takahashi.specs.Entries.{Entry, Each, Rows}
 
 -- numbers with a sum and a product, of which nothing is asked

@@ -1,7 +1,6 @@
 -- Laws of specs/Exact.antt.
 use Rattle.std.specs.Prelude.{ℕ, ◌+◌, ◌<◌, ◌≡◌, List, length, get_or, take, ℤ}
 use Rattle.std.proofs.Common.{◌∙◌}
-use Rattle.refusal.specs.Steps.{answered}
 use Rattle.integers.proofs.Sum.{sum_cong}
 use Rattle.integers.specs.Matrix.{Matrix}
 use Rattle.columns.specs.WholeFactor.{whole_value}
@@ -11,7 +10,7 @@ use Rattle.whole_selection.specs.Call.{WholeCall, whole_answer}
 use Rattle.whole_selection.specs.ReadBack.{ReadsWhole}
 use Rattle.whole_selection.proofs.ReadBack.{reads_found}
 use Rattle.run_sums.specs.Runs.{runs, run_sum}
-use Rattle.track_variances.specs.Track.{track_entry, VariancesAlong}
+use Rattle.track_variances.specs.Track.{track_entry}
 use Rattle.track_variances.proofs.Promise.{along_found, along-run}
 use Rattle.track_variances.specs.Exact.{AlongAfter}
 

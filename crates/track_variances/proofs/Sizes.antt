@@ -1,14 +1,12 @@
 -- Laws of specs/Sizes.antt.
-use Rattle.std.specs.Prelude.{ℕ, ◌+◌, ◌-◌, ◌≤◌, ◌<◌, min, ◌≡◌, List, length, get_or, ℤ, pos}
+use Rattle.std.specs.Prelude.{ℕ, ◌+◌, ◌-◌, ◌≤◌, ◌<◌, min, ◌≡◌, List, length, ℤ}
 use Rattle.std.proofs.Common.{arith, le_refl, mul-le-mul, ap₂}
 use Rattle.integers.specs.Size.{SizeWithin}
 use Rattle.integers.proofs.Size.{size_more, size_is, size_sum}
-use Rattle.refusal.specs.Steps.{answered}
-use Rattle.result.specs.Lookup.{lookup_of, WellFormed}
 use Rattle.run_sums.specs.Runs.{runs, block_sum}
 use Rattle.run_sums.specs.Slide.{line_sum, strip}
 use Rattle.run_sums.proofs.Slide.{line_size, block_size}
-use Rattle.track_variances.specs.Track.{max_width, max_track_entry, track_entry}
+use Rattle.track_variances.specs.Track.{max_track_entry, track_entry}
 use Rattle.track_variances.specs.Sizes.{RunsReady}
 
 module _ {starts rows : List ℕ} {values : List ℤ} {track : List ℕ} {k : ℕ} (R : RunsReady starts rows values track k) where

@@ -10,7 +10,6 @@ use Rattle.run_sums.specs.Runs.{block_sum, runs}
 use Rattle.run_sums.specs.Slide.{strip}
 use Rattle.run_sums.proofs.Slide.{strip_none, strip_more, block_more, block_leave}
 use Rattle.track_variances.specs.Track.{track_entry}
-use Rattle.track_variances.specs.Sizes.{RunsReady}
 use Rattle.track_variances.proofs.Sizes.{block_small, after_small, before_small}
 use Rattle.track_variances.specs.Slots.{Slots, Met, Come, f, MayCome}
 

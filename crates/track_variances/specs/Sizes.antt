@@ -1,13 +1,9 @@
 -- What the runs' sums may rely on once nothing is refused, and the sizes that follow. Assumes nothing.
-use Rattle.std.specs.Prelude.{ℕ, ◌+◌, ◌-◌, ◌≤◌, ◌<◌, min, ◌≡◌, List, length, get_or, ℤ, pos}
-use Rattle.std.proofs.Common.{arith, le_refl, mul-le-mul, ap₂}
+use Rattle.std.specs.Prelude.{ℕ, ◌+◌, ◌≤◌, ◌<◌, ◌≡◌, List, length, get_or, ℤ, pos}
 use Rattle.integers.specs.Size.{SizeWithin}
-use Rattle.integers.proofs.Size.{size_more, size_is, size_sum}
 use Rattle.refusal.specs.Steps.{answered}
 use Rattle.result.specs.Lookup.{lookup_of, WellFormed}
-use Rattle.run_sums.specs.Runs.{runs, block_sum}
-use Rattle.run_sums.specs.Slide.{line_sum, strip}
-use Rattle.run_sums.proofs.Slide.{line_size, block_size}
+use Rattle.run_sums.specs.Runs.{runs}
 use Rattle.track_variances.specs.Track.{max_width, max_track_entry, track_entry}
 
 -- runs of k cells, each pair of a run present and at most 2^40 in size

@@ -1,15 +1,9 @@
 -- The runs' list while cells come, one after the other. Past the places of the runs that are done, place p + 1 holds the strip of cell p with the cells that came after it,
 -- so that it can be taken away when the cell leaves. Assumes nothing.
-use Rattle.std.specs.Prelude.{ℕ, suc, ◌+◌, ◌-◌, ◌≤◌, ◌<◌, min, ◌≡◌, refl, List, length, set, ℤ, pos, ◌+ℤ◌, ◌-ℤ◌}
-use Rattle.std.proofs.Common.{arith, le_refl, sym, ap, ap₂, subst, ◌∙◌, length-set, get_or-set_same, get_or-set_other}
-use Rattle.std.proofs.Math.Decide.{dec_lt, ℕ_discrete}
-use Rattle.std.proofs.Math.ListN.{get_or-eq_default}
-use Rattle.integers.specs.Size.{SizeWithin}
-use Rattle.integers.proofs.Size.{size_is}
+use Rattle.std.specs.Prelude.{ℕ, ◌+◌, ◌-◌, ◌≤◌, ◌<◌, min, ◌≡◌, List, length, ℤ, ◌+ℤ◌}
 use Rattle.columns.specs.WholeFactor.{whole_value}
 use Rattle.run_sums.specs.Runs.{block_sum, runs}
 use Rattle.run_sums.specs.Slide.{strip}
-use Rattle.run_sums.proofs.Slide.{strip_none, strip_more, block_more, block_leave}
 use Rattle.track_variances.specs.Track.{track_entry}
 use Rattle.track_variances.specs.Sizes.{RunsReady}
 

@@ -1,5 +1,5 @@
 -- Laws of specs/Examples.antt.
-use Rattle.std.specs.Prelude.{ℕ, zero, suc, ◌≡◌, refl, ℤ, pos, negsuc}
+use Rattle.std.specs.Prelude.{◌≡◌, refl, pos, negsuc}
 use Rattle.weight_bounds.specs.Bounds.{least_square, greatest_square, least_product, greatest_product, low_bound, high_bound}
 use Rattle.weight_bounds.specs.Examples.{f2_pair, low_end, high_end}
 

@@ -1,6 +1,5 @@
 -- Small rows: what the definitions give, by computation. Assumes nothing.
-use Rattle.std.specs.Prelude.{ℕ, zero, suc, ◌≡◌, refl, ℤ, pos, negsuc}
-use Rattle.weight_bounds.specs.Bounds.{least_square, greatest_square, least_product, greatest_product, low_bound, high_bound}
+use Rattle.std.specs.Prelude.{ℕ, zero, suc, ℤ, pos, negsuc}
 
 -- F2 of document 01: entries 5, -2, -2, 1; weights from -1 to 2 and from 1 to 3: squares 0 to 4 and 1 to 9, product -3 to 6
 abbrev pub f2_pair : ℕ → ℕ → ℤ

@@ -1,9 +1,5 @@
 -- Wider ranges give wider bounds. Assumes nothing.
 use Rattle.std.specs.Prelude.{ℕ, ◌<◌, ℤ, ◌≤ℤ◌}
-use Rattle.integers.proofs.Order.{≤ℤ-trans, sum_le}
-use Rattle.integers.specs.Sum.{Σℤ}
-use Rattle.weight_bounds.specs.Bounds.{InRange, least_term, greatest_term, low_bound, high_bound}
-use Rattle.weight_bounds.specs.TermBounds.{Term}
 
 -- of n places, the range from lo to hi lies in that from lo' to hi'
 pub record Wider (lo hi lo' hi' : ℕ → ℤ) (n : ℕ) : Type 0 where

@@ -13,7 +13,7 @@ use Rattle.whole_selection.proofs.ReadBack.{reads_found}
 use Rattle.whole_pairs.specs.Entry.{entry_or_zero}
 use Rattle.weight_bounds.specs.Bounds.{InRange, Scaled}
 use Rattle.weight_ranges.specs.Ranges.{row_entry}
-use Rattle.weight_ranges.specs.Promise.{BoundsAnswered, row_variance}
+use Rattle.weight_ranges.specs.Promise.{row_variance}
 use Rattle.weight_ranges.proofs.Promise.{answer_found, answer_holds, answer_scaled, answer_single}
 use Rattle.weight_ranges.specs.Exact.{BoundsAfter}
 

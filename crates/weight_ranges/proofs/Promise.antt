@@ -1,11 +1,10 @@
 -- Laws of specs/Promise.antt.
 use Rattle.std.specs.Prelude.{ℕ, ◌*◌, ◌<◌, ◌≡◌, List, length, ℤ, pos, ◌≤ℤ◌}
 use Rattle.std.proofs.Common.{arith, sym, ap, subst, ◌∙◌, ext_get_or}
-use Rattle.refusal.specs.Steps.{answered, first}
+use Rattle.refusal.specs.Steps.{answered}
 use Rattle.refusal.proofs.Told.{told_passed, told_answer}
 use Rattle.columns.specs.WholeFactor.{whole_value}
 use Rattle.quadratic_form.specs.RowValue.{term_column}
-use Rattle.quadratic_form.specs.ExactCross.{bilinear}
 use Rattle.result.specs.Lookup.{lookup_of}
 use Rattle.whole_pairs.specs.Entry.{entry_or_zero}
 use Rattle.weight_bounds.specs.Bounds.{InRange, Scaled, variance}

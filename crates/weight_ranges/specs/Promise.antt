@@ -1,22 +1,11 @@
 -- What an answer of the call promises: every pair of the columns is in the result, every choice of weights within the ranges has its variance within the bounds,
 -- equal ends give the single exact value, and wider ranges wider bounds. The bounds need not be the variance of one choice of all weights.
 -- Assumes nothing.
-use Rattle.std.specs.Prelude.{ℕ, ◌*◌, ◌<◌, ◌≡◌, List, length, ℤ, pos, ◌≤ℤ◌}
-use Rattle.std.proofs.Common.{arith, sym, ap, subst, ◌∙◌, ext_get_or}
+use Rattle.std.specs.Prelude.{ℕ, ◌≡◌, List, length, ℤ}
 use Rattle.refusal.specs.Steps.{answered, first}
-use Rattle.refusal.proofs.Told.{told_passed, told_answer}
-use Rattle.columns.specs.WholeFactor.{whole_value}
 use Rattle.quadratic_form.specs.RowValue.{term_column}
 use Rattle.quadratic_form.specs.ExactCross.{bilinear}
-use Rattle.result.specs.Lookup.{lookup_of}
-use Rattle.whole_pairs.specs.Entry.{entry_or_zero}
-use Rattle.weight_bounds.specs.Bounds.{InRange, Scaled, variance}
-use Rattle.weight_bounds.proofs.Within.{bounds_hold, bounds_scaled}
-use Rattle.weight_bounds.specs.Wider.{Wider}
-use Rattle.weight_bounds.proofs.Wider.{low_bound_wider, high_bound_wider}
-use Rattle.weight_bounds.proofs.Single.{low_bound-single, high_bound-single, variance-quadratic}
-use Rattle.weight_ranges.specs.Ranges.{row_entry, low_bound_of, high_bound_of, range_steps, range_bounds}
-use Rattle.weight_ranges.specs.Sizes.{RangesReady}
+use Rattle.weight_ranges.specs.Ranges.{range_steps, range_bounds}
 
 -- the bounds (low, high) are answered
 abbrev pub BoundsAnswered : List ℕ → List ℕ → List ℤ → List ℕ → List ℤ → List ℤ → ℤ → ℤ → Type 0

@@ -1,5 +1,5 @@
 -- Laws of specs/Entry.antt.
-use Rattle.std.specs.Prelude.{ℕ, ◌≡◌, refl, Bool, cond, false, List, ltb, length, get_or, ℤ, pos, nat_abs}
+use Rattle.std.specs.Prelude.{ℕ, ◌≡◌, refl, false, List, ltb, length, ℤ, pos, nat_abs}
 use Rattle.std.proofs.Common.{sym, ◌∙◌, true≢false}
 use Rattle.std.proofs.Math.Path.{ap}
 use Rattle.std.proofs.Math.Bool.{not}
@@ -10,7 +10,7 @@ use Rattle.result.specs.Lookup.{finds, value_at, lookup_of, WellFormed}
 use Rattle.result.proofs.Laws.{lookup-symmetric}
 use Rattle.result.specs.Halving.{lookup_place_within}
 use Rattle.result.proofs.Halving.{within_lookup}
-use Rattle.whole_pairs.specs.Entry.{entry_or_zero, absent_pair, beyond_pair, pair_fault, cell_fault}
+use Rattle.whole_pairs.specs.Entry.{entry_or_zero, absent_pair, pair_fault}
 
 found_of : (r : Reply ℤ) → not (finds r) ≡ false → r ≡ answered (settle (pos 0) r)
 found_of (answered z) e = refl

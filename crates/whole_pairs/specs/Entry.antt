@@ -1,16 +1,10 @@
 -- Pairs of a result of whole numbers: the entry, 0 where the lookup refuses, and faults, absent or beyond a size.
 -- Assumes nothing.
-use Rattle.std.specs.Prelude.{ℕ, ◌≡◌, refl, Bool, cond, false, List, ltb, length, get_or, ℤ, pos, nat_abs}
-use Rattle.std.proofs.Common.{sym, ◌∙◌, true≢false}
-use Rattle.std.proofs.Math.Path.{ap}
+use Rattle.std.specs.Prelude.{ℕ, Bool, cond, List, ltb, get_or, ℤ, pos, nat_abs}
 use Rattle.std.proofs.Math.Bool.{not}
 use Rattle.lists.specs.Sum.{bit}
-use Rattle.refusal.specs.Steps.{Reply, refused, answered, settle}
-use Rattle.columns.specs.WholeFactor.{whole_value}
-use Rattle.result.specs.Lookup.{finds, value_at, lookup_of, WellFormed}
-use Rattle.result.proofs.Laws.{lookup-symmetric}
-use Rattle.result.specs.Halving.{lookup_place_within}
-use Rattle.result.proofs.Halving.{within_lookup}
+use Rattle.refusal.specs.Steps.{settle}
+use Rattle.result.specs.Lookup.{finds, lookup_of}
 
 -- the entry of a pair, 0 where the lookup refuses
 unfoldable pub entry_or_zero : List ℕ → List ℕ → List ℤ → ℕ → ℕ → ℤ

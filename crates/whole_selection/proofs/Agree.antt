@@ -10,7 +10,7 @@ use Rattle.std.specs.Float.Ieee.Fits.{down_pos}
 use Rattle.lists.specs.Test.{and_left}
 use Rattle.lists.specs.Select.{select_at, select_cong}
 use Rattle.lists.specs.Sum.{sum_to_eq}
-use Rattle.refusal.specs.Steps.{Reply, refused, answered, Passed}
+use Rattle.refusal.specs.Steps.{Passed}
 use Rattle.refusal.proofs.Steps.{passed_append}
 use Rattle.refusal.proofs.Groups.{passed_groups}
 use Rattle.integers.proofs.Integer.{nat_abs_zero, *ℤ-idl, *ℤ-idr}
@@ -28,12 +28,12 @@ use Rattle.exact.proofs.Multiple.{multiple_zero, multiple_eq, eq_multiple}
 use Rattle.exact.specs.Exact.{Alike}
 use Rattle.selection.proofs.Diagnosis.{diagnosis_of_same, member_same}
 use Rattle.selection.specs.Selection.{Selection, Room, room_steps, selected_answer, selected_set}
-use Rattle.selection.specs.Call.{Call, call, selection_of, selected_groups, selected_steps}
+use Rattle.selection.specs.Call.{selection_of, selected_groups, selected_steps}
 use Rattle.whole_selection.specs.Call.{WholeCall, WholeRoom, whole_requests, whole_descendants, whole_set, whole_answer, check_steps}
 use Rattle.whole_selection.specs.Accepted.{WholeAccepted}
 use Rattle.whole_selection.proofs.Accepted.{checks_passed}
 use Rattle.whole_selection.specs.ReadBack.{whole_entries}
-use Rattle.whole_selection.specs.Agree.{SameNumbers, float_call, SameFound}
+use Rattle.whole_selection.specs.Agree.{SameNumbers, float_call}
 
 -- ---- a float that is a whole number is 0.0 exactly if the number is 0
 zero_is : f0 ≡ zero_float

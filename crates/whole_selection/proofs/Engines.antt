@@ -1,5 +1,5 @@
 -- Laws of specs/Engines.antt.
-use Rattle.std.specs.Prelude.{ℕ, suc, ◌+◌, ◌*◌, ◌≤◌, ◌<◌, max, min, ◌≡◌, refl, Bool, not, ◌↔◌, List, map, eqb, leb, length, take, ℤ, pos, negsuc, nat_abs, ◌*ℤ◌, Float}
+use Rattle.std.specs.Prelude.{ℕ, suc, ◌+◌, ◌*◌, ◌≤◌, ◌<◌, max, min, ◌≡◌, refl, Bool, not, ◌↔◌, List, eqb, leb, length, take, ℤ, pos, negsuc, nat_abs, ◌*ℤ◌, Float}
 use Rattle.std.proofs.Common.{arith, sym, ap, subst, subst₂, ◌∙◌, true≢false, lit≤, eqb-true, le-leb}
 use Rattle.std.proofs.Math.Decide.{dec_lt}
 use Rattle.std.proofs.Math.Bool.{true, false}
@@ -27,7 +27,7 @@ use Rattle.diagnostics.specs.declared.Selected.{Selected}
 use Rattle.diagnostics.specs.declared.SelectedInverseDiagnostics.{SelectedInverseDiagnostics}
 use Rattle.diagnostics.specs.declared.SelectedInverseStatus.TheVariants.{Complete}
 use Rattle.diagnostics.specs.Selected.{selected_reply_of}
-use Rattle.selection.specs.Selection.{Selection, LentOf, Lent, room_of, room_steps, Accepted, selected_answer, selected_pattern, selected_set, selected_size, filling_of, ResultLists}
+use Rattle.selection.specs.Selection.{Selection, Lent, room_of, room_steps, Accepted, selected_answer, selected_pattern, selected_set, selected_size, filling_of, ResultLists}
 use Rattle.selection.proofs.Selection.{passed_starts, passed_rows}
 use Rattle.selection.proofs.SamePositions.{front_starts, front_rows}
 use Rattle.selection.specs.Call.{selection_of, selected_steps}

@@ -1,29 +1,25 @@
 -- Laws of specs/Examples.antt.
-use Rattle.std.specs.Prelude.{ℕ, ◌+◌, ◌-◌, ◌^◌, ◌≡◌, refl, List, [], ◌∷◌, ℤ, pos, negsuc, neg_ℤ}
+use Rattle.std.specs.Prelude.{refl}
 use Rattle.lists.specs.Test.{any, any_in}
 use Rattle.lists.specs.Sum.{sum_to}
 use Rattle.lists.specs.Select.{select, picked}
 use Rattle.lists.specs.Cells.{cell_count}
-use Rattle.refusal.specs.Steps.{Reply, refused, answered, first}
+use Rattle.refusal.specs.Steps.{first}
 use Rattle.bits.specs.Bits.{bit_words}
 use Rattle.pairs.specs.Pair.{pair_total}
 use Rattle.pairs.specs.Scratch.{scratch_words}
 use Rattle.columns.specs.Columns.{bound_steps, broken_steps, starts_steps, rows_steps, column_steps}
 use Rattle.columns.specs.Kept.{factor_pairs}
 use Rattle.columns.specs.UnitDiagonals.{unit_steps, missing_steps}
-use Rattle.columns.specs.Examples.{f2_starts, f2_rows}
 use Rattle.closed_set.specs.ClosedSet.{reach, member}
 use Rattle.closed_set.specs.Requests.{requested}
 use Rattle.exact.specs.Exceeds.{set_exceeds}
 use Rattle.entries.specs.WholeTable.{whole_table}
-use Rattle.diagnostics.specs.Diagnosis.{diagnosis}
-use Rattle.diagnostics.specs.declared.SelectedInverseDiagnostics.{SelectedInverseDiagnostics}
-use Rattle.diagnostics.specs.declared.SelectedInverseStatus.TheVariants.{Complete, ClosureTooLarge}
 use Rattle.selection.specs.RequestSteps.{request_steps}
 use Rattle.selection.specs.Diagnosis.{diagnosis_of}
 use Rattle.selection.specs.Selection.{room_steps}
-use Rattle.whole_selection.specs.Call.{WholeCall, WholeRoom, whole_call, whole_room, whole_answer, work_steps, check_steps, exceed_steps, whole_steps}
-use Rattle.whole_selection.specs.Examples.{reply_in, f2-call, f2-reply, worked, product-of, sum_of, entry_of, above, no_first, Replies}
+use Rattle.whole_selection.specs.Call.{work_steps, check_steps, exceed_steps}
+use Rattle.whole_selection.specs.Examples.{Replies}
 
 pub replies : Replies
 unfolding any any_in sum_to picked select cell_count factor_pairs reach member requested diagnosis_of

@@ -1,5 +1,5 @@
 -- Laws of specs/ReadBack.antt.
-use Rattle.std.specs.Prelude.{ℕ, suc, ◌+◌, ◌≤◌, ◌<◌, max, min, ◌≡◌, Bool, cond, ◌&&◌, ◌↔◌, take, ℤ, pos}
+use Rattle.std.specs.Prelude.{ℕ, suc, ◌≤◌, ◌<◌, max, min, ◌≡◌, Bool, cond, ◌&&◌, ◌↔◌, ℤ, pos}
 use Rattle.std.proofs.Common.{arith, sym, ap, ◌∙◌, le-leb, leb-true}
 use Rattle.std.proofs.Math.Path.{refl}
 use Rattle.std.proofs.Math.Bool.{true, false, false≢true}
@@ -10,21 +10,19 @@ use Rattle.refusal.specs.Steps.{Step, Reply, refused, answered, Passed}
 use Rattle.refusal.proofs.Steps.{first_hit, passed_front, passed_back, passed_append, append_passed, clear_passed, passed_clear}
 use Rattle.refusal.proofs.Told.{told-refused, told_passed, told_answer}
 use Rattle.pairs.specs.Pair.{pair_total}
-use Rattle.columns.specs.WholeFactor.{whole_nonzero, whole_stored, whole_desc}
-use Rattle.closed_set.specs.ClosedSet.{Needed, Pattern}
+use Rattle.columns.specs.WholeFactor.{whole_nonzero, whole_stored}
+use Rattle.closed_set.specs.ClosedSet.{Pattern}
 use Rattle.closed_set.proofs.ClosedSet.{needed_range, member_needed}
 use Rattle.closed_set.proofs.Size.{closure_size_most}
 use Rattle.closed_set.proofs.FactorPattern.{factor_pattern}
 use Rattle.integers.specs.Matrix.{Matrix}
 use Rattle.integers.specs.Inverse.{WholeInverse}
-use Rattle.takahashi.specs.Entries.{Entry, Ascend}
+use Rattle.takahashi.specs.Entries.{Ascend}
 use Rattle.takahashi.specs.Recurrence.{at, RecurrenceClosed}
 use Rattle.exact.specs.Factor.{factor}
-use Rattle.exact.specs.ExactCase.{ones, WithinBound}
 use Rattle.exact.proofs.ExactCase.{unit_has_inverse, unit_inverse, unit_ordered}
-use Rattle.entries.specs.WholeTable.{whole_table, exceeds, KeptSmall}
+use Rattle.entries.specs.WholeTable.{whole_table, exceeds}
 use Rattle.entries.proofs.WholeTable.{whole_desc-ascend, whole_within}
-use Rattle.result.specs.Lookup.{lookup_of}
 use Rattle.diagnostics.specs.declared.SelectedInverseDiagnostics.{SelectedInverseDiagnostics}
 use Rattle.diagnostics.specs.declared.Selected.{Selected}
 use Rattle.diagnostics.specs.declared.SelectedInverseStatus.TheVariants.{Complete}

@@ -1,5 +1,5 @@
 -- Laws of specs/Worked.antt.
-use Rattle.std.specs.Prelude.{ℕ, ◌+◌, ◌≤◌, ◌^◌, ◌≡◌, refl, true, false, List, [], ◌∷◌, pos, negsuc, Float}
+use Rattle.std.specs.Prelude.{◌+◌, ◌≤◌, ◌^◌, ◌≡◌, refl, true, false, List, [], ◌∷◌, pos, negsuc, Float}
 use Rattle.std.specs.Float.{fin}
 use Rattle.std.specs.Float.Ieee.{of_bits, of_int, ne, le, add, sub, mul, div, neg}
 use Rattle.lists.specs.Test.{any, any_in}
@@ -36,7 +36,7 @@ use Rattle.selection.specs.RequestSteps.{request_steps}
 use Rattle.selection.specs.Diagnosis.{diagnosis_of}
 use Rattle.selection.specs.Selection.{Lent, lists, room_of, room_steps, filling_of, ResultLists}
 use Rattle.selection.specs.Call.{selection_of, selected_steps}
-use Rattle.whole_selection.specs.Call.{WholeCall, WholeLent, whole_call, whole_lent, whole_room_of, whole_size, whole_answer, work_steps, check_steps, exceed_steps, WholeEntries}
+use Rattle.whole_selection.specs.Call.{WholeCall, WholeLent, whole_call, whole_room_of, whole_size, whole_answer, work_steps, check_steps, exceed_steps, WholeEntries}
 use Rattle.whole_selection.specs.ReadBack.{whole_found, whole_matrix, Within53, ReadsWhole}
 use Rattle.whole_selection.proofs.ReadBack.{whole_reply_lem, reads_found, twenty_told, told_twenty}
 use Rattle.whole_selection.specs.Agree.{float_call}

@@ -1,30 +1,13 @@
 -- Calls in whole numbers worked through by computation: each condition of 20 alone, the edges of 2 ^ 53, the order of refusals; and F2 whole, at which the
 -- theorems' hypotheses are met.
 -- Assumes nothing.
-use Rattle.std.specs.Prelude.{ℕ, ◌+◌, ◌-◌, ◌^◌, ◌≡◌, refl, List, [], ◌∷◌, ℤ, pos, negsuc, neg_ℤ}
-use Rattle.lists.specs.Test.{any, any_in}
-use Rattle.lists.specs.Sum.{sum_to}
-use Rattle.lists.specs.Select.{select, picked}
-use Rattle.lists.specs.Cells.{cell_count}
+use Rattle.std.specs.Prelude.{ℕ, ◌+◌, ◌-◌, ◌^◌, ◌≡◌, List, [], ◌∷◌, ℤ, pos, negsuc, neg_ℤ}
 use Rattle.refusal.specs.Steps.{Reply, refused, answered, first}
-use Rattle.bits.specs.Bits.{bit_words}
-use Rattle.pairs.specs.Pair.{pair_total}
-use Rattle.pairs.specs.Scratch.{scratch_words}
-use Rattle.columns.specs.Columns.{bound_steps, broken_steps, starts_steps, rows_steps, column_steps}
-use Rattle.columns.specs.Kept.{factor_pairs}
-use Rattle.columns.specs.UnitDiagonals.{unit_steps, missing_steps}
 use Rattle.columns.specs.Examples.{f2_starts, f2_rows}
-use Rattle.closed_set.specs.ClosedSet.{reach, member}
-use Rattle.closed_set.specs.Requests.{requested}
-use Rattle.exact.specs.Exceeds.{set_exceeds}
-use Rattle.entries.specs.WholeTable.{whole_table}
 use Rattle.diagnostics.specs.Diagnosis.{diagnosis}
 use Rattle.diagnostics.specs.declared.SelectedInverseDiagnostics.{SelectedInverseDiagnostics}
 use Rattle.diagnostics.specs.declared.SelectedInverseStatus.TheVariants.{Complete, ClosureTooLarge}
-use Rattle.selection.specs.RequestSteps.{request_steps}
-use Rattle.selection.specs.Diagnosis.{diagnosis_of}
-use Rattle.selection.specs.Selection.{room_steps}
-use Rattle.whole_selection.specs.Call.{WholeCall, WholeRoom, whole_call, whole_room, whole_answer, work_steps, check_steps, exceed_steps, whole_steps}
+use Rattle.whole_selection.specs.Call.{WholeCall, WholeRoom, whole_call, whole_room, whole_answer, whole_steps}
 
 -- what a call replies whose lists have these lengths
 abbrev pub reply_in : WholeCall → WholeRoom → Reply SelectedInverseDiagnostics

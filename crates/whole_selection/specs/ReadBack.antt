@@ -1,43 +1,19 @@
 -- What a lookup returns after a call in whole numbers: the entries of the inverse of L * Lᵀ, exact; and when 20 is told.
 -- Assumes nothing.
-use Rattle.std.specs.Prelude.{ℕ, suc, ◌+◌, ◌≤◌, ◌<◌, max, min, ◌≡◌, Bool, cond, ◌&&◌, ◌↔◌, take, ℤ, pos}
-use Rattle.std.proofs.Common.{arith, sym, ap, ◌∙◌, le-leb, leb-true}
-use Rattle.std.proofs.Math.Path.{refl}
-use Rattle.std.proofs.Math.Bool.{true, false, false≢true}
-use mathlib.Core.List.{List, [], ◌∷◌}
-use Rattle.std.proofs.Math.IntN.{ℤ_discrete}
-use Rattle.lists.specs.Test.{and_left, and_right, and_both}
-use Rattle.refusal.specs.Steps.{Step, Reply, refused, answered, Passed}
-use Rattle.refusal.proofs.Steps.{first_hit, passed_front, passed_back, passed_append, append_passed, clear_passed, passed_clear}
-use Rattle.refusal.proofs.Told.{told-refused, told_passed, told_answer}
-use Rattle.pairs.specs.Pair.{pair_total}
-use Rattle.columns.specs.WholeFactor.{whole_nonzero, whole_stored, whole_desc}
-use Rattle.closed_set.specs.ClosedSet.{Needed, Pattern}
-use Rattle.closed_set.proofs.ClosedSet.{needed_range, member_needed}
-use Rattle.closed_set.proofs.Size.{closure_size_most}
-use Rattle.closed_set.proofs.FactorPattern.{factor_pattern}
+use Rattle.std.specs.Prelude.{ℕ, ◌+◌, ◌≤◌, max, min, ◌≡◌, ◌↔◌, take, ℤ, pos}
+use mathlib.Core.List.{List}
+use Rattle.refusal.specs.Steps.{Reply, refused, answered}
+use Rattle.columns.specs.WholeFactor.{whole_desc}
+use Rattle.closed_set.specs.ClosedSet.{Needed}
 use Rattle.integers.specs.Matrix.{Matrix}
-use Rattle.integers.specs.Inverse.{WholeInverse}
-use Rattle.takahashi.specs.Entries.{Entry, Ascend}
-use Rattle.takahashi.specs.Recurrence.{at, RecurrenceClosed}
+use Rattle.takahashi.specs.Entries.{Entry}
 use Rattle.exact.specs.Factor.{factor}
 use Rattle.exact.specs.ExactCase.{ones, WithinBound}
-use Rattle.exact.proofs.ExactCase.{unit_has_inverse, unit_inverse, unit_ordered}
-use Rattle.entries.specs.WholeTable.{whole_table, exceeds, KeptSmall}
-use Rattle.entries.proofs.WholeTable.{whole_desc-ascend, whole_within}
+use Rattle.entries.specs.WholeTable.{KeptSmall}
 use Rattle.result.specs.Lookup.{lookup_of}
-use Rattle.diagnostics.specs.declared.SelectedInverseDiagnostics.{SelectedInverseDiagnostics}
-use Rattle.diagnostics.specs.declared.Selected.{Selected}
 use Rattle.diagnostics.specs.declared.SelectedInverseStatus.TheVariants.{Complete}
-use Rattle.diagnostics.specs.Selected.{selected_reply_of}
 use Rattle.selection.specs.Selection.{LentOf}
-use Rattle.selection.proofs.Status.{diagnosis_complete}
-use Rattle.exact_entries.proofs.Columns.{places_descend, needed_closed}
-use Rattle.exact_entries.specs.ReadBack.{read_back}
-use Rattle.exact_entries.proofs.ReadBack.{needed_covered, other_covered, lookup_left}
-use Rattle.whole_selection.specs.Call.{WholeCall, WholeLent, WholeRoom, whole_room_of, whole_requests, whole_descendants, whole_set, whole_size, whole_complete, whole_answer, whole_filling}
-use Rattle.whole_selection.specs.Call.{check_steps, exceed_steps, whole_steps, WholeEntries}
-use Rattle.whole_selection.specs.Accepted.{WholeAccepted}
+use Rattle.whole_selection.specs.Call.{WholeCall, whole_requests, whole_descendants, whole_size, whole_answer}
 
 module _ (x : WholeCall) where
   -- the closed set: the requested pairs and the dependencies of its pairs, and no other

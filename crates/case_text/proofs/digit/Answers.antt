@@ -1,5 +1,4 @@
 use Rattle.case_text.specs.Text.{digit_of}
-use borrow.Author.Rules.{rules}
 use borrow.Author.Tests.{lt-ltb, le-ltb}
 use mathlib.Core.Path.{◌∙◌}
 use Rattle.case_text.proofs.digit.Goals as goal

@@ -1,4 +1,3 @@
-use borrow.Author.Rules.{rules}
 use lib.Ieee.{binary64, of_bits}
 use mathlib.Core.Path.{ap, ◌∙◌}
 use Rattle.case_text.proofs.float_value.Goals as goal

@@ -1,5 +1,5 @@
 use Prim.Native.Nat.{ℕ, ◌<◌, ◌-◌, ◌+◌}
-use Rattle.case_text.specs.Text.{digit_more, digit_at, number_from, number_at}
+use Rattle.case_text.specs.Text.{digit_more, digit_at, number_from}
 use Rattle.case_text.proofs.TextLaws.{number_from_end, number_from_stop, number_from_more}
 use borrow.Author.Rules.{rules}
 use borrow.Author.Tests.{lt-ltb, le-ltb}

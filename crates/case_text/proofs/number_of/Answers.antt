@@ -1,5 +1,4 @@
 use Rattle.case_text.specs.Text.{number_at}
-use borrow.Author.Rules.{rules}
 use mathlib.Core.Bool.{Bool, cond}
 use mathlib.Core.Path.{ap, sym, ◌∙◌}
 use Rattle.case_text.proofs.number_of.Goals as goal

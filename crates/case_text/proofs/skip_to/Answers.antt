@@ -1,9 +1,7 @@
 use Prim.Native.Nat.{◌-◌}
-use Rattle.case_text.specs.Text.{past_first}
 use Rattle.case_text.proofs.TextLaws.{begins_within, first_end, first_found, first_more}
 use borrow.Author.Rules.{rules}
-use lib.ListN.{length}
-use mathlib.Core.Path.{◌≡◌, refl, sym, ◌∙◌}
+use mathlib.Core.Path.{refl, sym, ◌∙◌}
 use Rattle.case_text.proofs.skip_to.Goals as goal
 
 pub loop-i-init : goal.loop-i-init

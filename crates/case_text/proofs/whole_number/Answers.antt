@@ -8,7 +8,6 @@ use mir.Syntax.{w64}
 use mir.ValLaws.{to_z-of_z}
 use Rattle.case_text.specs.Text.{number_at, not_below, negated}
 use Rattle.case_text.proofs.TextLaws.{begins_within}
-use Rattle.std.specs.Prelude.{not}
 use Rattle.case_text.proofs.whole_number.Goals as goal
 
 -- the number at p, by whether the byte - stands there

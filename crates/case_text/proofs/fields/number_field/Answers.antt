@@ -1,5 +1,4 @@
 use Rattle.case_text.specs.Text.{past_blanks, number_at}
-use borrow.Author.Rules.{rules}
 use mathlib.Core.Path.{ap, ◌∙◌}
 use Rattle.case_text.proofs.fields.number_field.Goals as goal
 

@@ -1,6 +1,5 @@
 use Rattle.case_text.specs.Items.{whole_at}
 use Rattle.case_text.proofs.ItemLaws.{listing_at}
-use borrow.Author.Rules.{rules}
 use Rattle.case_text.proofs.fields.whole_field.Goals as goal
 
 pub returns : goal.returns

@@ -1,13 +1,8 @@
-use Prim.Native.Nat.{ℕ, ◌≤◌, ◌<◌, ◌-◌}
+use Prim.Native.Nat.{◌≤◌, ◌-◌}
 use Rattle.case_text.specs.Items.{past_items, float_at}
-use Rattle.case_text.proofs.ItemLaws.{past_items_none, past_items_more, filled-step}
-use Rattle.case_text.specs.Text.{past_blanks, past_word, number_at}
-use Rattle.lists.specs.Overwrite.{filled, filled_none}
-use borrow.Author.Rules.{rules}
-use lib.Ieee.{binary64, of_bits}
-use lib.ListN.{length-set, length}
-use mathlib.Core.Path.{◌≡◌, refl, ap, ◌∙◌}
-use native.Mathlib.Omega.{arith}
+use Rattle.lists.specs.Overwrite.{filled}
+use lib.ListN.{length}
+use mathlib.Core.Path.{◌≡◌}
 use Rattle.case_text.proofs.items.put_values.Given as goal
 
 abbrev pub invariant-loop-i : goal.invariant-loop-i

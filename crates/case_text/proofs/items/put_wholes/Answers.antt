@@ -1,5 +1,5 @@
-use Prim.Native.Nat.{ℕ, ◌≤◌, ◌<◌, ◌-◌}
-use Rattle.case_text.specs.Items.{past_items, whole_at}
+use Prim.Native.Nat.{ℕ, ◌<◌, ◌-◌}
+use Rattle.case_text.specs.Items.{whole_at}
 use Rattle.case_text.proofs.ItemLaws.{past_items_none, past_items_more, filled-step}
 use Rattle.case_text.specs.Text.{past_blanks, past_word, whole_number_at}
 use Rattle.lists.specs.Overwrite.{filled, filled_none}

@@ -1,14 +1,8 @@
-use Prim.Native.Nat.{ℕ, ◌≤◌, ◌<◌, ◌-◌}
+use Prim.Native.Nat.{◌≤◌, ◌-◌}
 use Rattle.case_text.specs.Items.{past_items, whole_at}
-use Rattle.case_text.proofs.ItemLaws.{past_items_none, past_items_more, filled-step}
-use Rattle.case_text.specs.Text.{past_blanks, past_word, whole_number_at}
-use Rattle.lists.specs.Overwrite.{filled, filled_none}
-use borrow.Author.Rules.{rules}
-use lib.ListN.{length-set, length}
-use mathlib.Core.Path.{◌≡◌, refl, ap, ◌∙◌}
-use mir.Syntax.{w64}
-use mir.ValLaws.{to_z-of_z}
-use native.Mathlib.Omega.{arith}
+use Rattle.lists.specs.Overwrite.{filled}
+use lib.ListN.{length}
+use mathlib.Core.Path.{◌≡◌}
 use Rattle.case_text.proofs.items.put_wholes.Given as goal
 
 abbrev pub invariant-loop-i : goal.invariant-loop-i

@@ -1,5 +1,5 @@
-use Prim.Native.Nat.{min, ℕ, ◌≤◌, ◌<◌, ◌-◌}
-use Rattle.case_text.specs.Items.{past_items, word_at}
+use Prim.Native.Nat.{min, ℕ, ◌<◌, ◌-◌}
+use Rattle.case_text.specs.Items.{word_at}
 use Rattle.case_text.proofs.ItemLaws.{past_items_none, past_items_more, filled-step}
 use Rattle.case_text.specs.Text.{past_blanks, past_word, number_at}
 use Rattle.lists.specs.Overwrite.{filled, filled_none}

@@ -1,6 +1,5 @@
 use Rattle.case_text.specs.Items.{byte_at}
 use Rattle.case_text.proofs.ItemLaws.{listing}
-use borrow.Author.Rules.{rules}
 use Rattle.case_text.proofs.items.read_bytes.Goals as goal
 
 pub returns : goal.returns

@@ -1,6 +1,5 @@
 use Rattle.case_text.specs.Items.{word_at}
 use Rattle.case_text.proofs.ItemLaws.{listing}
-use borrow.Author.Rules.{rules}
 use Rattle.case_text.proofs.items.read_words.Goals as goal
 
 pub returns : goal.returns

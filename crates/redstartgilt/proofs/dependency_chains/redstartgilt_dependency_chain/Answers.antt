@@ -1,4 +1,3 @@
-use borrow.Author.Rules.{rules}
 use Rattle.redstartgilt.proofs.dependency_chains.redstartgilt_dependency_chain.Goals as goal
 
 pub returns : goal.returns

@@ -1,4 +1,3 @@
-use borrow.Author.Rules.{rules}
 use mathlib.Core.Path.{ap, ◌∙◌}
 use Rattle.verdicts.specs.Number.{reply_number, checked_number-reply}
 use Rattle.redstartgilt.proofs.factors.redstartgilt_check_factor.Goals as goal

@@ -1,5 +1,4 @@
 use Rattle.c_replies.specs.Numbers.{least_numbers}
-use borrow.Author.Rules.{rules}
 use mathlib.Core.Path.{ap, ◌∙◌}
 use Rattle.redstartgilt.proofs.floors.redstartgilt_count_and_least.Goals as goal
 

@@ -1,5 +1,4 @@
 use Rattle.verdicts.specs.Number.{reply_number, checked_number-reply}
-use borrow.Author.Rules.{rules}
 use mathlib.Core.Path.{ap, ◌∙◌}
 use Rattle.redstartgilt.proofs.permutations.redstartgilt_validate.Goals as goal
 

@@ -1,4 +1,3 @@
-use borrow.Author.Rules.{rules}
 use mathlib.Core.Path.{ap, ◌∙◌}
 use Rattle.verdicts.specs.Number.{reply_number, checked_number-reply}
 use Rattle.redstartgilt.proofs.results.redstartgilt_check_result.Goals as goal

@@ -1,5 +1,4 @@
 use Rattle.c_replies.specs.Numbers.{entry_numbers}
-use borrow.Author.Rules.{rules}
 use mathlib.Core.Path.{ap, ◌∙◌}
 use Rattle.redstartgilt.proofs.results.redstartgilt_get.Goals as goal
 

@@ -1,4 +1,3 @@
-use borrow.Author.Rules.{rules}
 use mathlib.Core.Path.{ap₂, ◌∙◌}
 use Rattle.c_replies.specs.Numbers.{counted_numbers}
 use Rattle.redstartgilt.proofs.results.redstartgilt_get_counted.Goals as goal

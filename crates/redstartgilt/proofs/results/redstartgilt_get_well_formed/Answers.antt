@@ -1,4 +1,3 @@
-use borrow.Author.Rules.{rules}
 use mathlib.Core.Path.{ap, ◌∙◌}
 use Rattle.c_replies.specs.Numbers.{entry_numbers}
 use Rattle.redstartgilt.proofs.results.redstartgilt_get_well_formed.Goals as goal

@@ -1,4 +1,3 @@
-use borrow.Author.Rules.{rules}
 use Rattle.redstartgilt.proofs.row_covariances_with_limit.redstartgilt_selected_inverse_transformed_covariances_with_limit.Goals as goal
 
 pub returns : goal.returns

@@ -1,4 +1,3 @@
-use borrow.Author.Rules.{rules}
 use Rattle.redstartgilt.proofs.selected_entries.redstartgilt_selected_inverse_transformed_covariances.Goals as goal
 
 pub returns : goal.returns

@@ -1,4 +1,3 @@
-use borrow.Author.Rules.{rules}
 use Rattle.redstartgilt.proofs.whole_variances.redstartgilt_track_variances_whole.Goals as goal
 
 pub returns : goal.returns

@@ -1,4 +1,3 @@
-use borrow.Author.Rules.{rules}
 use mathlib.Core.Path.{ap, ◌∙◌}
 use Rattle.c_replies.specs.Numbers.{bounds_numbers}
 use Rattle.redstartgilt.proofs.whole_variances.redstartgilt_variance_bounds_whole.Goals as goal

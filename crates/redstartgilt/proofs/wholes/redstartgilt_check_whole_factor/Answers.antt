@@ -1,4 +1,3 @@
-use borrow.Author.Rules.{rules}
 use mathlib.Core.Path.{ap, ◌∙◌}
 use Rattle.verdicts.specs.Number.{reply_number, checked_number-reply}
 use Rattle.redstartgilt.proofs.wholes.redstartgilt_check_whole_factor.Goals as goal

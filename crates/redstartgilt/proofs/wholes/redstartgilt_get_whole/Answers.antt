@@ -1,4 +1,3 @@
-use borrow.Author.Rules.{rules}
 use mathlib.Core.Path.{ap, ◌∙◌}
 use Rattle.c_replies.specs.Numbers.{whole_entry_numbers}
 use Rattle.redstartgilt.proofs.wholes.redstartgilt_get_whole.Goals as goal

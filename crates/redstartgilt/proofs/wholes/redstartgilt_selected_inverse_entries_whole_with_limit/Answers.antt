@@ -1,4 +1,3 @@
-use borrow.Author.Rules.{rules}
 use Rattle.redstartgilt.proofs.wholes.redstartgilt_selected_inverse_entries_whole_with_limit.Goals as goal
 
 pub returns : goal.returns

@@ -1,6 +1,5 @@
 use mathlib.Core.Path.{ap, ◌∙◌}
 use lib.Ieee.{Float, eq, of_bits}
-use borrow.Author.Rules.{rules}
 use Rattle.refusal.specs.Steps.{Reply}
 use Rattle.columns.specs.Kept.{f0}
 use Rattle.diagnostics.specs.declared.SelectedInverseDiagnostics.{SelectedInverseDiagnostics}

@@ -1,4 +1,3 @@
-use borrow.Author.Rules.{rules}
 use Rattle.starred_table.specs.Counts.{counted_complete}
 use Rattle.starred_table.specs.Table.{closed_sets}
 use Rattle.starred.proofs.closed_sets.requests_of_f2.Goals as goal

@@ -4,7 +4,6 @@ use Rattle.floor.specs.declared.Stabilized.{Stabilized}
 use lib.Ieee.{eq}
 use borrow.Author.Tests.{eq-eqb, ne_eqb}
 use mathlib.Core.Bool.{Bool, ◌&&◌}
-use borrow.Author.Rules.{rules}
 use Prim.Native.Nat.{◌-◌}
 use mathlib.Core.Path.{ap, sym, ◌∙◌}
 use Rattle.starred.proofs.floors.stabilized.Goals as goal

@@ -3,7 +3,6 @@ use mathlib.Core.Bool.{true}
 use mathlib.Core.List.{List}
 use lib.ListN.{get_or}
 use lib.Ieee.{Float, nan, binary64, eq, of_int, of_bits}
-use borrow.Author.Rules.{rules}
 use Rattle.refusal.specs.Steps.{Reply}
 use Rattle.diagnostics.specs.declared.SelectedInverseDiagnostics.{SelectedInverseDiagnostics}
 use Rattle.starred_table.specs.Counts.{counted_of, shows_complete}

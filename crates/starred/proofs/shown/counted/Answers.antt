@@ -1,4 +1,3 @@
-use borrow.Author.Rules.{rules}
 use Rattle.starred.proofs.shown.counted.Goals as goal
 
 pub returns-in-Answered : goal.returns-in-Answered

@@ -1,4 +1,3 @@
-use borrow.Author.Rules.{rules}
 use Rattle.starred.proofs.shown.has_ratio.Goals as goal
 
 pub returns-in-Answered : goal.returns-in-Answered

@@ -1,4 +1,3 @@
-use borrow.Author.Rules.{rules}
 use Rattle.starred.proofs.shown.is_absent.Goals as goal
 
 pub returns-in-Refused-entry : goal.returns-in-Refused-entry

@@ -1,4 +1,3 @@
-use borrow.Author.Rules.{rules}
 use Rattle.starred.proofs.shown.is_value.Goals as goal
 
 pub returns-in-Value : goal.returns-in-Value

@@ -1,5 +1,4 @@
 use lib.Ieee.{of_bits, of_int}
-use borrow.Author.Rules.{rules}
 use Rattle.starred.proofs.values.f2_entry.Goals as goal
 
 -- src/values.rt:16:1

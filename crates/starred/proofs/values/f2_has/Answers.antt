@@ -1,5 +1,4 @@
 use mathlib.Core.Path.{ap, ◌∙◌}
-use borrow.Author.Rules.{rules}
 use Rattle.selected_entry.specs.SelectedEntry.{EntryAnswer}
 use Rattle.starred_table.specs.Entries.{is_value}
 use Rattle.starred.proofs.values.f2_has.Goals as goal

@@ -1,6 +1,5 @@
 use mathlib.Core.Path.{ap, ◌∙◌}
 use lib.Ieee.{of_bits, of_int, eq, neg}
-use borrow.Author.Rules.{rules}
 use Rattle.columns.specs.Examples.{whole}
 use Rattle.selected_entry.specs.SelectedEntry.{EntryAnswer}
 use Rattle.starred_table.specs.Entries.{is_value, is_absent}
