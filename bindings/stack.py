@@ -21,8 +21,8 @@ OUTSIDE = {"memset", "memcpy", "memmove", "memcmp", "bcmp"}
 OUTSIDE_BYTES = 512
 # Functions that call themselves, and how deep at most: `search` goes on in at most half of its part.
 NESTED = {"column_search::search": 64}
-# A large frame is touched page by page: these steps, the first two of which hold its end and its size.
-PROBE = [r"mov +%rsp,%r11", r"sub +\$(0x[0-9a-f]+),%r11", r"sub +\$0x1000,%rsp", r"movq? +\$0x0,\(%rsp\)", r"cmp +%r11,%rsp", r"jne .*"]
+# A large frame is touched in steps of at most a page: these, the first two of which hold its end and its size.
+PROBE = [r"mov +%rsp,%r11", r"sub +\$(0x[0-9a-f]+),%r11", r"sub +\$0x[0-9a-f]+,%rsp", r"movq? +\$0x0,\(%rsp\)", r"cmp +%r11,%rsp", r"jne .*"]
 
 
 class Fault(Exception):
@@ -109,9 +109,9 @@ def followed(name, code, places):
                 todo.append((at + 1, depth))
         elif operation.startswith(("ret", "ud2")):
             continue
-        elif operation.startswith("push"):
+        elif operation in ("push", "pushq"):
             todo.append((at + 1, depth + WORD))
-        elif operation.startswith("pop"):
+        elif operation in ("pop", "popq"):
             todo.append((at + 1, depth - WORD))
         elif found := re.fullmatch(r"(sub|add)q? +\$(-?0x[0-9a-f]+),%rsp", text):
             size = int(found.group(2), 16)

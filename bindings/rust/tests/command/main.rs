@@ -92,7 +92,10 @@ impl Folder {
             .stderr(Stdio::piped())
             .spawn()
             .unwrap();
-        run.stdin.take().unwrap().write_all(input.as_bytes()).unwrap();
+        // a command that refuses its words may end before it reads
+        if let Err(error) = run.stdin.take().unwrap().write_all(input.as_bytes()) {
+            assert_eq!(error.kind(), std::io::ErrorKind::BrokenPipe, "{words:?}");
+        }
         run.wait_with_output().unwrap()
     }
 
