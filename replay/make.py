@@ -25,8 +25,7 @@ What the answers file holds is the Rust's answer with these changes:
 - the marks of a diagonal list are 1 where the Rust's lookup of the diagonal finds a value; marks that are
   moved with their values go where the permutation says, and the Rust moves the values alone;
 - the Rust has no covariances of two operators: of `covar` it is asked for the entries of the requests, with the
-  limit, and the outputs are summed here from these. Nor does it take a limit for the diagonal in original order and
-  for an operator's variances: where `diagorig` and `opvar` have one, it is asked in the same way;
+  default limit, and the outputs are summed here from these;
 - `route` and `finish`, which a call does not tell, are left out.
 
 The Rust has no reader of Matrix Market files. The answers of kind `mmread` are those of `read_file`
@@ -75,7 +74,6 @@ SETS = {
     "pattern": (70, 4000, 12),
     "mmread": (100, 420, 12),
     "mmwrite": (100, 1500, 12),
-    "limits": (90, 2000, 6),
 }
 
 # ---- the text form
@@ -135,9 +133,9 @@ READ = {
     "permfrom": ("perm",),
     "permapply": ("perm", "input"),
     "permmarked": ("perm", "input", "marks"),
-    "diagorig": FACTOR + ("perm", "limit"),
-    "opvar": FACTOR + OPERATOR + ("limit",),
-    "covar": FACTOR + OPERATOR_A + OPERATOR_B + ("arows", "brows", "limit"),
+    "diagorig": FACTOR + ("perm",),
+    "opvar": FACTOR + OPERATOR,
+    "covar": FACTOR + OPERATOR_A + OPERATOR_B + ("arows", "brows"),
     "chain": FACTOR + ("rdim", "rrows", "rcols", "prow", "pcol"),
     "floor": ("floor", "scale", "input"),
     "least": ("input",),
@@ -978,29 +976,12 @@ def covar_terms(f):
         yield row_terms(f, OPERATOR_A, a), row_terms(f, OPERATOR_B, b)
 
 
-def output_terms(kind, f):
-    """The terms of each output of a call: those of the one row, and of the other."""
-    if kind == "covar":
-        return covar_terms(f)
-    one = value_bits("1.0")
-    if kind == "diagorig":
-        rows = [[(place, one)] for place in f["perm"]]
-    else:
-        rows = [row_terms(f, OPERATOR, row) for row in range(len(f["ostarts"]) - 1)]
-    return zip(rows, rows)
+def covar_requests(f):
+    """Every column of A's row with every column of B's row, put in order, each pair once."""
+    return {(max(a, b), min(a, b)) for one, other in covar_terms(f) for a, _ in one for b, _ in other}
 
 
-def output_requests(kind, f):
-    """Every column of the one row with every column of the other, put in order, each pair once."""
-    return {(max(a, b), min(a, b)) for one, other in output_terms(kind, f) for a, _ in one for b, _ in other}
-
-
-def by_entries(kind, f):
-    """Whether the Rust is asked for the entries that the outputs of the call are sums of."""
-    return kind == "covar" or (kind in ("diagorig", "opvar") and f.get("limit", "default") != "default")
-
-
-def output_answer(kind, f, got):
+def covar_answer(f, got):
     """The Rust's answer to the request for entries, with the outputs where it is Complete."""
     if got["status"] != ["Complete"]:
         return got
@@ -1008,11 +989,7 @@ def output_answer(kind, f, got):
     places = ((rows[p], c, p) for c in range(f["n"]) for p in range(starts[c], starts[c + 1]))
     entry = {(r, c): number_of(got["values"][1 + p]) for r, c, p in places}
     out = []
-    if kind == "diagorig":
-        # as they are: a sum from 0.0 would change -0.0
-        found = [entry[place, place] for place in f["perm"]]
-        return {**got, "out": [str(len(found))] + ["nan" if math.isnan(x) else struct.pack(">d", x).hex() for x in found]}
-    for one, other in output_terms(kind, f):
+    for one, other in covar_terms(f):
         total = 0.0
         for a, v in one:
             for b, w in other:
@@ -1371,8 +1348,8 @@ def expected(kind, f, answer):
     number, difference = refusal(kind, f), None
     if kind in ANSWERS and not number:
         got = ANSWERS[kind](f)
-    if by_entries(kind, f) and not number:
-        got = output_answer(kind, f, got)
+    if kind == "covar" and not number:
+        got = covar_answer(f, got)
     if kind == "wentries" and not number:
         doubles, got = got, whole_answer(f)
         check_doubles(f, got, doubles)
@@ -1406,14 +1383,14 @@ def run(program, *args, text=""):
 
 
 def asked(name, kind, f):
-    """What the Rust is asked for a case: of values with marks the values alone, of covariances, and of variances with a limit,
-    the entries that they need, of whole numbers the same as doubles, of a factor with pivots the one with roots."""
+    """What the Rust is asked for a case: of values with marks the values alone, of covariances the entries that they need, of
+    whole numbers the same as doubles, of a factor with pivots the one with roots."""
     if kind == "permmarked":
         return name, "permapply", {x: f[x] for x in READ["permapply"]}
-    if by_entries(kind, f):
-        rows, cols = ([pair[k] for pair in sorted(output_requests(kind, f))] for k in (0, 1))
+    if kind == "covar":
+        rows, cols = ([pair[k] for pair in sorted(covar_requests(f))] for k in (0, 1))
         factor = {x: f[x] for x in FACTOR}
-        return name, "entries", {**factor, "rdim": f["n"], "rrows": rows, "rcols": cols, "limit": f.get("limit", "default")}
+        return name, "entries", {**factor, "rdim": f["n"], "rrows": rows, "rcols": cols, "limit": "default"}
     if kind == "wentries":
         doubles = {x: f[x] for x in READ["entries"] if x in f}
         return name, "entries", {**doubles, "values": [struct.pack(">d", x).hex() for x in f["wvalues"]]}
@@ -2159,38 +2136,19 @@ def some_covar(programs, *seed):
         for _ in range(chance.pick((0, 0, 0, 0, 0, 1, 1, 2))):
             spoil_covar(chance, case)
         if chance.one_of(3):
-            case.update(some_lists(chance, case, len(case["arows"])))
+            case.update(some_lists(chance, case))
         yield "covar-" + i, "covar", case
 
 
-def some_lists(chance, f, outputs):
-    """Result lists, scratch and so many outputs, as long as needed, a few places more, or now and then one less."""
-    n, entries = f["n"], min(limit_of(f), triangle(f["n"]))
-    needs = {"lstarts": n + 1, "lrows": entries, "lvalues": entries, "lscratch": scratch_words(n), "lout": outputs}
+def some_lists(chance, f):
+    """Result lists, scratch and output as long as needed, a few places more, or now and then one less."""
+    n, entries = f["n"], min(10 * len(f["rows"]), triangle(f["n"]))
+    needs = {"lstarts": n + 1, "lrows": entries, "lvalues": entries, "lscratch": scratch_words(n), "lout": len(f["arows"])}
     lists = {}
     for name, need in needs.items():
         length = max(need + (-1 if chance.one_of(20) else chance.pick((0, 0, 1, 3))), 0)
         lists[name] = [SEVENS if name in VALUES else 7777] * length
     return lists
-
-
-def some_limits(programs, *seed):
-    """Cases of the sets diagorig, opvar and covar with a limit: mostly about the closed set's size, now and then the default one."""
-    chance = Chance(int(seed[0]) if seed else 1)
-    texts = (run(os.path.join(programs, "generate"), name, *seed) for name in ("diagorig", "opvar"))
-    cases = [(i, kind, fields(lines)) for i, kind, lines in itertools.chain.from_iterable(map(blocks, texts))]
-    for i, kind, f in itertools.chain(cases, some_covar(programs, *seed)):
-        if kind not in ("diagorig", "opvar", "covar") or not fits(kind, f):
-            continue
-        sound = refusal(kind, f) in (0, 7, 8)
-        size = len(closed_set(f, output_requests(kind, f), triangle(f["n"]))) if sound else chance.below(9)
-        picks = (size, size, max(size - 1, 0), size + 1, 0, 10 * len(f["rows"]), "default", 2**32 + size, 2**64 - 1)
-        f = {**f, "limit": chance.pick(picks)}
-        # lists as long as the limit asks
-        if sound and chance.one_of(3):
-            outputs = f["n"] if kind == "diagorig" else len(f["ostarts"]) - 1 if kind == "opvar" else len(f["arows"])
-            f.update(some_lists(chance, f, outputs))
-        yield "limit-" + i, kind, f
 
 
 def answered(programs, cases):
@@ -2206,8 +2164,6 @@ def generated(programs, name, *seed):
         return [finished(i, name, f, None) for i, f in MADE[name](*seed) if fits(name, f)]
     if name == "covar":
         return answered(programs, [c for c in some_covar(programs, *seed) if fits(*c[1:])])
-    if name == "limits":
-        return answered(programs, [c for c in some_limits(programs, *seed) if fits(*c[1:])])
     if name == "wentries":
         return answered(programs, [c for c in some_wholes(*seed) if fits(*c[1:])])
     if name == "ldl":

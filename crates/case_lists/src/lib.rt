@@ -107,17 +107,9 @@ pub fn columns_of<'a>(text: &[u8], of: u8, list: &'a mut [u32]) -> &'a [u32] {
     words_of(text, &label, list)
 }
 
-// The dimensions of the operators o, a and b, and the other lists of an operator.
+// The dimension of the operator o, and the other lists of an operator.
 pub fn operator_dimension(text: &[u8]) -> usize {
     number_field(text, b"\nncols ")
-}
-
-pub fn a_dimension(text: &[u8]) -> usize {
-    number_field(text, b"\nancols ")
-}
-
-pub fn b_dimension(text: &[u8]) -> usize {
-    number_field(text, b"\nbncols ")
 }
 
 pub fn row_starts_of<'a>(text: &[u8], of: u8, list: &'a mut [u32]) -> &'a [u32] {

@@ -1,4 +1,4 @@
-// The limit of a case, which may be absent.
+// The limit of a case.
 use case_text::{begins, decimal, skip_to};
 
 #[derive(Clone, Copy)]
@@ -9,9 +9,6 @@ pub enum Limit {
 
 pub fn limit_of(text: &[u8]) -> Limit {
     let p = skip_to(text, 0, b"\nlimit ");
-    if p == text.len() {
-        return Limit::Default;
-    }
     if begins(text, p, b"default") {
         return Limit::Default;
     }
