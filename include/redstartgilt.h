@@ -720,7 +720,7 @@ static inline const char *redstartgilt_refusal_words(uint32_t number) {
         return "a list lent for results, requests, a chain, scratch or output is too short";
     case REDSTARTGILT_NOT_COVERED:
         return "not covered: the pair is not among the selected entries, or all diagonals need more entries than "
-            "the limit";
+            "the limit of 10 times the stored entries";
     case REDSTARTGILT_BROKEN_OPERATOR:
         return "broken operator: its row starts must go from 0, never falling, to the number of columns, with as "
             "many weights, its columns must be below the dimension, row pairs must name its rows, and a row with "

@@ -41,7 +41,7 @@ int main(void)
     printf("factor: refusal %u\n", (unsigned)refusal);
     refusal = redstartgilt_check_factor(
         2, starts, COUNT(starts), falling, COUNT(falling), values, COUNT(values));
-    printf("factor with falling rows: refusal %u, %s\n", (unsigned)refusal, redstartgilt_refusal_words(refusal));
+    printf("factor with falling rows: refusal %u\n", (unsigned)refusal);
 
     redstartgilt_selected reply = redstartgilt_selected_inverse_entries_with_limit(
         2, starts, COUNT(starts), rows, COUNT(rows), values, COUNT(values),
@@ -324,8 +324,8 @@ int main(void)
         2, request_rows, COUNT(request_rows), request_columns, COUNT(request_columns),
         result_starts, COUNT(result_starts), result_rows, COUNT(result_rows), result_values, COUNT(result_values),
         scratch, scratch_len - 1);
-    printf("scratch one word short: refusal %u, %s\n",
-        (unsigned)reply.refusal, redstartgilt_refusal_words(reply.refusal));
+    printf("scratch one word short: refusal %u\n", (unsigned)reply.refusal);
+    printf("in words: %s\n", redstartgilt_refusal_words(reply.refusal));
     free(scratch);
     free(chain_scratch);
     return 0;

@@ -23,7 +23,8 @@ REASONS = {
     6: "not positive definite: a column of the factor has no diagonal entry, or one that is at most 0, or a pivot is at "
     "most 0",
     7: "a list lent for results, requests, a chain, scratch or output is too short",
-    8: "not covered: the pair is not among the selected entries, or all diagonals need more entries than the limit",
+    8: "not covered: the pair is not among the selected entries, or all diagonals need more entries than the limit of 10 "
+    "times the stored entries",
     9: "broken operator: its row starts must go from 0, never falling, to the number of columns, with as many weights, "
     "its columns must be below the dimension, row pairs must name its rows, and a row with ranges must have each column "
     "once",

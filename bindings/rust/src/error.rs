@@ -181,7 +181,7 @@ impl Error {
             Error::TooShort => "a list lent for results, requests, a chain, scratch or output is too short",
             Error::NotCovered => {
                 "not covered: the pair is not among the selected entries, or all diagonals need more entries than the \
-                 limit"
+                 limit of 10 times the stored entries"
             }
             Error::BrokenOperator => {
                 "broken operator: its row starts must go from 0, never falling, to the number of columns, with as many \

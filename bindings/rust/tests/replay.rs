@@ -26,12 +26,6 @@ impl<'a> Case<'a> {
         self.word(name).parse().unwrap()
     }
 
-    /// The limit of a case that may be without one; none for the default one.
-    fn limit(&self) -> Option<usize> {
-        let given = self.has("limit") && self.word("limit") != "default";
-        given.then(|| self.number("limit"))
-    }
-
     fn items(&self, name: &str) -> &[&'a str] {
         let words = &self.fields[name];
         assert_eq!(words[0].parse::<usize>().unwrap(), words.len() - 1, "{name}");
@@ -495,54 +489,28 @@ fn selected(answer: &mut String, case: &Case<'_>) {
         }
         "diagorig" => {
             let permutation = case.words("perm");
-            match case.limit() {
-                Some(limit) => unsafe {
-                    sys::redstartgilt_selected_inverse_diag_with_limit(
-                        n,
-                        starts.as_ptr(),
-                        starts.len(),
-                        rows.as_ptr(),
-                        rows.len(),
-                        values.as_ptr(),
-                        values.len(),
-                        permutation.as_ptr(),
-                        permutation.len(),
-                        limit,
-                        result_starts.as_mut_ptr(),
-                        result_starts.len(),
-                        result_rows.as_mut_ptr(),
-                        result_rows.len(),
-                        result_values.as_mut_ptr(),
-                        result_values.len(),
-                        scratch.as_mut_ptr(),
-                        scratch.len(),
-                        output.as_mut_ptr(),
-                        output.len(),
-                    )
-                },
-                None => unsafe {
-                    sys::redstartgilt_selected_inverse_diag_with_diagnostics(
-                        n,
-                        starts.as_ptr(),
-                        starts.len(),
-                        rows.as_ptr(),
-                        rows.len(),
-                        values.as_ptr(),
-                        values.len(),
-                        permutation.as_ptr(),
-                        permutation.len(),
-                        result_starts.as_mut_ptr(),
-                        result_starts.len(),
-                        result_rows.as_mut_ptr(),
-                        result_rows.len(),
-                        result_values.as_mut_ptr(),
-                        result_values.len(),
-                        scratch.as_mut_ptr(),
-                        scratch.len(),
-                        output.as_mut_ptr(),
-                        output.len(),
-                    )
-                },
+            unsafe {
+                sys::redstartgilt_selected_inverse_diag_with_diagnostics(
+                    n,
+                    starts.as_ptr(),
+                    starts.len(),
+                    rows.as_ptr(),
+                    rows.len(),
+                    values.as_ptr(),
+                    values.len(),
+                    permutation.as_ptr(),
+                    permutation.len(),
+                    result_starts.as_mut_ptr(),
+                    result_starts.len(),
+                    result_rows.as_mut_ptr(),
+                    result_rows.len(),
+                    result_values.as_mut_ptr(),
+                    result_values.len(),
+                    scratch.as_mut_ptr(),
+                    scratch.len(),
+                    output.as_mut_ptr(),
+                    output.len(),
+                )
             }
         }
         "covar" => {
@@ -550,149 +518,76 @@ fn selected(answer: &mut String, case: &Case<'_>) {
             let (b_row_starts, b_columns) = (case.words("bstarts"), case.words("bcols"));
             let (a_weights, b_weights) = (case.values("aweights"), case.values("bweights"));
             let (a_rows, b_rows) = (case.words("arows"), case.words("brows"));
-            match case.limit() {
-                Some(limit) => unsafe {
-                    sys::redstartgilt_selected_inverse_transformed_covariances_with_limit(
-                        n,
-                        starts.as_ptr(),
-                        starts.len(),
-                        rows.as_ptr(),
-                        rows.len(),
-                        values.as_ptr(),
-                        values.len(),
-                        case.number("ancols"),
-                        a_row_starts.as_ptr(),
-                        a_row_starts.len(),
-                        a_columns.as_ptr(),
-                        a_columns.len(),
-                        a_weights.as_ptr(),
-                        a_weights.len(),
-                        case.number("bncols"),
-                        b_row_starts.as_ptr(),
-                        b_row_starts.len(),
-                        b_columns.as_ptr(),
-                        b_columns.len(),
-                        b_weights.as_ptr(),
-                        b_weights.len(),
-                        a_rows.as_ptr(),
-                        a_rows.len(),
-                        b_rows.as_ptr(),
-                        b_rows.len(),
-                        limit,
-                        result_starts.as_mut_ptr(),
-                        result_starts.len(),
-                        result_rows.as_mut_ptr(),
-                        result_rows.len(),
-                        result_values.as_mut_ptr(),
-                        result_values.len(),
-                        scratch.as_mut_ptr(),
-                        scratch.len(),
-                        output.as_mut_ptr(),
-                        output.len(),
-                    )
-                },
-                None => unsafe {
-                    sys::redstartgilt_selected_inverse_transformed_covariances(
-                        n,
-                        starts.as_ptr(),
-                        starts.len(),
-                        rows.as_ptr(),
-                        rows.len(),
-                        values.as_ptr(),
-                        values.len(),
-                        case.number("ancols"),
-                        a_row_starts.as_ptr(),
-                        a_row_starts.len(),
-                        a_columns.as_ptr(),
-                        a_columns.len(),
-                        a_weights.as_ptr(),
-                        a_weights.len(),
-                        case.number("bncols"),
-                        b_row_starts.as_ptr(),
-                        b_row_starts.len(),
-                        b_columns.as_ptr(),
-                        b_columns.len(),
-                        b_weights.as_ptr(),
-                        b_weights.len(),
-                        a_rows.as_ptr(),
-                        a_rows.len(),
-                        b_rows.as_ptr(),
-                        b_rows.len(),
-                        result_starts.as_mut_ptr(),
-                        result_starts.len(),
-                        result_rows.as_mut_ptr(),
-                        result_rows.len(),
-                        result_values.as_mut_ptr(),
-                        result_values.len(),
-                        scratch.as_mut_ptr(),
-                        scratch.len(),
-                        output.as_mut_ptr(),
-                        output.len(),
-                    )
-                },
+            unsafe {
+                sys::redstartgilt_selected_inverse_transformed_covariances(
+                    n,
+                    starts.as_ptr(),
+                    starts.len(),
+                    rows.as_ptr(),
+                    rows.len(),
+                    values.as_ptr(),
+                    values.len(),
+                    case.number("ancols"),
+                    a_row_starts.as_ptr(),
+                    a_row_starts.len(),
+                    a_columns.as_ptr(),
+                    a_columns.len(),
+                    a_weights.as_ptr(),
+                    a_weights.len(),
+                    case.number("bncols"),
+                    b_row_starts.as_ptr(),
+                    b_row_starts.len(),
+                    b_columns.as_ptr(),
+                    b_columns.len(),
+                    b_weights.as_ptr(),
+                    b_weights.len(),
+                    a_rows.as_ptr(),
+                    a_rows.len(),
+                    b_rows.as_ptr(),
+                    b_rows.len(),
+                    result_starts.as_mut_ptr(),
+                    result_starts.len(),
+                    result_rows.as_mut_ptr(),
+                    result_rows.len(),
+                    result_values.as_mut_ptr(),
+                    result_values.len(),
+                    scratch.as_mut_ptr(),
+                    scratch.len(),
+                    output.as_mut_ptr(),
+                    output.len(),
+                )
             }
         }
         _ => {
             let (row_starts, columns) = (case.words("ostarts"), case.words("ocols"));
             let weights = case.values("oweights");
-            match case.limit() {
-                Some(limit) => unsafe {
-                    sys::redstartgilt_selected_inverse_transformed_diag_with_limit(
-                        n,
-                        starts.as_ptr(),
-                        starts.len(),
-                        rows.as_ptr(),
-                        rows.len(),
-                        values.as_ptr(),
-                        values.len(),
-                        case.number("ncols"),
-                        row_starts.as_ptr(),
-                        row_starts.len(),
-                        columns.as_ptr(),
-                        columns.len(),
-                        weights.as_ptr(),
-                        weights.len(),
-                        limit,
-                        result_starts.as_mut_ptr(),
-                        result_starts.len(),
-                        result_rows.as_mut_ptr(),
-                        result_rows.len(),
-                        result_values.as_mut_ptr(),
-                        result_values.len(),
-                        scratch.as_mut_ptr(),
-                        scratch.len(),
-                        output.as_mut_ptr(),
-                        output.len(),
-                    )
-                },
-                None => unsafe {
-                    sys::redstartgilt_selected_inverse_transformed_diag(
-                        n,
-                        starts.as_ptr(),
-                        starts.len(),
-                        rows.as_ptr(),
-                        rows.len(),
-                        values.as_ptr(),
-                        values.len(),
-                        case.number("ncols"),
-                        row_starts.as_ptr(),
-                        row_starts.len(),
-                        columns.as_ptr(),
-                        columns.len(),
-                        weights.as_ptr(),
-                        weights.len(),
-                        result_starts.as_mut_ptr(),
-                        result_starts.len(),
-                        result_rows.as_mut_ptr(),
-                        result_rows.len(),
-                        result_values.as_mut_ptr(),
-                        result_values.len(),
-                        scratch.as_mut_ptr(),
-                        scratch.len(),
-                        output.as_mut_ptr(),
-                        output.len(),
-                    )
-                },
+            unsafe {
+                sys::redstartgilt_selected_inverse_transformed_diag(
+                    n,
+                    starts.as_ptr(),
+                    starts.len(),
+                    rows.as_ptr(),
+                    rows.len(),
+                    values.as_ptr(),
+                    values.len(),
+                    case.number("ncols"),
+                    row_starts.as_ptr(),
+                    row_starts.len(),
+                    columns.as_ptr(),
+                    columns.len(),
+                    weights.as_ptr(),
+                    weights.len(),
+                    result_starts.as_mut_ptr(),
+                    result_starts.len(),
+                    result_rows.as_mut_ptr(),
+                    result_rows.len(),
+                    result_values.as_mut_ptr(),
+                    result_values.len(),
+                    scratch.as_mut_ptr(),
+                    scratch.len(),
+                    output.as_mut_ptr(),
+                    output.len(),
+                )
             }
         }
     };

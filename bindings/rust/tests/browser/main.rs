@@ -175,18 +175,6 @@ fn contents(page: &mut Page<'_>, harbour: &Harbour) {
         "{legend}"
     );
     let diagnosis = page.value("document.getElementById('diagnosis').innerText.replace(/\\s+/g, ' ')");
-    let numbers = harbour.lines.iter().filter_map(|line| line[3].parse::<f64>().ok());
-    let numbers = numbers.collect::<Vec<_>>();
-    let variances = page.value("document.getElementById('variances').innerText.replace(/\\s+/g, ' ')");
-    for (name, expected, most) in [
-        ("least", numbers.iter().copied().fold(f64::MAX, f64::min), 0.0),
-        ("mean", numbers.iter().sum::<f64>() / numbers.len() as f64, 1e-4),
-        ("largest", numbers.iter().copied().fold(f64::MIN, f64::max), 0.0),
-    ] {
-        let (_, rest) = variances.split_once(&format!("{name} ")).unwrap();
-        let found = rest.split(' ').next().unwrap().parse::<f64>().unwrap();
-        assert!((found - expected).abs() <= most, "{name}: {found} {expected}");
-    }
     for words in [
         "status Complete",
         "pairs requested 24",
@@ -441,7 +429,13 @@ fn small_screen(page: &mut Page<'_>, harbour: &Harbour) {
         assert!(page.number("document.documentElement.scrollWidth") <= width as f64);
         for (column, row) in [(12, 9), (2, 3)] {
             let place = middle(page, column, row);
-            tap(page, place, column, row);
+            page.tap(place);
+            // A tap becomes a click a moment later.
+            let spoken = format!("column {column}, row {row}");
+            let until = Instant::now() + Duration::from_secs(10);
+            while !page.text_of("spoken").starts_with(&spoken) && Instant::now() < until {
+                thread::sleep(Duration::from_millis(20));
+            }
             check_selected(page, harbour, column, row);
             check_in_sight(page, height);
         }
@@ -452,163 +446,6 @@ fn small_screen(page: &mut Page<'_>, harbour: &Harbour) {
             check_in_sight(page, height);
         }
     }
-}
-
-/// A tap after which this cell is selected.
-fn tap(page: &mut Page<'_>, place: (f64, f64), column: usize, row: usize) {
-    page.tap(place);
-    // A tap becomes a click a moment later.
-    let spoken = format!("column {column}, row {row}");
-    let until = Instant::now() + Duration::from_secs(10);
-    while !page.text_of("spoken").starts_with(&spoken) && Instant::now() < until {
-        thread::sleep(Duration::from_millis(20));
-    }
-}
-
-/// The buttons that move as the arrow keys do: in sight on a small screen, large enough for a finger, named, and none on a
-/// large one.
-fn arrows(page: &mut Page<'_>, harbour: &Harbour) {
-    let shown = "getComputedStyle(document.getElementById('arrows')).display";
-    page.screen(1280, 900, false);
-    page.open(&harbour.html);
-    assert_eq!(page.value(shown), "none");
-    for (width, height) in [(390, 844), (360, 640), (844, 390)] {
-        page.screen(width, height, true);
-        page.open(&harbour.html);
-        assert_eq!(page.value(shown), "grid");
-        assert!(page.number("document.documentElement.scrollWidth") <= width as f64);
-        // The first press selects the first cell, the others move; at an edge it stays.
-        for (key, name, column, row) in [
-            ("ArrowDown", "Down", 1, 1),
-            ("ArrowRight", "Right", 2, 1),
-            ("ArrowDown", "Down", 2, 2),
-            ("ArrowLeft", "Left", 1, 2),
-            ("ArrowLeft", "Left", 1, 2),
-            ("ArrowUp", "Up", 1, 1),
-            ("ArrowUp", "Up", 1, 1),
-            ("ArrowRight", "Right", 2, 1),
-        ] {
-            let button = format!("document.querySelector('#arrows [data-key={key}]')");
-            assert_eq!(page.value(&format!("{button}.getAttribute('aria-label')")), name);
-            let mut of = |part: &str| page.number(&format!("{button}.getBoundingClientRect().{part}"));
-            let [left, top, button_width, button_height] = ["left", "top", "width", "height"].map(&mut of);
-            assert!(button_width >= 44.0 && button_height >= 44.0);
-            assert!(left >= 0.0 && left + button_width <= width as f64);
-            assert!(top >= 0.0 && top + button_height <= height as f64);
-            tap(
-                page,
-                (left + button_width / 2.0, top + button_height / 2.0),
-                column,
-                row,
-            );
-            check_selected(page, harbour, column, row);
-            check_in_sight(page, height);
-        }
-        // To the last row and column by the same buttons, in sight all the way.
-        for (key, last, steps) in [
-            ("ArrowDown", (2, ROWS), ROWS - 1),
-            ("ArrowRight", (COLUMNS, ROWS), COLUMNS - 2),
-        ] {
-            for _ in 0..steps {
-                page.value(&format!("document.querySelector('#arrows [data-key={key}]').click()"));
-                check_in_sight(page, height);
-            }
-            check_selected(page, harbour, last.0, last.1);
-        }
-    }
-}
-
-/// A large screen that is touched has the buttons too.
-fn arrows_on_a_tablet(page: &mut Page<'_>, harbour: &Harbour) {
-    page.screen(1180, 820, true);
-    page.open(&harbour.html);
-    for (key, column, row) in [("ArrowDown", 1, 1), ("ArrowDown", 1, 2), ("ArrowRight", 2, 2)] {
-        let button = format!("document.querySelector('#arrows [data-key={key}]')");
-        let mut of = |part: &str| page.number(&format!("{button}.getBoundingClientRect().{part}"));
-        let place = (of("left") + of("width") / 2.0, of("top") + of("height") / 2.0);
-        tap(page, place, column, row);
-        check_selected(page, harbour, column, row);
-    }
-}
-
-/// A map that is higher than the window: the readout stays in sight beside it, and close to it.
-fn tall(page: &mut Page<'_>, folder: &Path) {
-    const HEIGHT: usize = 600;
-    for (columns, rows) in [(8, 60), (8, 200)] {
-        let cells = columns * rows;
-        let mut text = format!("%%MatrixMarket matrix coordinate real general\n{cells} {cells} {cells}\n");
-        for cell in 1..=cells {
-            text.push_str(&format!("{cell} {cell} {}\n", 1.0 + 1.0 / cell as f64));
-        }
-        std::fs::write(folder.join("tall.mtx"), text).unwrap();
-        let output = Command::new(env!("CARGO_BIN_EXE_redstartgilt"))
-            .args(["tall.mtx", "--html", "tall.html", "--grid"])
-            .arg(format!("{columns}x{rows}"))
-            .current_dir(folder)
-            .output()
-            .unwrap();
-        assert!(output.status.success());
-        page.screen(1280, HEIGHT, false);
-        page.open(&folder.join("tall.html"));
-        assert!(page.number("document.getElementById('map').getBoundingClientRect().height") > HEIGHT as f64);
-        for row in [1, rows / 2, rows - 4, rows] {
-            let cell = format!("document.querySelectorAll('.cell')[{}]", (row - 1) * columns + 2);
-            page.value(&format!("{cell}.scrollIntoView({{ block: 'center' }})"));
-            let mut of = |part: &str| page.number(&format!("{cell}.getBoundingClientRect().{part}"));
-            let place = (of("left") + of("width") / 2.0, of("top") + of("height") / 2.0);
-            page.mouse("mouseMoved", place);
-            let shown = format!("column 3, row {row}, cell {}", (row - 1) * columns + 3);
-            assert_eq!(page.text_of("place"), shown);
-            let mut of = |id: &str, part: &str| {
-                page.number(&format!(
-                    "document.getElementById('{id}').getBoundingClientRect().{part}"
-                ))
-            };
-            assert!(of("readout", "top") >= 0.0 && of("readout", "bottom") <= HEIGHT as f64);
-            let apart = of("readout", "left") - of("map", "right");
-            assert!(apart > 0.0 && apart < 400.0, "{apart}");
-            // It is on top of what is scrolled below it.
-            let on_top = "(() => { const box = document.getElementById('readout').getBoundingClientRect(); \
-                          return document.elementFromPoint(box.left + box.width / 2, box.bottom - 4) \
-                          .closest('section').id; })()";
-            assert_eq!(page.value(on_top), "readout");
-        }
-        // On a phone it is below the selected cell all the way.
-        page.screen(390, 844, true);
-        page.open(&folder.join("tall.html"));
-        for _ in 0..rows {
-            page.value("document.querySelector('#arrows [data-key=ArrowDown]').click()");
-            check_in_sight(page, 844);
-        }
-        assert_eq!(
-            page.text_of("place"),
-            format!("column 1, row {rows}, cell {}", (rows - 1) * columns + 1)
-        );
-    }
-}
-
-/// Without scripts there are the map, the legend and the table, and nothing that does nothing.
-fn without_scripts(page: &mut Page<'_>, harbour: &Harbour) {
-    page.screen(390, 844, true);
-    page.scripts(false);
-    page.open(&harbour.html);
-    assert_eq!(
-        page.value("document.querySelectorAll('.cell').length"),
-        (COLUMNS * ROWS).to_string()
-    );
-    assert!(page.number("document.getElementById('map').getBoundingClientRect().height") > 100.0);
-    page.value("document.getElementById('all').open = true");
-    assert!(page.number("document.querySelector('#all table').getBoundingClientRect().height") > 1000.0);
-    for id in ["arrows", "next", "readout", "keys"] {
-        assert_eq!(
-            page.value(&format!(
-                "document.getElementById('{id}').getBoundingClientRect().height"
-            )),
-            "0",
-            "{id}"
-        );
-    }
-    page.scripts(true);
 }
 
 /// The readout is inside the window and below the selected cell.
@@ -648,10 +485,6 @@ fn the_harbour_in_a_browser() {
         pointer(&mut page, &harbour);
         light_and_dark(&mut page);
         small_screen(&mut page, &harbour);
-        arrows(&mut page, &harbour);
-        arrows_on_a_tablet(&mut page, &harbour);
-        tall(&mut page, &folder);
-        without_scripts(&mut page, &harbour);
         page.screen(1280, 900, false);
         page.open(&with_chain.html);
         contents(&mut page, &with_chain);

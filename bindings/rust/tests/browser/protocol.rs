@@ -196,12 +196,6 @@ impl Page<'_> {
         self.value(&format!("document.getElementById('{id}').textContent"))
     }
 
-    /// Whether the scripts of pages that are opened from now on are run.
-    pub fn scripts(&mut self, run: bool) {
-        let parameters = format!("{{\"value\":{}}}", !run);
-        self.call("Emulation.setScriptExecutionDisabled", &parameters);
-    }
-
     /// Opens a file and waits until it is loaded.
     pub fn open(&mut self, file: &Path) {
         let address = format!("file://{}", file.display());

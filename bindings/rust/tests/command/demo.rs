@@ -155,15 +155,14 @@ fn the_demo_as_files() {
 fn the_map_of_the_files_is_that_of_the_demo() {
     let folder = Folder::new("demo-from-files");
     let file = |name: &str| format!("{EXAMPLES}/{name}");
-    let [factor, permutation, precision, mask, areas] = [
+    let [factor, permutation, mask, areas] = [
         "harbour-factor.mtx",
         "harbour-permutation.txt",
-        "harbour-precision.mtx",
         "harbour-mask.txt",
         "harbour-areas.mtx",
     ]
     .map(file);
-    let factor = [&factor, "--permutation", &permutation, "--precision", &precision];
+    let factor = [&factor, "--permutation", &permutation];
     let words = [
         "--mask",
         &mask,
@@ -187,6 +186,9 @@ fn the_map_of_the_files_is_that_of_the_demo() {
         assert_eq!(csv.lines().count(), demo.lines().count());
         assert!(maps == demo_maps);
     }
+    // The factor is that of the precision matrix.
+    let precision = file("harbour-precision.mtx");
+    folder.prints(&[&factor[..], &["--precision", &precision]].concat());
     // The areas: a mean depth, two volumes and their covariance.
     let sums = folder.prints(&[&factor[..], &["--operator", &areas, "--with", &areas, "--csv"]].concat());
     let table = folder.prints(&["--demo"]);

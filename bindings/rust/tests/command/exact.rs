@@ -1,7 +1,7 @@
 //! Entries that a proved theorem says are exact, and what is told where it does not.
 
 use crate::document::elements;
-use crate::{past, Folder};
+use crate::Folder;
 
 const HEADER: &str = "%%MatrixMarket matrix coordinate real general";
 
@@ -78,7 +78,10 @@ fn requests_order_limit_and_maps() {
         folder.prints(&["--exact=4", "f.mtx", "--requests=last.txt", "--csv"]),
         "cell,exact_variance,covered\n1,,no\n2,0.0625,yes\n"
     );
-    assert_eq!(folder.fails(&["--exact=4", "f.mtx", "--limit=2"], 3), past(2, 2));
+    assert_eq!(
+        folder.fails(&["--exact=4", "f.mtx", "--limit=2"], 3),
+        "ClosureTooLarge: the requests need more than 2 entries, so none is given; raise --limit"
+    );
     folder.prints(&["--exact=4", "f.mtx", "--grid=2x1", "--svg=map.svg", "--html=map.html"]);
     let document = folder.read("map.svg");
     elements(&document);

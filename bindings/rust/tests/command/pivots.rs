@@ -1,7 +1,7 @@
 //! Factors with pivots: the answers of both forms, and what is told where there are none.
 
 use crate::document::elements;
-use crate::{past, Folder, F2};
+use crate::{Folder, F2};
 
 const HEADER: &str = "%%MatrixMarket matrix coordinate real general";
 const ARRAY: &str = "%%MatrixMarket matrix array real general";
@@ -72,11 +72,14 @@ fn requests_order_limit_and_maps() {
     );
     assert_eq!(
         folder.fails(&["unit.mtx", "--pivots=d.txt", "--limit=2"], 3),
-        past(2, 2)
+        "ClosureTooLarge: the requests need more than 2 entries, so none is given; raise --limit"
     );
     // Without an entry that is stored the default limit is 0.
     folder.write("none.mtx", format!("{HEADER}\n2 2 0\n"));
-    assert_eq!(folder.fails(&["none.mtx", "--pivots=d.txt"], 3), past(0, 2));
+    assert_eq!(
+        folder.fails(&["none.mtx", "--pivots=d.txt"], 3),
+        "ClosureTooLarge: the requests need more than 0 entries, so none is given; raise --limit"
+    );
     assert_eq!(
         folder.prints(&["none.mtx", "--pivots=d.txt", "--limit=2", "--csv"]),
         "cell,variance,covered\n1,0.25,yes\n2,1.0,yes\n"
@@ -148,7 +151,7 @@ fn refusals_say_which() {
     };
     assert_eq!(
         message("4\n", 14),
-        "p.txt: refusal 4: the list has 1 pivot, the factor 2 columns, and each needs one"
+        "p.txt: refusal 4: the list has 1 pivots, the factor 2 columns, and each needs one"
     );
     // The length is told before what the pivots are.
     assert_eq!(

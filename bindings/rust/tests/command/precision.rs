@@ -1,7 +1,7 @@
 //! The factor held against Q, Q factorised, and the mistakes that are made in handing a factor over.
 
 use crate::document::elements;
-use crate::{parts, Folder};
+use crate::Folder;
 use std::io::Write;
 use std::process::Command;
 
@@ -147,6 +147,15 @@ fn printed(csv: &str) -> Vec<f64> {
     lines.map(|line| line[place].parse().unwrap()).collect()
 }
 
+/// Comma-separated values without their last column, which says that the factor was held against Q.
+fn unmarked(csv: &str) -> String {
+    let ends = std::iter::once(",checked").chain(std::iter::repeat(",yes"));
+    let lines = csv.lines().zip(ends);
+    lines
+        .map(|(line, end)| format!("{}\n", line.strip_suffix(end).expect(end)))
+        .collect()
+}
+
 fn close(found: &[f64], expected: &[f64]) {
     assert_eq!(found.len(), expected.len());
     for (found, expected) in found.iter().zip(expected) {
@@ -179,7 +188,7 @@ fn the_factor_of_q() {
     for [name, list] in order {
         let csv = folder.prints(&["L.mtx", name, list, "--precision", "Q.mtx", "--csv"]);
         close(&printed(&csv), &expected);
-        assert_eq!(csv, folder.prints(&["L.mtx", name, list, "--csv"]));
+        assert_eq!(unmarked(&csv), folder.prints(&["L.mtx", name, list, "--csv"]));
     }
     // Both triangles, an array, and an array of one triangle.
     folder.write("both.mtx", file(GENERAL, &q, |_, _| true));
@@ -244,7 +253,7 @@ fn the_factor_of_q() {
     }
 }
 
-/// Whether it was checked is told in text, in comma-separated values, on maps and on pages.
+/// That it was checked is told in text, in comma-separated values, on maps and on pages; where it was not, nothing is.
 #[test]
 fn what_is_told() {
     let (folder, _, _) = handed_over("precision-told");
@@ -259,43 +268,27 @@ fn what_is_told() {
         "--html",
         "map.html",
     ];
-    for (more, sentence, words_of_map) in [
-        (
-            &[][..],
-            "Not checked against Q: the factor is taken as it is; --precision checks it.",
-            "not checked against Q",
-        ),
-        (
-            &["--precision", "Q.mtx"],
-            "Checked against Q: multiplied out, the factor is Q within rounding.",
-            "checked against Q",
-        ),
-    ] {
-        let output = folder.run(&[&words[..], more].concat());
-        assert_eq!(output.status.code(), Some(0));
-        assert_eq!(output.stderr, []);
-        let text = String::from_utf8(output.stdout).unwrap();
-        assert!(text.starts_with(&format!("{sentence}\nComplete: 24 pairs")), "{text}");
-        let picture = folder.read("map.svg");
-        elements(&picture);
-        assert!(picture.contains(&format!(">{words_of_map}</text>")));
-        assert!(folder
-            .read("map.html")
-            .contains(&format!("<p id=\"checked\">The factor is {words_of_map}.</p>")));
-        let output = folder.run(&[&["L.mtx", "--place-to-cell", "cells.txt", "--csv"], more].concat());
-        let csv = String::from_utf8(output.stdout).unwrap();
-        let field = if more.is_empty() { "no" } else { "yes" };
-        assert!(csv.starts_with("cell,variance,covered,checked\n1,"), "{csv}");
-        assert!(
-            csv.lines().skip(1).all(|line| line.ends_with(&format!(",yes,{field}"))),
-            "{csv}"
-        );
-        let entries = folder.run(&[&["L.mtx", "--place-to-cell", "cells.txt", "--csv", "--entries"], more].concat());
-        assert!(entries.stdout.starts_with(b"row,column,value,checked\n"));
+    let without = folder.prints(&words);
+    let maps = || ["map.svg", "map.html"].map(|map| folder.read(map));
+    assert!(without.starts_with("Complete: 24 pairs"), "{without}");
+    assert!(maps().iter().all(|map| !map.contains("against Q")));
+    let q = ["--precision", "Q.mtx"];
+    assert_eq!(
+        folder.prints(&[&words[..], &q].concat()),
+        format!("Checked against Q: multiplied out, the factor is Q within rounding.\n{without}")
+    );
+    let [picture, page] = maps();
+    elements(&picture);
+    assert!(picture.contains(">checked against Q</text>"));
+    assert!(page.contains("<p id=\"checked\">The factor is checked against Q.</p>"));
+    for more in [&[][..], &["--entries"]] {
+        let words = [&["L.mtx", "--place-to-cell", "cells.txt", "--csv"], more].concat();
+        let marked = folder.prints(&[&words[..], &q].concat());
+        assert_eq!(unmarked(&marked), folder.prints(&words));
     }
 }
 
-/// Each mistake, beside Q and without it.
+/// Each mistake, beside Q.
 #[test]
 fn mistakes() {
     let (folder, q, lower) = handed_over("precision-mistakes");
@@ -320,37 +313,32 @@ fn mistakes() {
          its transpose; transpose it",
         above(&upper)
     );
-    for more in [&[][..], &["--precision", "Q.mtx"], &["--csv", "--requests", "r.txt"]] {
-        assert_eq!(folder.fails(&[&["U.mtx"], more].concat(), 1), message);
+    for more in [&[][..], &["--csv", "--requests", "r.txt"]] {
+        let words = [&["U.mtx", "--precision", "Q.mtx"], more].concat();
+        assert_eq!(folder.fails(&words, 1), message);
     }
     // An upper factor of a matrix without fill has fewer entries above the diagonal than on it.
     folder.write("U.mtx", format!("{GENERAL}3 3 5\n1 1 1\n2 2 1\n3 3 1\n1 2 1\n2 3 1\n"));
     assert!(folder
-        .fails(&["U.mtx"], 1)
+        .fails(&["U.mtx", "--precision", "Q.mtx"], 1)
         .starts_with("U.mtx: this looks like an upper factor: 2 entries above"));
     // Q itself, as both forms of file.
-    assert_eq!(
-        folder.fails(&["Q.mtx"], 1),
-        "Q.mtx:1: the header says symmetric, and a factor is lower: this looks like Q itself. --precision takes Q, and \
-         without FACTOR factorises it"
-    );
     folder.write("both.mtx", file(GENERAL, &q, |_, _| true));
     assert_eq!(
-        folder.fails(&["both.mtx"], 1),
+        folder.fails(&["both.mtx", "--precision", "Q.mtx"], 1),
         "both.mtx: this matrix is symmetric, and a factor is lower: this looks like Q itself. --precision takes Q, and \
          without FACTOR factorises it"
     );
     folder.write("lower.mtx", file(GENERAL, &q, |row, column| row >= column));
-    assert!(checked("lower.mtx", &[]).ends_with("which is no factor; without FACTOR, --precision factorises Q"));
+    for itself in ["lower.mtx", "Q.mtx"] {
+        assert!(checked(itself, &[]).ends_with("which is no factor; without FACTOR, --precision factorises Q"));
+    }
     // L·D·Lᵀ with D on the diagonal of L.
     folder.write("LD.mtx", file(GENERAL, &pivots_on_diagonal(&lower), |_, _| true));
     let message = checked("LD.mtx", &order);
     let hint =
         "It is L of L times D times its transpose with D on its diagonal: give D by --pivots, and ones on the diagonal";
     assert!(message.ends_with(hint), "{message}");
-    let (_, note) = folder.tells(&[&["LD.mtx"], &order[..]].concat(), 0);
-    let hint = "note: LD.mtx: the diagonal looks like D of L times D times its transpose, as CHOLMOD stores it";
-    assert!(note.starts_with(hint), "{note}");
     // The order the wrong way round, and no order.
     for (order, list) in [
         ("--place-to-cell", "places.txt"),
@@ -382,13 +370,10 @@ fn mistakes() {
         message.ends_with("written with too few digits: 15 are needed, and 17 give every float back"),
         "{message}"
     );
-    // Entries above the diagonal, fewer than below, are dropped and counted.
+    // Entries above the diagonal, fewer than below, are dropped.
     let mut work = lower.clone();
     (work[0][1], work[0][2]) = (9.0, -9.0);
     folder.write("work.mtx", file(GENERAL, &work, |_, _| true));
-    let (_, note) = folder.tells(&[&["work.mtx"], &order[..]].concat(), 0);
-    let expected = "note: work.mtx: 2 entries above the diagonal dropped; a factor is lower";
-    assert_eq!(note, expected);
     folder.prints(&[&["work.mtx", "--precision", "Q.mtx"], &order[..]].concat());
 }
 
@@ -649,7 +634,7 @@ fn a_matrix_that_is_not_positive_definite() {
     folder.write("Q.mtx", format!("{SYMMETRIC}0 0 0\n"));
     assert_eq!(
         folder.prints(&["--precision", "Q.mtx", "--csv"]),
-        "cell,variance,covered\n"
+        "cell,variance,covered,checked\n"
     );
 }
 
@@ -677,12 +662,12 @@ fn mistakes_with_files_of_cholmod() {
     let right = ["L.mtx", "--place-to-cell", "P.txt", "--precision", "Q.mtx", "--csv"];
     close(&printed(&folder.prints(&right)), &expected);
     close(&printed(&folder.prints(&["--precision", "Q.mtx", "--csv"])), &expected);
-    // The wrong ones: the factor, its order, and what is said with Q and without it.
+    // The wrong ones: the factor, its order, and what is said with Q.
     let order = ["--place-to-cell", "P.txt"];
     let reversed = ["--permutation", "P.txt"];
     for (factor, order, status, with_q) in [
         ("U.mtx", &order[..], 1, "this looks like an upper factor"),
-        ("Q.mtx", &[], 1, "this looks like Q itself"),
+        ("Q.mtx", &[], 5, "the entries of Q itself"),
         ("LD.mtx", &order, 5, "with D on its diagonal"),
         ("L.mtx", &reversed, 5, "read the other way"),
         ("L.mtx", &[], 5, "No order is given"),
@@ -691,18 +676,11 @@ fn mistakes_with_files_of_cholmod() {
         let message = folder.fails(&[&[factor], order, &map].concat(), status);
         assert!(message.contains(with_q), "{message}");
         assert!(!folder.0.join("map.html").exists());
-        if status == 1 {
-            assert_eq!(folder.fails(&[&[factor], order].concat(), 1), message);
-        } else {
-            // Wrong numbers, which say that they were not checked; of D on the diagonal there is a note.
-            let words = [&[factor, "--csv"], order].concat();
-            let (csv, note) = parts(&words, folder.run(&words), 0);
-            let found = printed(&csv);
-            let pairs = found.iter().zip(&expected);
-            assert!(pairs
-                .into_iter()
-                .any(|(found, expected)| (found / expected - 1.0).abs() > 0.01));
-            assert_eq!(note.contains("looks like D of L times D"), factor == "LD.mtx", "{note}");
-        }
+        // Without it the numbers are wrong.
+        let found = printed(&folder.prints(&[&[factor, "--csv"], order].concat()));
+        let pairs = found.iter().zip(&expected);
+        assert!(pairs
+            .into_iter()
+            .any(|(found, expected)| (found / expected - 1.0).abs() > 0.01));
     }
 }

@@ -1,6 +1,6 @@
 //! Bounds on the variances of rows whose weights are known within ranges.
 
-use crate::{past, Folder};
+use crate::Folder;
 
 /// The factor with columns (1, -3) and (1): its inverse is (10, 3; 3, 1).
 const TWO_COLUMNS: &str = "%%MatrixMarket matrix coordinate integer general\n2 2 3\n1 1 1\n2 1 -3\n2 2 1\n";
@@ -44,11 +44,9 @@ fn bounds_of_rows() {
     folder.write("ranges.txt", "1 2 -1024 1024\n");
     assert!(folder
         .prints(&WORDS)
-        .starts_with("Complete: 1 pair requested, 1 computed"));
+        .starts_with("Complete: 1 pairs requested, 1 computed"));
     folder.write("ranges.txt", "");
-    let (printed, told) = folder.tells(&WORDS, 0);
-    assert!(printed.ends_with("\nrow low_bound high_bound\n"));
-    assert_eq!(told, "ranges.txt: no rows requested");
+    assert!(folder.prints(&WORDS).ends_with("\nrow low_bound high_bound\n"));
 }
 
 #[test]
@@ -103,7 +101,10 @@ fn malformed_and_refused() {
     words.extend(["--limit", "2080", "--csv"]);
     assert_eq!(folder.prints(&words), "row,exact_low_bound,exact_high_bound\n1,0,64\n");
     words[5] = "2079";
-    assert_eq!(folder.fails(&words, 3), past(2079, 65));
+    assert_eq!(
+        folder.fails(&words, 3),
+        "ClosureTooLarge: the requests need more than 2079 entries, so none is given; raise --limit"
+    );
     // An entry of 2^30 is accepted, a larger one is not, where a row has its cells.
     for (value, beyond) in [(32768, "1073741825"), (-32768, "1073741825")] {
         folder.write("w.mtx", TWO_COLUMNS.replace("-3", &value.to_string()));

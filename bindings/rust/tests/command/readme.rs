@@ -23,7 +23,7 @@ fn the_commands_of_the_readme() {
     let rows = section.lines().filter_map(|line| line.strip_prefix("| `"));
     let commands = rows.filter_map(|row| row.split_once('`').map(|(command, _)| command));
     let commands = commands.collect::<Vec<_>>();
-    assert_eq!(commands.len(), 6);
+    assert_eq!(commands.len(), 4);
     for command in commands {
         // Q is factorised where the command is built with CHOLMOD.
         if command.starts_with("--precision") && !cfg!(cholmod) {
@@ -31,17 +31,15 @@ fn the_commands_of_the_readme() {
         }
         folder.prints(&command.split(' ').collect::<Vec<_>>());
     }
-    assert!(folder.read("harbour.svg").contains("<svg "));
     assert!(folder.read("map.html").contains("384 of 384 cells computed"));
     assert_eq!(
         folder.read("COVARIANCES.mtx"),
         "%%MatrixMarket matrix coordinate real symmetric\n384 384 2\n1 1 0.25\n2 1 -0.0\n"
     );
     // A refusal that it has.
-    let head = "%%MatrixMarket matrix coordinate real general\n8 8 8\n";
-    let diagonal = (1..=8).map(|cell| format!("{cell} {cell} 2\n")).collect::<String>();
-    folder.write("FACTOR.mtx", head.to_string() + &diagonal);
-    folder.write("CELLS.txt", "1 1\n9 1\n");
-    let message = folder.fails(&["FACTOR.mtx", "--requests", "CELLS.txt"], 15);
+    let head = "%%MatrixMarket matrix coordinate real general\n4 4 5\n";
+    let diagonal = (1..=4).map(|cell| format!("{cell} {cell} 2\n")).collect::<String>();
+    folder.write("FACTOR.mtx", head.to_string() + &diagonal + "3 2 NaN\n");
+    let message = folder.fails(&["FACTOR.mtx"], 28);
     assert!(section.contains(&format!("`{message}`")), "{message}");
 }

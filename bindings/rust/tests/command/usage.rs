@@ -11,10 +11,7 @@ fn bad_usage() {
         (&["--csv"], "no factor is given"),
         (&["f2.mtx", "f2.mtx"], "more than one factor is given"),
         (&["f2.mtx", "--colour"], "there is no option --colour"),
-        (&["f2.mtx", "-x"], "there is no option -x"),
-        (&["f2.mtx", "-"], "more than one factor is given"),
-        (&[""], "FACTOR needs the name of a file"),
-        (&["f2.mtx", "--requests="], "--requests needs the name of a file"),
+        (&["f2.mtx", "-"], "there is no option -"),
         (&["f2.mtx", "--limit"], "--limit needs a value"),
         (
             &["f2.mtx", "--limit", "-1"],
@@ -46,33 +43,6 @@ fn bad_usage() {
             &["f2.mtx", "--why=1,2", "--entries"],
             "--why does not go with --entries",
         ),
-        (&["f2.mtx", "--matrix"], "--matrix needs a value"),
-        (
-            &["f2.mtx", "--matrix=a.mtx", "--matrix=b.mtx"],
-            "--matrix is given twice",
-        ),
-        (
-            &["f2.mtx", "--why=1,2", "--matrix=a.mtx"],
-            "--why does not go with --matrix",
-        ),
-        (
-            &["f2.mtx", "--operator=a.mtx", "--matrix=b.mtx"],
-            "--operator does not go with --matrix",
-        ),
-        (
-            &["f2.mtx", "--whole", "--ranges=r.txt", "--matrix=b.mtx"],
-            "--ranges does not go with --matrix",
-        ),
-        (
-            &["f2.mtx", "--whole", "--track=t.txt", "--width=2", "--matrix=b.mtx"],
-            "--track does not go with --matrix",
-        ),
-        (&["--demo", "--matrix=b.mtx"], "--demo does not go with --matrix"),
-        (
-            &["f2.mtx", "--only-requested"],
-            "--only-requested needs --entries or --matrix",
-        ),
-        (&["f2.mtx", "--only-requested=1"], "--only-requested takes no value"),
         (
             &["f2.mtx", "--why=1,2", "--limit=9"],
             "--why goes with --limit only where a map is drawn",
@@ -177,23 +147,156 @@ fn bad_usage() {
             &["f2.mtx", "--grid", "2"],
             "--grid needs two numbers above 0 as in 24x16, not 2",
         ),
-        (&["f2.mtx", "--grid", "2x1"], "--grid needs --svg, --html or --csv"),
+        (&["f2.mtx", "--grid", "2x1"], "--grid needs --svg or --html"),
+        (&["f2.mtx", "--svg", "map.svg"], "--svg needs --grid"),
+        (&["f2.mtx", "--html", "map.svg"], "--html needs --grid"),
+        (&["f2.mtx", "--html"], "--html needs a value"),
+        (
+            &["f2.mtx", "--grid=2x1", "--svg=map.svg", "--html=map.svg"],
+            "--svg and --html need two files",
+        ),
+        (
+            &["f2.mtx", "--svg", "map.svg", "--grid", "2x2"],
+            "--grid 2x2 does not have the factor's 2 cells",
+        ),
+        (&["--demo", "f2.mtx"], "--demo does not go with a factor"),
+        (&["--demo", "--limit", "3"], "--demo does not go with --limit"),
+        (&["--demo", "--entries"], "--demo does not go with --entries"),
+        (&["--demo", "--grid", "24x16"], "--demo does not go with --grid"),
+        (&["--demo", "--operator", "a.mtx"], "--demo does not go with --operator"),
+        (&["--demo", "--with", "a.mtx"], "--with needs --operator"),
+        (&["f2.mtx", "--operator"], "--operator needs a value"),
+        (&["f2.mtx", "--with", "a.mtx"], "--with needs --operator"),
+        (&["f2.mtx", "--operator=a.mtx", "--pairs=b.txt"], "--pairs needs --with"),
+        (
+            &["f2.mtx", "--operator=a.mtx", "--requests=b.txt"],
+            "--operator does not go with --requests",
+        ),
+        (
+            &["f2.mtx", "--operator=a.mtx", "--limit=3"],
+            "--operator does not go with --limit",
+        ),
+        (
+            &["f2.mtx", "--operator=a.mtx", "--entries"],
+            "--operator does not go with --entries",
+        ),
+        (
+            &["f2.mtx", "--operator=a.mtx", "--grid=2x1", "--svg=map.svg"],
+            "--operator does not go with --grid",
+        ),
+        (
+            &["--demo", "--permutation", "f2.mtx"],
+            "--demo does not go with --permutation",
+        ),
+        (
+            &["--demo", "--svg=map.svg", "--html=map.svg"],
+            "--svg and --html need two files",
+        ),
+    ] {
+        assert_eq!(folder.fails(words, 2), format!("{message}; try --help"), "{words:?}");
+    }
+    assert!(!folder.0.join("map.svg").exists());
+}
+
+#[test]
+fn help_and_version() {
+    let folder = Folder::new("help");
+    let help = folder.prints(&["--help"]);
+    for word in [
+        "--requests",
+        "--permutation",
+        "--write-requests",
+        "--operator",
+        "--with",
+        "--pairs",
+        "--pivots",
+        "--limit",
+        "--entries",
+        "--whole",
+        "--ranges",
+        "--track",
+        "--width",
+        "--why",
+        "--csv",
+        "--svg",
+        "--html",
+        "--grid",
+        "--demo",
+        "--version",
+    ] {
+        assert!(help.contains(word), "{word}");
+    }
+    for error in redstartgilt::Error::ALL {
+        let listed = help.contains(&format!("  {}  {error}\n", 10 + error.number()));
+        assert!(listed, "{error}");
+    }
+    assert!(help.contains(&format!("\n  {HEADER}\n")));
+    assert_eq!(
+        folder.prints(&["--version"]),
+        format!("redstartgilt {}\n", env!("CARGO_PKG_VERSION"))
+    );
+    // A name that begins with a dash.
+    folder.write("--f.mtx", F2);
+    assert_eq!(
+        folder.prints(&["--csv", "--", "--f.mtx"]),
+        "cell,variance,covered\n1,5.0,yes\n2,1.0,yes\n"
+    );
+}
+
+/// The options on orders, Q, land, maps, entries in a file and the demo's files.
+#[test]
+fn bad_usage_of_further_options() {
+    let folder = Folder::new("further-usage");
+    for (words, message) in [
+        (&["f2.mtx", "--matrix"][..], "--matrix needs a value"),
+        (
+            &["f2.mtx", "--matrix=a.mtx", "--matrix=b.mtx"],
+            "--matrix is given twice",
+        ),
+        (
+            &["f2.mtx", "--why=1,2", "--matrix=a.mtx"],
+            "--why does not go with --matrix",
+        ),
+        (
+            &["f2.mtx", "--operator=a.mtx", "--matrix=b.mtx"],
+            "--operator does not go with --matrix",
+        ),
+        (
+            &["f2.mtx", "--whole", "--ranges=r.txt", "--matrix=b.mtx"],
+            "--ranges does not go with --matrix",
+        ),
+        (
+            &["f2.mtx", "--whole", "--track=t.txt", "--width=2", "--matrix=b.mtx"],
+            "--track does not go with --matrix",
+        ),
+        (&["--demo", "--matrix=b.mtx"], "--demo does not go with --matrix"),
+        (
+            &["f2.mtx", "--only-requested"],
+            "--only-requested needs --entries or --matrix",
+        ),
+        (&["f2.mtx", "--only-requested=1"], "--only-requested takes no value"),
         (&["f2.mtx", "--mask", "m.txt"], "--mask needs --svg, --html or --csv"),
         (
-            &["f2.mtx", "--grid=2x1", "--csv", "--entries"],
-            "--grid goes with --entries only where a map is drawn",
+            &["f2.mtx", "--mask=m.txt", "--csv", "--entries"],
+            "--mask goes with --entries only where a map is drawn",
         ),
         (
             &["f2.mtx", "--mask=m.txt", "--csv", "--why=1,2"],
             "--mask goes with --why only where a map is drawn",
         ),
         (
-            &["f2.mtx", "--whole", "--track=t.txt", "--width=2", "--grid=2x1", "--csv"],
-            "--grid goes with --track only where a map is drawn",
+            &[
+                "f2.mtx",
+                "--whole",
+                "--track=t.txt",
+                "--width=2",
+                "--mask=m.txt",
+                "--csv",
+            ],
+            "--mask goes with --track only where a map is drawn",
         ),
-        (&["f2.mtx", "--svg", "map.svg"], "--svg needs --grid or --mask"),
-        (&["f2.mtx", "--html", "map.svg"], "--html needs --grid or --mask"),
         (&["f2.mtx", "--mask"], "--mask needs a value"),
+        (&["f2.mtx", "--mask=", "--csv"], "--mask needs the name of a file"),
         (&["f2.mtx", "--mask=m.txt", "--mask=m.txt"], "--mask is given twice"),
         (
             &["f2.mtx", "--operator=a.mtx", "--mask=m.txt", "--svg=map.svg"],
@@ -217,7 +320,7 @@ fn bad_usage() {
             "--title goes with --csv only where a map is drawn",
         ),
         (
-            &["f2.mtx", "--csv", "--grid=2x1", "--unit=m"],
+            &["f2.mtx", "--csv", "--mask=m.txt", "--unit=m"],
             "--unit goes with --csv only where a map is drawn",
         ),
         (
@@ -245,110 +348,36 @@ fn bad_usage() {
             &["--demo", "--write-files=out", "--svg=map.svg"],
             "--write-files does not go with --svg",
         ),
-        (&["f2.mtx", "--html"], "--html needs a value"),
-        (
-            &["f2.mtx", "--grid=2x1", "--svg=map.svg", "--html=map.svg"],
-            "--html would overwrite --svg: both are map.svg",
-        ),
-        (
-            &["f2.mtx", "--svg", "map.svg", "--grid", "2x2"],
-            "--grid 2x2 does not have the factor's 2 cells",
-        ),
-        (&["--demo", "f2.mtx"], "--demo does not go with a factor"),
-        (&["--demo", "--limit", "3"], "--demo does not go with --limit"),
-        (&["--demo", "--entries"], "--demo does not go with --entries"),
-        (&["--demo", "--grid", "24x16"], "--demo does not go with --grid"),
-        (&["--demo", "--operator", "a.mtx"], "--demo does not go with --operator"),
-        (&["--demo", "--with", "a.mtx"], "--with needs --operator"),
-        (&["f2.mtx", "--operator"], "--operator needs a value"),
-        (&["f2.mtx", "--with", "a.mtx"], "--with needs --operator"),
-        (&["f2.mtx", "--operator=a.mtx", "--pairs=b.txt"], "--pairs needs --with"),
-        (
-            &["f2.mtx", "--operator=a.mtx", "--requests=b.txt"],
-            "--operator does not go with --requests",
-        ),
-        (
-            &["f2.mtx", "--operator=a.mtx", "--entries"],
-            "--operator does not go with --entries",
-        ),
-        (
-            &["f2.mtx", "--operator=a.mtx", "--grid=2x1", "--svg=map.svg"],
-            "--operator does not go with --grid",
-        ),
-        (
-            &["--demo", "--permutation", "f2.mtx"],
-            "--demo does not go with --permutation",
-        ),
-        (
-            &["--demo", "--svg=map.svg", "--html=map.svg"],
-            "--html would overwrite --svg: both are map.svg",
-        ),
     ] {
         assert_eq!(folder.fails(words, 2), format!("{message}; try --help"), "{words:?}");
     }
-    assert!(!folder.0.join("map.svg").exists());
 }
 
 #[test]
-fn help_and_version() {
-    let folder = Folder::new("help");
+fn help_of_further_options() {
+    let folder = Folder::new("further-help");
     let help = folder.prints(&["--help"]);
+    let sections = help.split_once("\nA factor that is held against Q:\n").unwrap().1;
+    let (sections, _) = sections.split_once("\nA requests file whose").unwrap();
     for word in [
-        "--requests FILE",
         "--precision FILE",
-        "--permutation FILE",
         "--cell-to-place FILE",
         "--place-to-cell FILE",
-        "--write-requests FILE",
-        "--operator FILE",
-        "--with FILE",
-        "--pairs FILE",
-        "--pivots FILE",
-        "--limit N",
-        "--entries",
         "--matrix FILE",
         "--only-requested",
-        "--whole",
-        "--exact S",
-        "--ranges FILE",
-        "--track FILE",
-        "--width K",
-        "--why R,C",
-        "--csv",
-        "--svg FILE",
-        "--html FILE",
-        "--grid WxH",
         "--mask FILE",
         "--title TEXT",
         "--unit TEXT",
         "--range LOW,HIGH",
         "--log",
-        "--demo",
         "--write-files FOLDER",
-        "--help, --version",
+        "-",
     ] {
         // On a line of its own, and below it what it does.
-        let told = help.contains(&format!("\n  {word}\n      "));
+        let told = format!("\n{sections}").contains(&format!("\n  {word}\n      "));
         assert!(told, "{word}");
     }
-    for line in help.lines() {
+    for line in sections.lines() {
         assert!(line.len() <= 80 && line.trim_end() == line, "{line}");
     }
-    // Without the ends of lines.
-    let words = help.split_whitespace().collect::<Vec<_>>().join(" ");
-    for error in redstartgilt::Error::ALL {
-        let listed = words.contains(&format!(" {} {error}", 10 + error.number()));
-        assert!(listed, "{error}");
-    }
-    assert!(help.contains(&format!("\n        {HEADER}\n")));
-    assert_eq!(
-        folder.prints(&["--version"]),
-        format!("redstartgilt {}\n", env!("CARGO_PKG_VERSION"))
-    );
-    // A name that begins with a dash.
-    folder.write("--f.mtx", F2);
-    assert_eq!(
-        folder.prints(&["--csv", "--", "--f.mtx"]),
-        "cell,variance,covered\n1,5.0,yes\n2,1.0,yes\n"
-    );
 }

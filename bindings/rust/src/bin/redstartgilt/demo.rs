@@ -13,7 +13,7 @@ use crate::why::Why;
 use crate::{find, requested, write_map, Found};
 use redstartgilt::{
     selected_inverse_transformed_covariances, selected_inverse_transformed_diag, CholeskyFactor, Error, Permutation,
-    Precision, SparseRowOperator,
+    SparseRowOperator,
 };
 use std::io::{self, Write};
 use std::ops::Range;
@@ -193,13 +193,6 @@ impl Harbour {
         basin.into_iter().map(|water| (water, weight)).collect()
     }
 
-    /// Whether a factor is that of the precision matrix.
-    fn holds(&self, factor: &CholeskyFactor) -> bool {
-        let n = self.placed.cells.len();
-        let triplets = demo_files::lower_triangle(&self.precision(&Permutation::identity(n)));
-        Precision::from_triplets(n, &triplets).is_ok_and(|precision| factor.check_against(&precision).is_ok())
-    }
-
     /// The variance of the mean depth of the basin. It is asked for by itself, so it is there whatever cells are asked
     /// for.
     fn basin_mean(&self, factor: &CholeskyFactor) -> Result<f64, Error> {
@@ -344,24 +337,21 @@ fn cholesky(mut matrix: Vec<Vec<f64>>) -> Vec<(usize, usize, f64)> {
 
 /// Prints the harbour, and draws it where a file is given; or writes its files.
 pub fn run(output: &mut impl Write, options: &Options) -> Result<(), Failure> {
-    let refused = |error| Failure::refused_at("the harbour", error);
+    const PLACE: &str = "the harbour";
+    let refused = |error| Failure::refused_at(PLACE, error);
     let harbour = Harbour::new();
     if let Some(folder) = &options.write_files {
         return demo_files::write(output, folder, &harbour);
     }
     let factor = harbour.factor().map_err(refused)?;
-    let checked = match harbour.holds(&factor) {
-        true => Checked::WithinRounding,
-        false => Checked::No { notes: Vec::new() },
-    };
-    let output = &mut checked.output(output, options.csv);
     let requested = requested(&factor.permutation(), options)?;
-    let why = options.why.map(|pair| Why::find(refused, &factor, &requested, pair));
+    let why = options.why.map(|pair| Why::find(PLACE, &factor, &requested, pair));
     let why = why.transpose()?;
-    let found = find(refused, &factor, &requested, options)?;
+    let found = find(PLACE, &factor, &requested, options)?;
     let placed = &harbour.placed;
     let map = Map {
         title: &colours::title(options, TITLE.to_string(), false),
+        titled: options.title.is_some(),
         unit: Some("m"),
         cells: &placed.map_cells(found.variances.iter().copied()),
         placed,
@@ -369,7 +359,7 @@ pub fn run(output: &mut impl Write, options: &Options) -> Result<(), Failure> {
         why: why.as_ref(),
         track: None,
         diagnostics: &found.diagnostics,
-        checked: &checked,
+        checked: Checked::No,
     };
     write_map(options, &map)?;
     written(report::heading(output, options))?;
@@ -389,8 +379,9 @@ pub fn run(output: &mut impl Write, options: &Options) -> Result<(), Failure> {
 #[cfg(test)]
 mod tests {
     use super::{Harbour, CHART, DREDGING, PLACES};
+    use crate::demo_files::lower_triangle;
     use crate::map::Cell;
-    use redstartgilt::{selected_inverse_transformed_diag, SparseRowOperator};
+    use redstartgilt::{selected_inverse_transformed_diag, Permutation, Precision, SparseRowOperator};
 
     #[test]
     fn the_chart_is_a_grid_and_its_places_are_water() {
@@ -461,6 +452,15 @@ mod tests {
     }
 
     /// Land is land and not "not computed".
+    #[test]
+    fn the_factor_is_that_of_the_precision_matrix() {
+        let harbour = Harbour::new();
+        let n = harbour.placed.cells.len();
+        let triplets = lower_triangle(&harbour.precision(&Permutation::identity(n)));
+        let precision = Precision::from_triplets(n, &triplets).unwrap();
+        assert_eq!(harbour.factor().unwrap().check_against(&precision), Ok(()));
+    }
+
     #[test]
     fn land_stays_land() {
         let harbour = Harbour::new();

@@ -3,8 +3,8 @@
 use crate::failure::{Failure, NOT_EXACT};
 use crate::report::Value;
 use redstartgilt::{
-    count_and_least, exact_multipliers, least_exact_multipliers, CholeskyFactor, Error, NotExact,
-    SparseSymmetricPattern, MAX_SCALE,
+    count_and_least, exact_multipliers, least_exact_multipliers, CholeskyFactor, NotExact, SparseSymmetricPattern,
+    MAX_SCALE,
 };
 use std::ffi::OsStr;
 use std::fmt::{self, Debug, Display, Formatter};
@@ -64,16 +64,11 @@ impl Value for Exact {
             Exact(counted.min_value)
         )
     }
-
-    fn is_finite(self) -> bool {
-        self.0.is_finite()
-    }
 }
 
 /// Checks the theorem's hypotheses; the scale, or a failure that has the number that does not meet them.
 pub fn check(
     place: impl Display,
-    refused: impl Fn(Error) -> Failure,
     factor: &CholeskyFactor,
     requested: &SparseSymmetricPattern,
     scale: Scale,
@@ -84,7 +79,7 @@ pub fn check(
     };
     let reason = match checked {
         Ok(multipliers) => return Ok(multipliers.scale()),
-        Err(NotExact::Refused(error)) => return Err(refused(error)),
+        Err(NotExact::Refused(error)) => return Err(Failure::refused_at(place, error)),
         Err(reason) => reason,
     };
     let permutation = factor.permutation().orig_to_perm;

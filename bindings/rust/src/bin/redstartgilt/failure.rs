@@ -1,8 +1,7 @@
 //! What ends the command: a message and an exit status.
 
-use crate::counted::{counted, not_finite, with_commas};
 use std::fmt::Display;
-use std::io::{self, Write};
+use std::io;
 use std::path::Path;
 
 /// Something about a file, or its contents.
@@ -15,8 +14,6 @@ pub const TOO_MANY_PAIRS: u8 = 3;
 pub const NOT_EXACT: u8 = 4;
 /// The factor is not that of the matrix Q which it is held against.
 pub const NOT_OF_PRECISION: u8 = 5;
-/// The answer is given, and values of it are not finite.
-pub const NOT_FINITE: u8 = 6;
 /// A refusal's number is added to this.
 pub const REFUSED: u8 = 10;
 
@@ -49,34 +46,22 @@ impl Failure {
         }
     }
 
-    /// The closed set of n cells passes the limit.
-    pub fn too_many_pairs(limit: usize, n: usize) -> Self {
+    pub fn too_many_pairs(limit: usize) -> Self {
         Self {
             message: format!(
-                "ClosureTooLarge: the set has more than {}, so no entry is given; --limit N allows more, and {} is \
-                 enough for every set of {}",
-                counted(limit, "pair", "pairs"),
-                n * (n + 1) / 2,
-                counted(n, "cell", "cells")
+                "ClosureTooLarge: the requests need more than {limit} entries, so none is given; raise --limit"
             ),
             status: TOO_MANY_PAIRS,
         }
     }
 
-    /// That something is more than the library takes.
-    pub fn too_large(place: impl Display, what: impl Display, most: usize) -> Self {
-        Self::refused_because(
-            place,
-            redstartgilt::Error::TooLarge,
-            format_args!("{what}, and {} is the most", with_commas(most)),
-        )
-    }
-
-    /// That so many values of what is printed are not finite.
-    pub fn not_finite(number: usize, one: &str, several: &str) -> Self {
+    /// The same for rows of operators, whose limit is that of the library.
+    pub fn too_many_pairs_of_rows(limit: usize) -> Self {
         Self {
-            message: not_finite(number, one, several),
-            status: NOT_FINITE,
+            message: format!(
+                "ClosureTooLarge: the rows need more than {limit} entries, 10 times those of the factor, so none is given"
+            ),
+            status: TOO_MANY_PAIRS,
         }
     }
 
@@ -94,15 +79,13 @@ impl Failure {
     }
 }
 
-/// What became of writing to standard output.
+/// What became of writing to standard output. A reader that stops reading, as `head` does, is no failure.
 pub fn written(result: io::Result<()>) -> Result<(), Failure> {
-    result.map_err(|error| Failure {
-        message: format!("cannot write to standard output: {error}"),
-        status: BAD_FILE,
-    })
-}
-
-/// Tells something on standard error; where that is closed, nothing.
-pub fn tell(message: impl Display) {
-    let _ = writeln!(io::stderr(), "redstartgilt: {message}");
+    match result {
+        Err(error) if error.kind() != io::ErrorKind::BrokenPipe => Err(Failure {
+            message: format!("cannot write the output: {error}"),
+            status: BAD_FILE,
+        }),
+        _ => Ok(()),
+    }
 }

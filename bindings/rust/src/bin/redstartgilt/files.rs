@@ -1,4 +1,4 @@
-//! The files that are read and written: `-`, and that none of them is overwritten.
+//! The files that are read and written: `-`, and which of them are never overwritten.
 
 use crate::failure::{written, Failure};
 use std::ffi::OsString;
@@ -25,25 +25,37 @@ pub struct Given {
     pub option: String,
     pub path: PathBuf,
     pub usage: Use,
+    /// Whether it is neither overwritten nor written over another.
+    pub apart: bool,
 }
 
 impl Given {
-    pub fn new(option: &str, word: OsString, usage: Use) -> Result<Self, Failure> {
+    /// A file that is kept apart from the others, where `-` is standard input or output.
+    pub fn apart(option: &str, word: OsString, usage: Use) -> Result<Self, Failure> {
         let path = match word.to_str() {
             Some("") => return Err(Failure::usage(format!("{option} needs the name of a file"))),
             Some("-") => match usage {
                 Use::Read => STANDARD_INPUT.into(),
                 Use::Written => STANDARD_OUTPUT.into(),
             },
-            // A file that has this very name.
-            Some(STANDARD_INPUT | STANDARD_OUTPUT) => Path::new(".").join(word),
-            _ => word.into(),
+            _ => named(word),
         };
         Ok(Self {
             option: option.to_string(),
             path,
             usage,
+            apart: true,
         })
+    }
+
+    /// A file by its name, whatever it is.
+    pub fn by_name(option: &str, word: OsString, usage: Use) -> Self {
+        Self {
+            option: option.to_string(),
+            path: named(word),
+            usage,
+            apart: false,
+        }
     }
 
     pub fn is_standard_output(&self) -> bool {
@@ -52,6 +64,14 @@ impl Given {
 
     fn is_standard_input(&self) -> bool {
         self.usage == Use::Read && is(&self.path, STANDARD_INPUT)
+    }
+}
+
+/// The path of a file of this name, also where that is one of the names above.
+fn named(word: OsString) -> PathBuf {
+    match word.to_str() {
+        Some(STANDARD_INPUT | STANDARD_OUTPUT) => Path::new(".").join(word),
+        _ => word.into(),
     }
 }
 
@@ -79,8 +99,8 @@ pub fn write(file: &Path, text: impl AsRef<[u8]>) -> Result<(), Failure> {
     fs::write(file, text).map_err(|error| Failure::in_file(file, error))
 }
 
-/// That no file which is written is another one that is read or written, and that standard input and standard output
-/// are each one file's. What is printed counts as written.
+/// That no file which is written is another one that is read or written, where one of both is to be kept apart; and that
+/// standard input and standard output are each one file's. What is printed counts as written.
 pub fn check(files: &[Given]) -> Result<(), Failure> {
     let (read, mut written) = files.iter().partition::<Vec<_>, _>(|file| file.usage == Use::Read);
     for (files, are_standard, what) in [
@@ -97,13 +117,15 @@ pub fn check(files: &[Given]) -> Result<(), Failure> {
         option: "what is printed on".to_string(),
         path: STANDARD_OUTPUT.into(),
         usage: Use::Written,
+        apart: false,
     };
     if !written.iter().any(|file| file.is_standard_output()) {
         written.push(&printed);
     }
     for (place, file) in written.iter().enumerate() {
         let Some(found) = File::of(file) else { continue };
-        let mut others = read.iter().chain(&written[..place]);
+        let others = read.iter().chain(&written[..place]);
+        let mut others = others.filter(|other| file.apart || other.apart);
         if let Some(other) = others.find(|other| File::of(other).as_ref() == Some(&found)) {
             return Err(Failure::usage(overwritten(file, other)));
         }

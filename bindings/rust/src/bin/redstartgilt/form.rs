@@ -1,14 +1,14 @@
-//! Whether a file that is given as a lower factor looks like one.
+//! Whether a file that is held against Q looks like a lower factor.
 
 use crate::counted::counted;
 use crate::failure::Failure;
 use crate::matrix_market::Matrix;
-use redstartgilt::CholeskyFactor;
+use crate::options::Options;
 use std::path::Path;
 
 /// What a symmetric matrix is to be.
-pub const NO_FACTOR: &str = "a factor is lower: this looks like Q itself. --precision takes Q, and without FACTOR \
-                             factorises it";
+const NO_FACTOR: &str = "a factor is lower: this looks like Q itself. --precision takes Q, and without FACTOR \
+                         factorises it";
 
 /// Whether every entry other than 0 is there at the mirrored place too.
 fn is_symmetric<V: Copy + Default + PartialEq>(matrix: &Matrix<V>) -> bool {
@@ -20,9 +20,12 @@ fn is_symmetric<V: Copy + Default + PartialEq>(matrix: &Matrix<V>) -> bool {
     })
 }
 
-/// What is to be noted of a factor's file: how many entries above the diagonal are dropped. Refused are a file with more
-/// entries above the diagonal than below it, and one whose entries above it mirror those below.
-pub fn notes<V: Copy + Default + PartialEq>(file: &Path, matrix: &Matrix<V>) -> Result<Vec<String>, Failure> {
+/// Where Q is given: refused are a factor's file with more entries above the diagonal than below it, and one whose entries
+/// above it mirror those below.
+pub fn check<V: Copy + Default + PartialEq>(options: &Options, file: &Path, matrix: &Matrix<V>) -> Result<(), Failure> {
+    if options.precision.is_none() {
+        return Ok(());
+    }
     let entries = || matrix.entries.iter().filter(|entry| entry.value != V::default());
     let above = entries().filter(|entry| entry.row < entry.column).count();
     let below = entries().filter(|entry| entry.row > entry.column).count();
@@ -42,23 +45,5 @@ pub fn notes<V: Copy + Default + PartialEq>(file: &Path, matrix: &Matrix<V>) -> 
             format!("this matrix is symmetric, and {NO_FACTOR}"),
         ));
     }
-    let dropped = counted(above, "entry", "entries");
-    Ok(match above {
-        0 => Vec::new(),
-        _ => vec![format!(
-            "{}: {dropped} above the diagonal dropped; a factor is lower",
-            file.display()
-        )],
-    })
-}
-
-/// What is to be noted of a factor of L times its transpose.
-pub fn doubts(file: &Path, factor: &CholeskyFactor) -> Option<String> {
-    factor.looks_like_pivots_on_diagonal().then(|| {
-        format!(
-            "{}: the diagonal looks like D of L times D times its transpose, as CHOLMOD stores it; if it is, give D by \
-             --pivots and ones on the diagonal, or let CHOLMOD make L of L times its transpose (final_ll)",
-            file.display()
-        )
-    })
+    Ok(())
 }

@@ -1,10 +1,8 @@
 //! A map as one page that needs nothing but itself.
 //!
 //! The numbers stand in the document, on the map's cells and in a table; the script only moves between cells and shows
-//! what stands there, in parts that are hidden without it. So the page can be read without the script, without colour and
-//! without a pointer.
+//! what stands there. So the page can be read without the script, without colour and without a pointer.
 
-use crate::colours::squared;
 use crate::counted::counted;
 use crate::grid::Grid;
 use crate::map::{deviation, Fill, Map};
@@ -16,6 +14,15 @@ use redstartgilt::count_and_least;
 use std::fmt::Write;
 
 const STYLE: &str = include_str!("page.css");
+/// Beside a logarithmic scale.
+const LOG_STYLE: &str = "\
+.not-positive-ground {
+    fill: var(--hatch-ground);
+}
+.not-positive-mark {
+    fill: var(--fault-mark);
+}
+";
 const SCRIPT: &str = include_str!("page.js");
 
 /// The side of a cell in the map's own units.
@@ -34,26 +41,25 @@ const POLICY: &str = "default-src 'none'; style-src 'unsafe-inline'; script-src 
 pub fn page(map: &Map<'_>) -> String {
     let title = escaped(map.title);
     let (cells, missing) = map.not_computed();
+    let log_style = if map.colours.log { LOG_STYLE } else { "" };
     let mut html = format!(
         "<!DOCTYPE html>\n<html lang=\"en\">\n<head>\n<meta charset=\"utf-8\">\n\
          <meta name=\"viewport\" content=\"width=device-width, initial-scale=1\">\n\
          <meta http-equiv=\"Content-Security-Policy\" content=\"{POLICY}\">\n\
-         <title>{title}</title>\n<style>\n{STYLE}</style>\n</head>\n<body>\n<main style=\"--map: {}px\">\n\
-         <header>\n<h1>{title}</h1>\n<p id=\"summary\">{} of {} computed, <strong>{missing} not \
-         computed</strong>.</p>\n<p id=\"checked\">The factor is {}.</p>\n</header>\n",
-        screen_width(map),
-        cells - missing,
-        counted(cells, "cell", "cells"),
-        map.checked.words()
+         <title>{title}</title>\n<style>\n{STYLE}{log_style}</style>\n</head>\n<body>\n<main>\n\
+         <header>\n<h1>{title}</h1>\n<p id=\"summary\">{} of {cells} cells computed, <strong>{missing} not \
+         computed</strong>.</p>\n",
+        cells - missing
     );
+    if let Some(words) = map.checked.words() {
+        let _ = writeln!(html, "<p id=\"checked\">The factor is {words}.</p>");
+    }
+    html.push_str("</header>\n");
     let scale = map.scale();
     drawing(&mut html, map, scale.as_ref());
-    html.push_str("<div id=\"side\">\n");
     readout(&mut html, map);
     legend(&mut html, map, scale.as_ref());
-    variances(&mut html, map);
     diagnosis(&mut html, map);
-    html.push_str("</div>\n");
     why(&mut html, map);
     runs(&mut html, map);
     table(&mut html, map);
@@ -74,11 +80,6 @@ fn numbers(map: &Map<'_>) -> Vec<Option<usize>> {
 fn screen_side(grid: Grid) -> usize {
     let (least, largest) = SCREEN_SIDES;
     (SCREEN_MAP / grid.width.max(grid.height)).clamp(least, largest)
-}
-
-/// The largest width of the map on the screen.
-fn screen_width(map: &Map<'_>) -> usize {
-    map.placed.grid.width * screen_side(map.placed.grid)
 }
 
 /// The map's own units.
@@ -103,7 +104,7 @@ fn drawing(html: &mut String, map: &Map<'_>, scale: Option<&Scale>) {
         width * SIDE,
         height * SIDE,
         width * SCREEN_SIDES.0,
-        screen_width(map)
+        width * screen_side(map.placed.grid)
     );
     html.extend(map.patterns().map(|used| pattern(used, SIDE)));
     html.push_str("</defs>\n<g id=\"cells\">\n");
@@ -148,15 +149,15 @@ fn drawing(html: &mut String, map: &Map<'_>, scale: Option<&Scale>) {
     }
     html.push_str(
         "</g>\n</svg>\n</div>\n\
-         <p id=\"keys\" hidden>Point at a cell or touch it, or move with the arrow keys. Home and End go to the ends of \
-         the row, with Control to the first and the last cell.</p>\n",
+         <p id=\"keys\">Point at a cell, or move with the arrow keys. Home and End go to the ends of the row, with \
+         Control to the first and the last cell.</p>\n",
     );
     let buttons = [
         (map.not_computed().1 > 0, "next", "Next cell not computed"),
         (map.chain().is_some(), "next-on-chain", "Next cell of the chain"),
     ];
     if buttons.iter().any(|(there, _, _)| *there) {
-        html.push_str("<p id=\"buttons\" hidden>");
+        html.push_str("<p>");
         for (_, id, words) in buttons.iter().filter(|(there, _, _)| *there) {
             let _ = writeln!(html, "<button id=\"{id}\" type=\"button\">{words}</button>");
         }
@@ -182,7 +183,7 @@ fn pairs_of_cells(map: &Map<'_>) -> Vec<Option<(usize, String)>> {
 /// What is known of the cell that is pointed at or selected.
 fn readout(html: &mut String, map: &Map<'_>) {
     html.push_str(
-        "<section id=\"readout\" aria-labelledby=\"readout-title\" hidden>\n<h2 id=\"readout-title\">Cell</h2>\n<dl>\n",
+        "<section id=\"readout\" aria-labelledby=\"readout-title\">\n<h2 id=\"readout-title\">Cell</h2>\n<dl>\n",
     );
     let mut lines = vec![
         ("place", "place".to_string()),
@@ -203,27 +204,7 @@ fn readout(html: &mut String, map: &Map<'_>) {
             escaped(&name)
         );
     }
-    html.push_str("</dl>\n");
-    arrows(html);
-    html.push_str("</section>\n");
-}
-
-/// Buttons that move as the arrow keys do, for screens without keys.
-fn arrows(html: &mut String) {
-    html.push_str("<div id=\"arrows\" role=\"group\" aria-label=\"Move to the cell beside\">\n");
-    for (key, words, path) in [
-        ("ArrowLeft", "Left", "M16 5L8 12L16 19"),
-        ("ArrowUp", "Up", "M5 16L12 8L19 16"),
-        ("ArrowDown", "Down", "M5 8L12 16L19 8"),
-        ("ArrowRight", "Right", "M8 5L16 12L8 19"),
-    ] {
-        let _ = writeln!(
-            html,
-            "<button type=\"button\" data-key=\"{key}\" aria-label=\"{words}\" aria-controls=\"map\">\
-             <svg viewBox=\"0 0 24 24\" aria-hidden=\"true\"><path d=\"{path}\"/></svg></button>"
-        );
-    }
-    html.push_str("</div>\n");
+    html.push_str("</dl>\n</section>\n");
 }
 
 fn swatch(fill: &Fill) -> String {
@@ -366,7 +347,9 @@ fn why(html: &mut String, map: &Map<'_>) {
 fn diagnosis(html: &mut String, map: &Map<'_>) {
     let diagnostics = map.diagnostics;
     let (cells, missing) = map.not_computed();
-    let lines = [
+    let variances = map.variances().collect::<Vec<_>>();
+    let least = count_and_least(&variances);
+    let mut lines = vec![
         ("status", format!("{:?}", diagnostics.status)),
         ("pairs requested", diagnostics.requested_pairs.to_string()),
         ("pairs computed", diagnostics.closure_pairs.to_string()),
@@ -376,48 +359,13 @@ fn diagnosis(html: &mut String, map: &Map<'_>) {
         ("cells computed", (cells - missing).to_string()),
         ("cells not computed", missing.to_string()),
     ];
+    if !variances.is_empty() {
+        lines.push(("variances below 0", least.num_negative.to_string()));
+        lines.push(("least variance", format!("{:?}", least.min_value)));
+    }
     html.push_str(
         "<section id=\"diagnosis\" aria-labelledby=\"diagnosis-title\">\n\
          <h2 id=\"diagnosis-title\">Diagnosis</h2>\n<dl>\n",
-    );
-    for (name, value) in lines {
-        let _ = writeln!(html, "<div><dt>{name}</dt><dd>{value}</dd></div>");
-    }
-    html.push_str("</dl>\n</section>\n");
-}
-
-/// Least, mean and largest of the computed variances that are finite, and how many are below 0; nothing where none is
-/// computed.
-fn variances(html: &mut String, map: &Map<'_>) {
-    let computed = map.variances().collect::<Vec<_>>();
-    if computed.is_empty() {
-        return;
-    }
-    let finite = computed.iter().copied().filter(|value| value.is_finite());
-    let finite = finite.collect::<Vec<_>>();
-    let mut lines = Vec::new();
-    if !finite.is_empty() {
-        let largest = finite.iter().copied().fold(f64::NEG_INFINITY, f64::max);
-        // Parts of the mean are added, so that the sum does not pass the largest float.
-        let mean = finite.iter().map(|value| value / finite.len() as f64).sum();
-        lines.push(("least", format!("{:?}", count_and_least(&finite).min_value)));
-        lines.push(("mean", short(mean)));
-        lines.push(("largest", format!("{largest:?}")));
-    }
-    lines.push((
-        "below 0",
-        counted(count_and_least(&computed).num_negative, "cell", "cells"),
-    ));
-    let left_out = computed.len() - finite.len();
-    if left_out > 0 {
-        lines.push(("not finite, left out", counted(left_out, "cell", "cells")));
-    }
-    let unit = map.unit.map_or(String::new(), |unit| format!(", {}", squared(unit)));
-    let _ = writeln!(
-        html,
-        "<section id=\"variances\" aria-labelledby=\"variances-title\">\n\
-         <h2 id=\"variances-title\">Computed variances{}</h2>\n<dl>",
-        escaped(&unit)
     );
     for (name, value) in lines {
         let _ = writeln!(html, "<div><dt>{name}</dt><dd>{value}</dd></div>");

@@ -38,10 +38,9 @@ mod why;
 
 use checked::Checked;
 use exact::Exact;
-use failure::{tell, written, Failure};
+use failure::{written, Failure};
 use map::{Map, Placed};
 use options::{Command, Options};
-use redstartgilt::lent::default_limit;
 use redstartgilt::{
     selected_inverse_diag_with_diagnostics, selected_inverse_diag_with_limit, selected_inverse_entries,
     selected_inverse_entries_with_limit, CholeskyFactor, Error, Permutation, SelectedInverseDiagnostics,
@@ -49,6 +48,7 @@ use redstartgilt::{
 };
 use report::Value;
 use std::borrow::Cow;
+use std::fmt::Display;
 use std::io::{self, BufWriter, Write};
 use std::path::Path;
 use std::process::ExitCode;
@@ -58,7 +58,7 @@ fn main() -> ExitCode {
     match options::read(std::env::args_os().skip(1)).and_then(run) {
         Ok(()) => ExitCode::SUCCESS,
         Err(failure) => {
-            tell(&failure.message);
+            eprintln!("redstartgilt: {}", failure.message);
             ExitCode::from(failure.status)
         }
     }
@@ -69,9 +69,8 @@ fn run(command: Command) -> Result<(), Failure> {
         Command::Run(options) if options.output_is_a_file() => Box::new(io::sink()),
         _ => Box::new(BufWriter::new(io::stdout().lock())),
     };
-    let result = answer(&mut output, command);
-    // Also of an answer that has values which are not finite.
-    written(output.flush()).and(result)
+    answer(&mut output, command)?;
+    written(output.flush())
 }
 
 fn answer(output: &mut impl Write, command: Command) -> Result<(), Failure> {
@@ -95,8 +94,6 @@ struct Found<V = f64> {
 /// A factor as it is handed over.
 struct Handed {
     factor: CholeskyFactor,
-    /// The matrix of its file, for refusals.
-    matrix: Option<matrix_market::Matrix<f64>>,
     placed: Option<Placed>,
     checked: Checked,
 }
@@ -110,13 +107,11 @@ fn read_factor(file: &Path, options: &Options) -> Result<Handed, Failure> {
         let checked = precision::against(options, file, &precision, Path::new("CHOLMOD's factor"), &factor)?;
         return Ok(Handed {
             factor,
-            matrix: None,
             placed,
             checked,
         });
     }
     let (factor, matrix) = matrix_market::factor(file)?;
-    let mut notes = form::notes(file, &matrix)?;
     let n = factor.dimension();
     let placed = mask::placed(options, n)?;
     let factor = match order::read(options, n)? {
@@ -125,13 +120,10 @@ fn read_factor(file: &Path, options: &Options) -> Result<Handed, Failure> {
             .map_err(|error| Failure::refused_at(file.display(), error))?,
         None => factor,
     };
-    let checked = precision::check(options, file, &factor, || {
-        notes.extend(form::doubts(file, &factor));
-        notes
-    })?;
+    form::check(options, file, &matrix)?;
+    let checked = precision::check(options, file, &factor)?;
     Ok(Handed {
         factor,
-        matrix: Some(matrix),
         placed,
         checked,
     })
@@ -146,38 +138,32 @@ fn run_factor(output: &mut impl Write, file: &Path, options: &Options) -> Result
     }
     let Handed {
         factor,
-        matrix,
         placed,
         checked,
     } = read_factor(file, options)?;
-    let refused = |error| match &matrix {
-        Some(matrix) => matrix_market::refused_factor(file, matrix, error),
-        None => Failure::refused_at(file.display(), error),
-    };
     let output = &mut checked.output(output, options.csv);
     if let Some(operator) = &options.operator {
-        return operators::run(output, refused, &factor, operator, options);
+        return operators::run(output, file, &factor, operator, options);
     }
     let requested = requested(&factor.permutation(), options)?;
-    let why = options.why.map(|pair| Why::find(refused, &factor, &requested, pair));
+    let why = options
+        .why
+        .map(|pair| Why::find(file.display(), &factor, &requested, pair));
     let why = why.transpose()?;
     if let (Some(why), None) = (&why, &placed) {
         written(report::heading(output, options))?;
         return written(report::why(output, options.csv, why, None));
     }
-    let found = find(refused, &factor, &requested, options)?;
+    let found = find(file.display(), &factor, &requested, options)?;
     let scale = options
         .exact
-        .map(|scale| exact::check(file.display(), refused, &factor, &requested, scale));
+        .map(|scale| exact::check(file.display(), &factor, &requested, scale));
     let scale = scale.transpose()?;
-    draw(options, file, &found, why.as_ref(), placed.as_ref(), &checked)?;
+    draw(options, file, &found, why.as_ref(), placed.as_ref(), checked)?;
     matrix_file::write(options, &found)?;
     written(report::heading(output, options))?;
     match (&why, scale) {
-        (Some(why), _) => {
-            written(report::why(output, options.csv, why, placed.as_ref()))?;
-            found.check_finite(options.draws())
-        }
+        (Some(why), _) => written(report::why(output, options.csv, why, placed.as_ref())),
         (None, Some(scale)) => {
             if !options.csv {
                 written(writeln!(output, "{}", exact::yes(scale)))?;
@@ -202,21 +188,6 @@ impl Found {
     }
 }
 
-impl<V: Value> Found<V> {
-    /// That the entries which are printed or written are finite, and the variances where they are printed or drawn.
-    fn check_finite(&self, with_variances: bool) -> Result<(), Failure> {
-        let entries = report::not_finite(self.entries.iter().map(|(_, _, value)| *value));
-        let variances = report::not_finite(self.variances.iter().flatten().copied());
-        if entries > 0 {
-            Err(Failure::not_finite(entries, "entry", "entries"))
-        } else if variances > 0 && with_variances {
-            Err(Failure::not_finite(variances, "variance", "variances"))
-        } else {
-            Ok(())
-        }
-    }
-}
-
 /// Writes a map of the variances, where that is asked for.
 fn draw(
     options: &Options,
@@ -224,7 +195,7 @@ fn draw(
     found: &Found,
     why: Option<&Why>,
     placed: Option<&Placed>,
-    checked: &Checked,
+    checked: Checked,
 ) -> Result<(), Failure> {
     let Some(placed) = placed else {
         return Ok(());
@@ -235,6 +206,7 @@ fn draw(
     };
     let map = Map {
         title: &colours::title(options, title, options.exact.is_some()),
+        titled: options.title.is_some(),
         unit: options.unit.as_deref(),
         cells: &placed.map_cells(found.variances.iter().copied()),
         placed,
@@ -259,12 +231,13 @@ fn print<V: Value>(
     found: Found<V>,
     placed: Option<&Placed>,
 ) -> Result<(), Failure> {
+    // With a mask alone, as a grid's cells go row by row.
+    let placed = placed.filter(|_| options.mask.is_some());
     written(match placed {
-        _ if options.entries => report::entries(output, options.csv, &found.diagnostics, &found.entries),
+        _ if options.entries => report::entries(output, options.csv, &found.diagnostics, found.entries.into_iter()),
         Some(placed) if options.csv => report::placed_csv(output, &found.variances, placed),
         _ => report::variances(output, options.csv, &found.diagnostics, &found.variances),
-    })?;
-    found.check_finite(!options.entries || options.draws())
+    })
 }
 
 /// Writes the map to the files that are asked for.
@@ -288,26 +261,22 @@ fn requested(permutation: &Permutation, options: &Options) -> Result<SparseSymme
         None => SparseSymmetricPattern::diagonal(n),
     };
     if let Some(file) = &options.write_requests {
-        cell_lists::write_requests(file, options.requests.as_deref(), &requested, permutation)?;
-    }
-    if let Some(list) = options.requests.as_deref().filter(|_| n > 0) {
-        cell_lists::tell_if_empty(list, requested.pairs.len(), "pairs");
+        cell_lists::write_requests(file, &requested, permutation)?;
     }
     Ok(requested)
 }
 
-/// The answer to what the options ask of a factor.
+/// The answer to what the options ask of a factor; `place` is for messages.
 fn find(
-    refused: impl Fn(Error) -> Failure,
+    place: impl Display,
     factor: &CholeskyFactor,
     requested: &SparseSymmetricPattern,
     options: &Options,
 ) -> Result<Found, Failure> {
+    let refused = |error| Failure::refused_at(&place, error);
     if options.requests.is_none() && !options.wants_entries() {
-        let limit = options.limit.unwrap_or_else(|| default_limit(factor.nnz()));
-        return all_variances(factor, options.limit).map_err(|error| match error {
-            // One event has one message and status, whatever call comes upon it.
-            Error::NotCovered => Failure::too_many_pairs(limit, factor.dimension()),
+        return all_variances(factor, options.limit).map_err(|error| match (error, options.limit) {
+            (Error::NotCovered, Some(limit)) => Failure::too_many_pairs(limit),
             _ => refused(error),
         });
     }
@@ -315,7 +284,7 @@ fn find(
         Some(limit) => selected_inverse_entries_with_limit(factor, requested, limit),
         None => selected_inverse_entries(factor, requested),
     }
-    .map_err(&refused)?;
+    .map_err(refused)?;
     let reordered = |diagonal: &[Option<f64>]| factor.permute_factor_to_original_marked(diagonal);
     found(selected, requested, &factor.permutation(), reordered, options, refused)
 }
@@ -330,8 +299,7 @@ fn found(
     refused: impl Fn(Error) -> Failure,
 ) -> Result<Found, Failure> {
     let Some(inverse) = selected.inverse else {
-        let limit = selected.diagnostics.closure_limit;
-        return Err(Failure::too_many_pairs(limit, permutation.dimension()));
+        return Err(Failure::too_many_pairs(selected.diagnostics.closure_limit));
     };
     Ok(Found {
         diagnostics: selected.diagnostics,

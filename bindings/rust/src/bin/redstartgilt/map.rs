@@ -45,6 +45,8 @@ impl Placed {
 /// A map of variances.
 pub struct Map<'a> {
     pub title: &'a str,
+    /// Whether the title is one that was asked for, for which a picture has room.
+    pub titled: bool,
     /// The unit of a deviation, where it is known; that of a variance is its square.
     pub unit: Option<&'a str>,
     /// One for each cell of the grid, row by row from the top left.
@@ -56,7 +58,7 @@ pub struct Map<'a> {
     /// The track, where there is one.
     pub track: Option<&'a Track>,
     pub diagnostics: &'a SelectedInverseDiagnostics,
-    pub checked: &'a Checked,
+    pub checked: Checked,
 }
 
 /// How a cell is filled.
@@ -210,15 +212,12 @@ impl Map<'_> {
 
     /// The scale of the variances that have a colour, if there is one.
     pub fn scale(&self) -> Option<Scale> {
-        Scale::of(self.variances(), self.colours)
+        Scale::coloured(self.variances(), self.colours)
     }
 
     /// How a cell is filled, beside the map's own scale.
     pub fn fill(&self, cell: Cell, scale: Option<&Scale>) -> Fill {
-        match (cell, scale) {
-            (Cell::Variance(value), Some(scale)) if self.colours.takes(value) => Fill::Colour(scale.colour(value)),
-            _ => Fill::Pattern(cell.pattern(self.colours).unwrap_or(Pattern::NotFinite)),
-        }
+        fill(cell, scale, self.colours)
     }
 
     /// The patterns that some cell has.
@@ -276,12 +275,21 @@ impl Map<'_> {
     }
 }
 
+/// How a cell is filled on a map of this scale; a cell whose variance has a colour is always on the map's own.
+fn fill(cell: Cell, scale: Option<&Scale>, colours: Colours) -> Fill {
+    match (cell, scale) {
+        (Cell::Variance(value), Some(scale)) if colours.takes(value) => Fill::Colour(scale.colour(value)),
+        _ => Fill::Pattern(cell.pattern(colours).unwrap_or(Pattern::NotFinite)),
+    }
+}
+
 #[cfg(test)]
 mod tests {
     use super::{Cell, Fill, Map, Pattern, Placed};
     use crate::checked::Checked;
     use crate::colours::Colours;
     use crate::grid::Grid;
+    use crate::scale::Scale;
     use redstartgilt::{selected_inverse_diag_with_diagnostics, CholeskyFactor};
 
     #[test]
@@ -308,6 +316,25 @@ mod tests {
         }
     }
 
+    fn fill(cell: Cell, scale: Option<&Scale>) -> Fill {
+        super::fill(cell, scale, Colours::default())
+    }
+
+    #[test]
+    fn fills() {
+        let scale = Scale::of([0.0, 2.0].into_iter());
+        let least = fill(Cell::Variance(0.0), scale.as_ref());
+        assert_eq!(least, Fill::Colour("#440154".to_string()));
+        for (cell, pattern) in [
+            (Cell::NotComputed, Pattern::NotComputed),
+            (Cell::Land, Pattern::Land),
+            (Cell::Variance(f64::NAN), Pattern::NotFinite),
+        ] {
+            assert_eq!(fill(cell, scale.as_ref()), Fill::Pattern(pattern));
+            assert_eq!(fill(cell, None), Fill::Pattern(pattern));
+        }
+    }
+
     /// A row of cells on a map of these colours: how each is filled, and what the legend tells of the range.
     fn drawn(cells: &[Cell], colours: Colours) -> (Vec<Fill>, Vec<String>) {
         let grid = Grid {
@@ -321,6 +348,7 @@ mod tests {
         let factor = CholeskyFactor::from_triplets(1, &[(0, 0, 1.0)]).unwrap();
         let map = Map {
             title: "",
+            titled: false,
             unit: None,
             cells,
             placed: &placed,
@@ -328,7 +356,7 @@ mod tests {
             why: None,
             track: None,
             diagnostics: &selected_inverse_diag_with_diagnostics(&factor).unwrap().diagnostics,
-            checked: &Checked::WithinRounding,
+            checked: Checked::No,
         };
         let scale = map.scale();
         let fills = cells.iter().map(|cell| map.fill(*cell, scale.as_ref()));
@@ -341,7 +369,7 @@ mod tests {
     const LARGEST: &str = "#fde725";
 
     #[test]
-    fn fills() {
+    fn fills_of_a_map() {
         let colour = |colour: &str| Fill::Colour(colour.to_string());
         let [zero, one, two, not_a_number] = [0.0, 1.0, 2.0, f64::NAN].map(Cell::Variance);
         let (fills, beyond) = drawn(

@@ -20,6 +20,9 @@ pub const HELP: &str = "  --mask FILE
       order of the cells. A file with two numbers on every line is a list,
       unless all of them are 0 or 1. The factor must have as many cells as there
       is water, and the map has up to 1,048,576 with the land
+      It stands in the place of --grid. With --csv a cell then has its column
+      and row too, and last the deviation, the square root of the variance,
+      which is empty where that is below 0 or not finite
 ";
 
 /// The most cells that a grid has beside a mask.
@@ -30,16 +33,14 @@ type Line<'a> = (usize, Vec<&'a str>);
 
 /// That a grid or a mask stands beside what shows places.
 pub fn check(options: &Options) -> Result<(), Failure> {
-    let name = match (&options.grid, &options.mask) {
-        (Some(_), _) => "--grid",
-        (None, Some(_)) => "--mask",
-        (None, None) => return Ok(()),
-    };
-    if options.draws() {
+    if options.draws() || (&options.grid, &options.mask) == (&None, &None) {
         return Ok(());
     }
+    if options.mask.is_none() {
+        return Err(Failure::usage("--grid needs --svg or --html"));
+    }
     if !options.csv {
-        return Err(Failure::usage(format!("{name} needs --svg, --html or --csv")));
+        return Err(Failure::usage("--mask needs --svg, --html or --csv"));
     }
     let others = [
         ("--entries", options.entries),
@@ -48,7 +49,7 @@ pub fn check(options: &Options) -> Result<(), Failure> {
     ];
     match others.iter().find(|(_, given)| *given) {
         Some((other, _)) => Err(Failure::usage(format!(
-            "{name} goes with {other} only where a map is drawn"
+            "--mask goes with {other} only where a map is drawn"
         ))),
         None => Ok(()),
     }
@@ -59,8 +60,7 @@ pub fn placed(options: &Options, n: usize) -> Result<Option<Placed>, Failure> {
     let Some(file) = &options.mask else {
         return match options.grid {
             Some(grid) if grid.cells() != Some(n) => Err(Failure::usage(format!(
-                "--grid {grid} does not have the factor's {}",
-                counted(n, "cell", "cells")
+                "--grid {grid} does not have the factor's {n} cells"
             ))),
             Some(grid) => Ok(Some(Placed {
                 grid,

@@ -1,12 +1,9 @@
 //! Factors, operators and precision matrices from Matrix Market files.
 
-use crate::counted::counted;
 use crate::failure::Failure;
 use crate::files;
-use crate::form;
 use crate::lines::Lines;
-use redstartgilt::{CholeskyFactor, Error, SparseRowOperator, WholeFactor, MAX_DIMENSION, MAX_ENTRIES};
-use std::fmt::Debug;
+use redstartgilt::{CholeskyFactor, Error, SparseRowOperator, WholeFactor, MAX_DIMENSION};
 use std::path::Path;
 
 /// What a file's matrix is to be.
@@ -49,7 +46,7 @@ pub struct Entry<V> {
     pub line: usize,
 }
 
-/// The factor of a file, and its matrix for refusals.
+/// The factor of a file, and its matrix.
 pub fn factor(file: &Path) -> Result<(CholeskyFactor, Matrix<f64>), Failure> {
     let matrix = read(file, Kind::Factor)?;
     let factor = CholeskyFactor::from_triplets(matrix.rows, &matrix.triplets())
@@ -65,10 +62,8 @@ pub fn unit_factor(file: &Path) -> Result<Matrix<f64>, Failure> {
 /// The factor of whole numbers of a file, and its matrix.
 pub fn whole_factor(file: &Path) -> Result<(WholeFactor, Matrix<i64>), Failure> {
     let matrix = read(file, Kind::WholeFactor)?;
-    let factor = WholeFactor::from_triplets(matrix.rows, &matrix.triplets()).map_err(|error| match error {
-        Error::TooLarge => too_large(file, &matrix),
-        _ => Failure::refused_at(file.display(), error),
-    })?;
+    let factor = WholeFactor::from_triplets(matrix.rows, &matrix.triplets())
+        .map_err(|error| Failure::refused_at(file.display(), error))?;
     Ok((factor, matrix))
 }
 
@@ -77,61 +72,9 @@ pub fn precision<V: Value>(file: &Path) -> Result<Matrix<V>, Failure> {
     read(file, Kind::Precision)
 }
 
-/// The refusal of a factor with too many columns or entries.
-fn too_large<V>(file: &Path, matrix: &Matrix<V>) -> Failure {
-    let (columns, entries) = (matrix.columns, matrix.entries.len());
-    if columns > MAX_DIMENSION {
-        Failure::too_large(
-            file.display(),
-            format_args!("the factor has {columns} columns"),
-            MAX_DIMENSION,
-        )
-    } else if entries > MAX_ENTRIES {
-        Failure::too_large(
-            file.display(),
-            format_args!("the factor has {entries} entries"),
-            MAX_ENTRIES,
-        )
-    } else {
-        Failure::refused_at(file.display(), Error::TooLarge)
-    }
-}
-
-/// The refusal of a diagonal, which is that of the first column whose diagonal is not stored or not positive.
-pub fn refused_diagonal<V: Copy + Debug>(
-    file: &Path,
-    entries: &[Entry<V>],
-    error: Error,
-    is_positive: impl Fn(V) -> bool,
-) -> Failure {
-    let diagonals = entries.iter().filter(|entry| entry.row == entry.column);
-    // By column, so those before the first that is missing are each in its place.
-    let in_place = diagonals.zip(0..).take_while(|(entry, place)| entry.column == *place);
-    let mut column = 1;
-    for (entry, _) in in_place {
-        if !is_positive(entry.value) {
-            return Failure::refused_because(
-                format_args!("{}:{}", file.display(), entry.line),
-                error,
-                format_args!(
-                    "column {column} of the factor has the diagonal {:?}, and it must be above 0",
-                    entry.value
-                ),
-            );
-        }
-        column += 1;
-    }
-    let reason = format_args!("column {column} of the factor has no diagonal entry");
-    Failure::refused_because(file.display(), error, reason)
-}
-
-/// The refusal of a factor, with the line of the entry that it is about, or with what there is too much of; counted from 1.
+/// The refusal of a factor; that of an entry which is not finite, or of a diagonal beside pivots, with its line, and counted
+/// from 1.
 pub fn refused_factor(file: &Path, matrix: &Matrix<f64>, error: Error) -> Failure {
-    match error {
-        Error::TooLarge => return too_large(file, matrix),
-        Error::NonPositiveDefinite => return refused_diagonal(file, &matrix.entries, error, |value| value > 0.0),
-        _ => {}
-    }
     let mut entries = matrix.entries.iter();
     let at_fault = match error {
         Error::NotFiniteEntry(place) => entries.find(|entry| place == Some((entry.row, entry.column))),
@@ -169,11 +112,7 @@ pub fn operator(file: &Path, cells: usize) -> Result<SparseRowOperator, Failure>
         return Err(Failure::refused_because(
             file.display(),
             Error::DimensionMismatch,
-            format_args!(
-                "the operator has {}, the factor {}",
-                counted(matrix.columns, "column", "columns"),
-                counted(cells, "cell", "cells")
-            ),
+            format_args!("the operator has {} columns, the factor {cells} cells", matrix.columns),
         ));
     }
     // More rows than are allowed are refused without lists for each of them.
@@ -183,18 +122,7 @@ pub fn operator(file: &Path, cells: usize) -> Result<SparseRowOperator, Failure>
             terms.push((entry.column, entry.value));
         }
     }
-    let terms = rows.iter().map(Vec::len).sum::<usize>();
-    SparseRowOperator::new(matrix.columns, rows).map_err(|error| match error {
-        Error::TooLarge => {
-            let (number, what, most) = if matrix.rows > MAX_DIMENSION {
-                (matrix.rows, "rows", MAX_DIMENSION)
-            } else {
-                (terms, "entries", MAX_ENTRIES)
-            };
-            Failure::too_large(file.display(), format_args!("the operator has {number} {what}"), most)
-        }
-        _ => Failure::refused_at(file.display(), error),
-    })
+    SparseRowOperator::new(matrix.columns, rows).map_err(|error| Failure::refused_at(file.display(), error))
 }
 
 /// The kinds of header that are read.
@@ -276,11 +204,7 @@ fn parse<V: Value>(file: &Path, text: &[u8], kind: Kind) -> Result<Matrix<V>, Fa
     if entries.len() < count {
         return Err(Failure::in_file(
             file,
-            format!(
-                "the file says it has {}, but has {}",
-                counted(count, "entry", "entries"),
-                entries.len()
-            ),
+            format!("the file says it has {count} entries, but has {}", entries.len()),
         ));
     }
     entries.sort_by_key(|entry| (entry.column, entry.row, entry.line));
@@ -366,20 +290,16 @@ fn array<V: Value>(file: &Path, mut lines: Lines<'_>, header: &Header, n: usize)
     })
 }
 
+/// What a matrix that is not square was to be, and its sizes.
 fn not_square(file: &Path, number: usize, kind: Kind, rows: usize, columns: usize) -> Failure {
-    let what = if kind == Kind::Precision {
-        "a precision matrix"
-    } else {
-        "a factor"
+    let what = match kind {
+        Kind::Precision => "a precision matrix",
+        _ => "a factor",
     };
     Failure::at_line(
         file,
         number,
-        format!(
-            "{what} is square, but this has {} and {}",
-            counted(rows, "row", "rows"),
-            counted(columns, "column", "columns")
-        ),
+        format!("{what} is square, but this has {rows} rows and {columns} columns"),
     )
 }
 
@@ -413,16 +333,13 @@ fn header(file: &Path, number: usize, line: &str, kind: Kind) -> Result<Header, 
     let lower_only = match symmetry {
         "general" => false,
         "symmetric" if kind == Kind::Operator => return fail("an operator must be general, not symmetric".to_string()),
-        "symmetric" if kind != Kind::Precision => {
-            return fail(format!("the header says symmetric, and {}", form::NO_FACTOR));
-        }
         "symmetric" => true,
         _ if kind == Kind::Precision => {
             return fail(format!(
                 "a precision matrix must be symmetric or general, not {symmetry}"
             ));
         }
-        _ => return fail(format!("the matrix must be general, not {symmetry}")),
+        _ => return fail(format!("the matrix must be general or symmetric, not {symmetry}")),
     };
     Ok(Header {
         whole_numbers,
@@ -462,8 +379,8 @@ fn entry<V: Value>(
     let words = line.split_whitespace().collect::<Vec<_>>();
     let [row, column, value] = words[..] else {
         return fail(format!(
-            "an entry is row, column and value, but this line has {}",
-            counted(words.len(), "word", "words")
+            "an entry is row, column and value, but this line has {} words",
+            words.len()
         ));
     };
     let mut places = [0; 2];

@@ -113,20 +113,15 @@ pub fn read(words: impl IntoIterator<Item = OsString>) -> Result<Command, Failur
     let mut names_only = false;
     let mut words = words.into_iter();
     while let Some(word) = words.next() {
-        if names_only || word == "-" || !word.as_encoded_bytes().starts_with(b"-") {
-            let file = Given::new("FACTOR", word, Use::Read)?;
+        let text = word.to_str().unwrap_or("");
+        if names_only || !text.starts_with('-') {
+            let file = Given::by_name("FACTOR", word, Use::Read);
             if options.factor.replace(file.path.clone()).is_some() {
                 return Err(Failure::usage("more than one factor is given"));
             }
             options.files.push(file);
             continue;
         }
-        let Some(text) = word.to_str() else {
-            let word = word.to_string_lossy();
-            return Err(Failure::usage(format!(
-                "{word} is not text; a value may be a word of its own"
-            )));
-        };
         let (name, joined) = match text.split_once('=') {
             Some((name, value)) => (name, Some(OsString::from(value))),
             None => (text, None),
@@ -140,8 +135,12 @@ pub fn read(words: impl IntoIterator<Item = OsString>) -> Result<Command, Failur
                 .next()
                 .ok_or_else(|| Failure::usage(format!("{name} needs a value")))?,
         };
-        if let Takes::File(usage) = takes {
-            let file = Given::new(name, value, usage)?;
+        let file = match takes {
+            Takes::File(usage) => Some(Given::by_name(name, value.clone(), usage)),
+            Takes::FileApart(usage) => Some(Given::apart(name, value.clone(), usage)?),
+            _ => None,
+        };
+        if let Some(file) = file {
             value = file.path.clone().into();
             options.files.push(file);
         }
@@ -193,14 +192,20 @@ pub fn read(words: impl IntoIterator<Item = OsString>) -> Result<Command, Failur
 enum Takes {
     Nothing,
     Value,
+    /// A file, by its name.
     File(Use),
+    /// A file that is kept apart from the others.
+    FileApart(Use),
 }
 
 fn takes(name: &str) -> Takes {
     match name {
-        "--requests" | "--precision" | "--permutation" | "--cell-to-place" | "--place-to-cell" | "--pivots"
-        | "--operator" | "--with" | "--pairs" | "--ranges" | "--track" | "--mask" => Takes::File(Use::Read),
-        "--write-requests" | "--matrix" | "--svg" | "--html" => Takes::File(Use::Written),
+        "--requests" | "--permutation" | "--pivots" | "--operator" | "--with" | "--pairs" | "--ranges" | "--track" => {
+            Takes::File(Use::Read)
+        }
+        "--write-requests" | "--svg" | "--html" => Takes::File(Use::Written),
+        "--precision" | "--cell-to-place" | "--place-to-cell" | "--mask" => Takes::FileApart(Use::Read),
+        "--matrix" => Takes::FileApart(Use::Written),
         "--limit" | "--exact" | "--width" | "--why" | "--grid" | "--title" | "--unit" | "--range" | "--write-files" => {
             Takes::Value
         }
@@ -227,10 +232,10 @@ fn checked(options: Options, demo: bool) -> Result<Command, Failure> {
             ("--operator", options.operator.is_some()),
             ("--limit", options.limit.is_some()),
             ("--entries", options.entries),
-            ("--matrix", options.matrix.is_some()),
             ("--whole", options.whole),
             ("--exact", options.exact.is_some()),
             ("--grid", options.grid.is_some()),
+            ("--matrix", options.matrix.is_some()),
             ("--mask", options.mask.is_some()),
             ("--unit", options.unit.is_some()),
         ];
@@ -263,7 +268,7 @@ fn checked(options: Options, demo: bool) -> Result<Command, Failure> {
         }
         for (name, file) in [("--svg", &options.svg), ("--html", &options.html)] {
             if file.is_some() && options.grid.is_none() && options.mask.is_none() {
-                return Err(Failure::usage(format!("{name} needs --grid or --mask")));
+                return Err(Failure::usage(format!("{name} needs --grid")));
             }
         }
         if options.write_files.is_some() {
@@ -298,9 +303,9 @@ fn checked(options: Options, demo: bool) -> Result<Command, Failure> {
             ("--write-requests", options.write_requests.is_some()),
             ("--operator", options.operator.is_some()),
             ("--entries", options.entries),
-            ("--matrix", options.matrix.is_some()),
             ("--why", options.why.is_some()),
             ("--grid", options.grid.is_some()),
+            ("--matrix", options.matrix.is_some()),
             ("--mask", options.mask.is_some()),
             ("--title", options.title.is_some()),
             ("--unit", options.unit.is_some()),
@@ -317,8 +322,8 @@ fn checked(options: Options, demo: bool) -> Result<Command, Failure> {
             ("--ranges", options.ranges.is_some()),
             ("--operator", options.operator.is_some()),
             ("--entries", options.entries),
-            ("--matrix", options.matrix.is_some()),
             ("--why", options.why.is_some()),
+            ("--matrix", options.matrix.is_some()),
         ];
         alone("--track", &others)?;
         if !options.whole {
@@ -332,11 +337,12 @@ fn checked(options: Options, demo: bool) -> Result<Command, Failure> {
         let others = [
             ("--requests", options.requests.is_some()),
             ("--write-requests", options.write_requests.is_some()),
+            ("--limit", options.limit.is_some()),
             ("--entries", options.entries),
-            ("--matrix", options.matrix.is_some()),
             ("--whole", options.whole),
             ("--why", options.why.is_some()),
             ("--grid", options.grid.is_some()),
+            ("--matrix", options.matrix.is_some()),
             ("--mask", options.mask.is_some()),
             ("--title", options.title.is_some()),
             ("--unit", options.unit.is_some()),
@@ -346,11 +352,13 @@ fn checked(options: Options, demo: bool) -> Result<Command, Failure> {
     if options.why.is_some() && options.whole {
         return Err(Failure::usage("--why does not go with --whole"));
     }
-    if options.why.is_some() {
-        let others = [("--entries", options.entries), ("--matrix", options.matrix.is_some())];
-        alone("--why", &others)?;
+    if options.why.is_some() && options.entries {
+        return Err(Failure::usage("--why does not go with --entries"));
     }
-    if options.why.is_some() && options.limit.is_some() && !options.draws() {
+    if options.why.is_some() && options.matrix.is_some() {
+        return Err(Failure::usage("--why does not go with --matrix"));
+    }
+    if options.why.is_some() && options.limit.is_some() && options.svg.is_none() && options.html.is_none() {
         return Err(Failure::usage("--why goes with --limit only where a map is drawn"));
     }
     if options.with.is_some() && options.operator.is_none() {
@@ -361,6 +369,17 @@ fn checked(options: Options, demo: bool) -> Result<Command, Failure> {
     }
     if options.only_requested && !options.wants_entries() {
         return Err(Failure::usage("--only-requested needs --entries or --matrix"));
+    }
+    let written = [
+        ("--write-requests", &options.write_requests),
+        ("--svg", &options.svg),
+        ("--html", &options.html),
+    ];
+    for (place, (name, file)) in written.iter().enumerate() {
+        let other = written[place + 1..].iter().find(|(_, other)| other == file);
+        if let (Some(_), Some((other, _))) = (file, other) {
+            return Err(Failure::usage(format!("{name} and {other} need two files")));
+        }
     }
     files::check(&options.files)?;
     Ok(Command::Run(Box::new(options)))

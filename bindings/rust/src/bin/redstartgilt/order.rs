@@ -6,10 +6,8 @@ use crate::options::Options;
 use redstartgilt::Permutation;
 
 pub const HELP: &str = "  --cell-to-place FILE
-      the order of the factor: line i has the place of cell i in the factor.
-      Requests and output are then in the order of the cells, not of the factor
-  --permutation FILE
-      another name for --cell-to-place
+      another name for --permutation: line i has the place of cell i in the
+      factor
   --place-to-cell FILE
       the same the other way round: line k has the cell at place k of the
       factor. Most programs give this one, some counted from 0, which is to be
@@ -27,22 +25,21 @@ pub const HELP: &str = "  --cell-to-place FILE
       A list that is taken for the other gives a wrong map; --precision tells
 ";
 
-/// The order that the options give, for a factor of dimension n. A failure says which way the list goes.
+/// The order that the options give, for a factor of dimension n.
 pub fn read(options: &Options, n: usize) -> Result<Option<Permutation>, Failure> {
-    let read = |list, way: &str| {
-        cell_lists::permutation(list, n).map_err(|failure| Failure {
-            message: format!("{}; {way}", failure.message),
-            ..failure
-        })
-    };
     match (&options.permutation, &options.place_to_cell) {
-        (Some(list), _) => read(list, CELL_TO_PLACE).map(Some),
-        (None, Some(list)) => read(list, PLACE_TO_CELL).map(|order| Some(reversed(order))),
+        (Some(list), _) => cell_lists::permutation(list, n).map(Some),
+        (None, Some(list)) => match cell_lists::permutation(list, n) {
+            Ok(order) => Ok(Some(reversed(order))),
+            Err(failure) => Err(Failure {
+                message: format!("{}; {PLACE_TO_CELL}", failure.message),
+                ..failure
+            }),
+        },
         (None, None) => Ok(None),
     }
 }
 
-const CELL_TO_PLACE: &str = "--cell-to-place, or --permutation, has the place of each cell in the factor";
 const PLACE_TO_CELL: &str = "--place-to-cell has the cell at each place of the factor";
 
 /// The order of a list that is read the other way.

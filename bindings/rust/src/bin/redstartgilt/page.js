@@ -6,10 +6,6 @@
     const columns = Number(map.dataset.columns);
     const side = Number(map.dataset.side);
     const rows = cells.length / columns;
-    // What is of no use without this script.
-    for (const part of document.querySelectorAll("main [hidden]")) {
-        part.hidden = false;
-    }
     // The cell of the keyboard, also chosen by a click.
     let selected = null;
 
@@ -92,9 +88,9 @@
     };
 
     // Where a key leads, or null for a key that is not the map's.
-    const moved = (place, key, control) => {
+    const moved = (place, event) => {
         const [column, row] = [columnOf(place), rowOf(place)];
-        switch (key) {
+        switch (event.key) {
             case "ArrowLeft":
                 return column > 0 ? place - 1 : place;
             case "ArrowRight":
@@ -104,9 +100,9 @@
             case "ArrowDown":
                 return row < rows - 1 ? place + columns : place;
             case "Home":
-                return control ? 0 : row * columns;
+                return event.ctrlKey ? 0 : row * columns;
             case "End":
-                return control ? cells.length - 1 : row * columns + columns - 1;
+                return event.ctrlKey ? cells.length - 1 : row * columns + columns - 1;
             default:
                 return null;
         }
@@ -116,7 +112,7 @@
         if (event.altKey || event.metaKey) {
             return;
         }
-        const place = moved(selected ?? 0, event.key, event.ctrlKey);
+        const place = moved(selected ?? 0, event);
         if (place !== null) {
             event.preventDefault();
             outline("pointed", null);
@@ -143,14 +139,6 @@
             select(place);
         }
     });
-    // On a screen without keys. The first press selects the first cell, as the map's focus does.
-    const arrows = byId("arrows");
-    for (const button of arrows.querySelectorAll("button")) {
-        button.addEventListener("click", () => {
-            outline("pointed", null);
-            select(selected === null ? 0 : moved(selected, button.dataset.key, false));
-        });
-    }
     // The cells of the chain, in the order in which they come into it.
     const chain = cells
         .map((cell, place) => [Number(cell.dataset.chainOrder), place])

@@ -1,7 +1,6 @@
 //! Variances and entries of a factor with pivots, and what a refusal of it is about.
 
 use crate::cell_lists::{self, Pivot};
-use crate::counted::counted;
 use crate::failure::{written, Failure};
 use crate::options::Options;
 use crate::{draw, form, found, mask, matrix_file, matrix_market, order, precision, print, report, requested, Found};
@@ -13,7 +12,7 @@ use std::path::Path;
 
 /// Prints, and draws where that is asked for, what the options ask of a factor and the pivots of a list.
 pub fn run(output: &mut impl Write, file: &Path, list: &Path, options: &Options) -> Result<(), Failure> {
-    let (factor, notes) = read(file, list)?;
+    let factor = read(file, list, options)?;
     let n = factor.dimension();
     let placed = mask::placed(options, n)?;
     let factor = match order::read(options, n)? {
@@ -22,11 +21,11 @@ pub fn run(output: &mut impl Write, file: &Path, list: &Path, options: &Options)
             .map_err(|error| Failure::refused_at(file.display(), error))?,
         None => factor,
     };
-    let checked = precision::check_pivots(options, file, &factor, notes)?;
+    let checked = precision::check_pivots(options, file, &factor)?;
     let output = &mut checked.output(output, options.csv);
     let requested = requested(&factor.permutation(), options)?;
     let found = find(file, &factor, &requested, options)?;
-    draw(options, file, &found, None, placed.as_ref(), &checked)?;
+    draw(options, file, &found, None, placed.as_ref(), checked)?;
     matrix_file::write(options, &found)?;
     written(report::heading(output, options))?;
     print(output, options, found, placed.as_ref())
@@ -48,18 +47,19 @@ fn find(
     found(selected, requested, &factor.permutation(), reordered, options, refused)
 }
 
-fn read(file: &Path, list: &Path) -> Result<(LdlFactor, Vec<String>), Failure> {
+fn read(file: &Path, list: &Path, options: &Options) -> Result<LdlFactor, Failure> {
     let matrix = matrix_market::unit_factor(file)?;
     let pivots = cell_lists::pivots(list)?;
     let values = pivots.iter().map(|pivot| pivot.value).collect();
     let factor = LdlFactor::from_triplets(matrix.rows, &matrix.triplets(), values);
     let factor = factor.map_err(|error| match error {
-        Error::TooLarge | Error::NotFiniteEntry(Some(_)) | Error::PivotDiagonalNotOne => {
+        Error::NotFiniteEntry(Some(_)) | Error::PivotDiagonalNotOne => {
             matrix_market::refused_factor(file, &matrix, error)
         }
         _ => refused(file, list, matrix.rows, &pivots, error),
     })?;
-    Ok((factor, form::notes(file, &matrix)?))
+    form::check(options, file, &matrix)?;
+    Ok(factor)
 }
 
 /// The refusal of pivots for so many columns, with what it is about; pivots are counted from 1.
@@ -77,9 +77,8 @@ fn refused(file: &Path, list: &Path, columns: usize, pivots: &[Pivot], error: Er
             list.display(),
             error,
             format_args!(
-                "the list has {}, the factor {}, and each needs one",
-                counted(pivots.len(), "pivot", "pivots"),
-                counted(columns, "column", "columns")
+                "the list has {} pivots, the factor {columns} columns, and each needs one",
+                pivots.len()
             ),
         )),
         Error::NotFiniteEntry(_) => at_fault(|value| !value.is_finite(), "which is not finite"),

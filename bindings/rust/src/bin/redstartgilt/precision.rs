@@ -30,8 +30,8 @@ pub const HELP: &str = "  --precision FILE
         redstartgilt --precision Q.mtx --grid 40x40 --html map.html
       The command must have been built where SuiteSparse is installed, Debian's
       package libsuitesparse-dev.
-      Text, maps and pages say \"checked against Q\" or \"not checked against Q\",
-      and --csv has the last column checked with yes or no
+      Text, maps and pages then say \"checked against Q\", and --csv has the last
+      column checked with yes
 ";
 
 /// Q in floats.
@@ -154,15 +154,10 @@ fn has_order(options: &Options) -> bool {
     options.permutation.is_some() || options.place_to_cell.is_some()
 }
 
-/// Holds a factor, with its order, against Q, where that is given; `notes` are told where it is not.
-pub fn check(
-    options: &Options,
-    file: &Path,
-    factor: &CholeskyFactor,
-    notes: impl FnOnce() -> Vec<String>,
-) -> Result<Checked, Failure> {
+/// Holds a factor, with its order, against Q, where that is given.
+pub fn check(options: &Options, file: &Path, factor: &CholeskyFactor) -> Result<Checked, Failure> {
     let Some(q) = &options.precision else {
-        return Ok(Checked::No { notes: notes() });
+        return Ok(Checked::No);
     };
     let precision = read(q)?;
     against(options, q, &precision, file, factor)
@@ -213,14 +208,9 @@ pub fn against(
 }
 
 /// Holds a factor with pivots, with its order, against Q, where that is given.
-pub fn check_pivots(
-    options: &Options,
-    file: &Path,
-    factor: &LdlFactor,
-    notes: Vec<String>,
-) -> Result<Checked, Failure> {
+pub fn check_pivots(options: &Options, file: &Path, factor: &LdlFactor) -> Result<Checked, Failure> {
     let Some(q) = &options.precision else {
-        return Ok(Checked::No { notes });
+        return Ok(Checked::No);
     };
     let precision = read(q)?;
     let mismatch = match factor.check_against(&precision) {
@@ -249,10 +239,9 @@ pub fn check_whole(
     file: &Path,
     factor: &WholeFactor,
     order: &Permutation,
-    notes: Vec<String>,
 ) -> Result<Checked, Failure> {
     let Some(q) = &options.precision else {
-        return Ok(Checked::No { notes });
+        return Ok(Checked::No);
     };
     let precision = read_whole(q)?;
     let mismatch = match factor.check_against(&precision, order) {

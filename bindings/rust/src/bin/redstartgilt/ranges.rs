@@ -31,8 +31,6 @@ pub fn run(output: &mut impl Write, whole: &Whole<'_>, file: &Path, options: &Op
             }
         }
     }
-    let number = requested.pairs.len();
-    cell_lists::check_number(file, number, format_args!("its rows need {number} pairs"))?;
     let (inverse, diagnostics) = whole.select(&requested, options)?;
     let mut bounds = Vec::new();
     for (number, row) in rows {

@@ -1,8 +1,6 @@
 //! What is printed.
 
 use crate::colours::squared;
-use crate::counted::counted;
-use crate::failure::Failure;
 use crate::map::Placed;
 use crate::options::Options;
 use crate::track::Track;
@@ -27,34 +25,6 @@ pub trait Value: Copy + Debug {
 
     /// What is said of a summary's values as a whole; there is at least one.
     fn summary(values: &[Self]) -> String;
-
-    fn is_finite(self) -> bool;
-}
-
-/// How many values are not finite.
-pub fn not_finite<V: Value>(values: impl Iterator<Item = V>) -> usize {
-    values.filter(|value| !value.is_finite()).count()
-}
-
-/// That all values are finite; one and several of them have these names.
-pub fn check_finite(values: &[f64], one: &str, several: &str) -> Result<(), Failure> {
-    match not_finite(values.iter().copied()) {
-        0 => Ok(()),
-        number => Err(Failure::not_finite(number, one, several)),
-    }
-}
-
-/// How many of so many values are not finite, in a line, where there are such.
-fn finiteness<V: Value>(
-    output: &mut impl Write,
-    values: impl ExactSizeIterator<Item = V>,
-    [one, several]: [&str; 2],
-) -> io::Result<()> {
-    let all = values.len();
-    match not_finite(values) {
-        0 => Ok(()),
-        number => writeln!(output, "{number} of {} not finite", counted(all, one, several)),
-    }
 }
 
 impl Value for f64 {
@@ -68,18 +38,10 @@ impl Value for f64 {
 
     fn summary(values: &[Self]) -> String {
         let counted = count_and_least(values);
-        let not_finite = match not_finite(values.iter().copied()) {
-            0 => String::new(),
-            number => format!("{number} not finite, "),
-        };
         format!(
-            "{} of them negative, {not_finite}the least {:?}",
+            "{} of them negative, the least {:?}",
             counted.num_negative, counted.min_value
         )
-    }
-
-    fn is_finite(self) -> bool {
-        self.is_finite()
     }
 }
 
@@ -94,10 +56,6 @@ impl Value for i64 {
 
     fn summary(values: &[Self]) -> String {
         format!("the least {}", values.iter().min().expect("there is one"))
-    }
-
-    fn is_finite(self) -> bool {
-        true
     }
 }
 
@@ -119,9 +77,9 @@ pub fn heading(output: &mut impl Write, options: &Options) -> io::Result<()> {
 pub fn counts(output: &mut impl Write, diagnostics: &SelectedInverseDiagnostics) -> io::Result<()> {
     writeln!(
         output,
-        "{:?}: {} requested, {} computed, {} in the factor, limit {}",
+        "{:?}: {} pairs requested, {} computed, {} in the factor, limit {}",
         diagnostics.status,
-        counted(diagnostics.requested_pairs, "pair", "pairs"),
+        diagnostics.requested_pairs,
         diagnostics.closure_pairs,
         diagnostics.factor_pairs,
         diagnostics.closure_limit
@@ -142,13 +100,13 @@ pub const EXACT: &str = "Exact: computed in whole numbers, and nothing was round
 
 /// How many cells were computed, in two lines.
 pub fn coverage<V: Value>(output: &mut impl Write, variances: &[Option<V>]) -> io::Result<()> {
-    let cells = counted(variances.len(), "cell", "cells");
+    let cells = variances.len();
     let computed = variances.iter().flatten().copied().collect::<Vec<_>>();
-    write!(output, "{} of {cells} computed", computed.len())?;
+    write!(output, "{} of {cells} cells computed", computed.len())?;
     if !computed.is_empty() {
         write!(output, ", {}", V::summary(&computed))?;
     }
-    writeln!(output, "\n{} of {cells} not computed", variances.len() - computed.len())
+    writeln!(output, "\n{} of {cells} cells not computed", cells - computed.len())
 }
 
 /// The words in the place of a variance that was not computed.
@@ -223,7 +181,6 @@ pub fn row_variances(
 ) -> io::Result<()> {
     if !csv {
         counts(output, diagnostics)?;
-        finiteness(output, variances.iter().copied(), ["variance", "variances"])?;
     }
     let gap = if csv { ',' } else { ' ' };
     writeln!(output, "row{gap}variance")?;
@@ -287,7 +244,6 @@ pub fn covariances(
 ) -> io::Result<()> {
     if !csv {
         counts(output, diagnostics)?;
-        finiteness(output, covariances.iter().copied(), ["covariance", "covariances"])?;
     }
     let gap = if csv { ',' } else { ' ' };
     writeln!(output, "row{gap}with{gap}covariance")?;
@@ -302,12 +258,11 @@ pub fn entries<V: Value>(
     output: &mut impl Write,
     csv: bool,
     diagnostics: &SelectedInverseDiagnostics,
-    entries: &[(usize, usize, V)],
+    entries: impl Iterator<Item = (usize, usize, V)>,
 ) -> io::Result<()> {
     let (gap, exact) = if csv { (',', V::EXACT) } else { (' ', "") };
     if !csv {
         counts_of::<V>(output, diagnostics)?;
-        finiteness(output, entries.iter().map(|(_, _, value)| *value), ["entry", "entries"])?;
     }
     writeln!(output, "row{gap}column{gap}{exact}value")?;
     for (row, column, value) in entries {

@@ -23,7 +23,7 @@ pub struct Scale {
 
 impl Scale {
     /// The scale of a range, or of some values; values that have no place on it are passed over.
-    pub fn of(values: impl Iterator<Item = f64>, colours: Colours) -> Option<Scale> {
+    pub fn coloured(values: impl Iterator<Item = f64>, colours: Colours) -> Option<Scale> {
         let ends = values.filter(|value| colours.takes(*value)).fold(None, |ends, value| {
             let (least, largest) = ends.unwrap_or((value, value));
             Some((value.min(least), value.max(largest)))
@@ -114,15 +114,22 @@ pub fn short(value: f64) -> String {
 }
 
 #[cfg(test)]
+impl Scale {
+    /// The scale of some values by themselves.
+    pub fn of(values: impl Iterator<Item = f64>) -> Option<Scale> {
+        Self::coloured(values, Colours::default())
+    }
+}
+
+#[cfg(test)]
 mod tests {
     use super::{short, Scale};
     use crate::colours::Colours;
 
     #[test]
     fn colours_of_a_scale() {
-        let of = |values: &[f64]| Scale::of(values.iter().copied(), Colours::default());
-        assert_eq!(of(&[f64::NAN, f64::INFINITY]), None);
-        let scale = of(&[2.0, f64::NAN, 1.0, 3.0]).unwrap();
+        assert_eq!(Scale::of([f64::NAN, f64::INFINITY].into_iter()), None);
+        let scale = Scale::of([2.0, f64::NAN, 1.0, 3.0].into_iter()).unwrap();
         assert_eq!(scale.colour(1.0), "#440154");
         assert_eq!(scale.colour(2.0), "#21918c");
         assert_eq!(scale.colour(3.0), "#fde725");
@@ -130,9 +137,9 @@ mod tests {
             scale.ticks(),
             [(0.0, 1.0), (0.25, 1.5), (0.5, 2.0), (0.75, 2.5), (1.0, 3.0)]
         );
-        let widest = of(&[f64::MAX, f64::MIN]).unwrap();
+        let widest = Scale::of([f64::MAX, f64::MIN].into_iter()).unwrap();
         assert_eq!(widest.colour(0.0), "#21918c");
-        let single = of(&[4.0]).unwrap();
+        let single = Scale::of([4.0].into_iter()).unwrap();
         assert_eq!(
             (single.colour(4.0), single.ticks()),
             ("#21918c".to_string(), vec![(0.5, 4.0)])
@@ -142,15 +149,15 @@ mod tests {
     #[test]
     fn logarithmic_and_given_scales() {
         let log = |range| Colours { range, log: true };
-        assert_eq!(Scale::of([0.0, -1.0].into_iter(), log(None)), None);
-        let scale = Scale::of([0.25, 0.0, 64.0].into_iter(), log(None)).unwrap();
+        assert_eq!(Scale::coloured([0.0, -1.0].into_iter(), log(None)), None);
+        let scale = Scale::coloured([0.25, 0.0, 64.0].into_iter(), log(None)).unwrap();
         let ticks = scale.ticks();
         assert_eq!((ticks[0], ticks[4]), ((0.0, 0.25), (1.0, 64.0)));
         for ((_, found), expected) in ticks.iter().zip([0.25, 1.0, 4.0, 16.0, 64.0]) {
             assert!((found - expected).abs() <= 1e-14 * expected, "{found}");
         }
         assert_eq!(scale.colour(4.0), "#21918c");
-        let least = Scale::of([f64::MIN_POSITIVE / 4.0, f64::MAX].into_iter(), log(None)).unwrap();
+        let least = Scale::coloured([f64::MIN_POSITIVE / 4.0, f64::MAX].into_iter(), log(None)).unwrap();
         assert_eq!(
             (least.colour(f64::MIN_POSITIVE / 4.0), least.colour(f64::MAX)),
             ("#440154".to_string(), "#fde725".to_string())
@@ -161,7 +168,7 @@ mod tests {
                 range: Some((1.0, 3.0)),
                 log: false,
             };
-            let given = Scale::of(values.iter().copied(), colours).unwrap();
+            let given = Scale::coloured(values.iter().copied(), colours).unwrap();
             assert_eq!((given.ticks()[0], given.ticks()[4]), ((0.0, 1.0), (1.0, 3.0)));
             assert_eq!(
                 (given.colour(7.0), given.colour(0.0)),

@@ -1,6 +1,5 @@
 //! A map as a picture.
 
-use crate::counted::counted;
 use crate::grid::Grid;
 use crate::map::{Fill, Map};
 use crate::markup::{escaped, fill_value, pattern};
@@ -46,7 +45,10 @@ pub fn draw(map: &Map<'_>) -> String {
     });
     let track_room = track_line.as_ref().map_or(0, |_| KEY_ROOM * SIGNS.len());
     let subtitle_room = subtitle.as_deref().map_or(0, room_of);
-    let title_room = map.title.chars().count() * TITLE_LETTER_ROOM;
+    let title_room = match map.titled {
+        true => map.title.chars().count() * TITLE_LETTER_ROOM,
+        false => 0,
+    };
     let keys = keys(map);
     let key_room = keys.iter().map(|(_, words)| BAR_WIDTH + 8 + room_of(words)).max();
     let legend_room = LEGEND_GAP + key_room.unwrap_or(0).max(room_of(&map.scale_name()));
@@ -67,8 +69,7 @@ pub fn draw(map: &Map<'_>) -> String {
          <title>{title}</title>\n\
          <rect width=\"{whole_width}\" height=\"{whole_height}\" fill=\"#ffffff\"/>\n\
          <text x=\"{MARGIN}\" y=\"30\" font-size=\"18\">{title}</text>\n\
-         <text x=\"{MARGIN}\" y=\"52\">{missing} of {} not computed</text>\n",
-        counted(cells, "cell", "cells")
+         <text x=\"{MARGIN}\" y=\"52\">{missing} of {cells} cells not computed</text>\n"
     );
     if let Some(subtitle) = subtitle {
         let _ = writeln!(svg, "<text x=\"{MARGIN}\" y=\"74\">{}</text>", escaped(&subtitle));
@@ -115,13 +116,14 @@ pub fn draw(map: &Map<'_>) -> String {
     if track_line.is_some() {
         track_legend(&mut svg, (corner.0, below));
     }
-    // In the margin below all else.
-    let _ = writeln!(
-        svg,
-        "<text x=\"{MARGIN}\" y=\"{}\">{}</text>",
-        whole_height - MARGIN / 3,
-        map.checked.words()
-    );
+    if let Some(words) = map.checked.words() {
+        // In the margin below all else.
+        let _ = writeln!(
+            svg,
+            "<text x=\"{MARGIN}\" y=\"{}\">{words}</text>",
+            whole_height - MARGIN / 3
+        );
+    }
     svg.push_str("</svg>\n");
     svg
 }

@@ -1,7 +1,6 @@
 //! The variance of each run of consecutive cells along a track.
 
 use crate::cell_lists;
-use crate::counted::counted;
 use crate::failure::{written, Failure};
 use crate::options::Options;
 use crate::report;
@@ -41,12 +40,14 @@ impl Track {
 
     /// How many runs there are, and which has the largest variance.
     pub fn summary(&self) -> String {
+        let runs = self.variances.len();
         let largest = self.largest();
         let (first, last) = self.ends(largest);
         format!(
-            "{} of {}, the largest variance {}: run {}, from cell {} to cell {}",
-            counted(self.variances.len(), "run", "runs"),
-            counted(self.width, "cell", "cells"),
+            "{runs} {} of {} {}, the largest variance {}: run {}, from cell {} to cell {}",
+            if runs == 1 { "run" } else { "runs" },
+            self.width,
+            if self.width == 1 { "cell" } else { "cells" },
             self.variances[largest],
             largest + 1,
             first + 1,
@@ -89,8 +90,6 @@ pub fn run(
             .insert(one, other)
             .map_err(|error| Failure::refused_at(file.display(), error))?;
     }
-    let number = requested.pairs.len();
-    cell_lists::check_number(file, number, format_args!("its runs need {number} pairs"))?;
     let (inverse, diagnostics) = whole.select(&requested, options)?;
     let variances = inverse
         .track_variances(&places, width)

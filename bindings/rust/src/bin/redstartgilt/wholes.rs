@@ -39,8 +39,8 @@ impl<'a> Whole<'a> {
         let n = factor.dimension();
         let placed = mask::placed(options, n)?;
         let permutation = order::read(options, n)?.unwrap_or_else(|| Permutation::identity(n));
-        let notes = form::notes(file, &matrix)?;
-        let checked = precision::check_whole(options, file, &factor, &permutation, notes)?;
+        form::check(options, file, &matrix)?;
+        let checked = precision::check_whole(options, file, &factor, &permutation)?;
         Ok(Self {
             file,
             factor,
@@ -71,7 +71,7 @@ impl<'a> Whole<'a> {
             .map_err(|error| refused(self.file, &self.factor, &self.entries, requested, limit, error))?;
         match selected.inverse {
             Some(inverse) => Ok((inverse, selected.diagnostics)),
-            None => Err(Failure::too_many_pairs(limit, self.dimension())),
+            None => Err(Failure::too_many_pairs(limit)),
         }
     }
 
@@ -103,6 +103,7 @@ impl<'a> Whole<'a> {
         };
         let map = Map {
             title: &colours::title(options, title, true),
+            titled: options.title.is_some(),
             unit: options.unit.as_deref(),
             cells: &placed.map_cells(variances),
             placed,
@@ -110,7 +111,7 @@ impl<'a> Whole<'a> {
             why: None,
             track: track.map(|(_, track)| track),
             diagnostics,
-            checked: &self.checked,
+            checked: self.checked,
         };
         write_map(options, &map)
     }
@@ -170,7 +171,11 @@ fn refused(
             }
         }
         Error::NonPositiveDefinite => {
-            return matrix_market::refused_diagonal(file, entries, error, |value| value != 0);
+            let diagonals = kept.filter(|entry| entry.row == entry.column).map(|entry| entry.column);
+            // By column, so those before the first that is missing are each in its place.
+            let column = diagonals.zip(0..).take_while(|(column, place)| column == place).count();
+            let reason = format_args!("column {} of the factor has no diagonal entry", column + 1);
+            return Failure::refused_because(file.display(), error, reason);
         }
         Error::NumberTooLarge => {
             if let Some(entry) = kept.find(|entry| entry.value.unsigned_abs() > LARGEST) {

@@ -1,8 +1,8 @@
 //! Why a pair is computed: the chain from a requested pair to it, in the numbers of the cells.
 
-use crate::counted::counted;
 use crate::failure::Failure;
 use redstartgilt::{dependency_chain, CholeskyFactor, Error, SparseSymmetricPattern};
+use std::fmt::Display;
 
 /// Two cells.
 pub type Pair = (usize, usize);
@@ -54,9 +54,9 @@ fn entry((row, column): Pair, next: Pair) -> Pair {
 }
 
 impl Why {
-    /// The chain to a pair of cells; the requests are in the factor's order.
+    /// The chain to a pair of cells; the requests are in the factor's order, and `place` is for messages.
     pub fn find(
-        refused: impl Fn(Error) -> Failure,
+        place: impl Display,
         factor: &CholeskyFactor,
         requested: &SparseSymmetricPattern,
         (row, column): Pair,
@@ -71,9 +71,9 @@ impl Why {
                 Error::RequestOutOfRange => Failure::refused_because(
                     format_args!("--why {},{}", row + 1, column + 1),
                     error,
-                    format_args!("the factor has {}, numbered from 1", counted(n, "cell", "cells")),
+                    format_args!("the factor has {n} cells, numbered from 1"),
                 ),
-                _ => refused(error),
+                _ => Failure::refused_at(&place, error),
             }
         })?;
         let chain = chain.unwrap_or_default();
@@ -193,11 +193,7 @@ impl OnChain {
 mod tests {
     use super::{entry, words, Why};
     use crate::failure::Failure;
-    use redstartgilt::{CholeskyFactor, Error, Permutation, SparseSymmetricPattern};
-
-    fn refused(error: Error) -> Failure {
-        Failure::refused_at("the band", error)
-    }
+    use redstartgilt::{CholeskyFactor, Permutation, SparseSymmetricPattern};
 
     /// Columns 0 to 5, each with an entry in the two rows below its diagonal.
     fn band() -> CholeskyFactor {
@@ -228,7 +224,7 @@ mod tests {
             let factor = band().with_permutation(permutation).unwrap();
             let kept = factor.lower_triplets();
             for (row, column) in (0..6).flat_map(|row| (0..6).map(move |column| (row, column))) {
-                let why = Why::find(refused, &factor, &first(), (row, column)).unwrap();
+                let why = Why::find("the band", &factor, &first(), (row, column)).unwrap();
                 if order[row].abs_diff(order[column]) > 2 {
                     assert_eq!(why.pairs, []);
                     continue;
@@ -262,7 +258,7 @@ mod tests {
 
     #[test]
     fn in_words() {
-        let why = Why::find(refused, &band(), &first(), (1, 2)).unwrap();
+        let why = Why::find("the band", &band(), &first(), (1, 2)).unwrap();
         assert_eq!(words((2, 1)), "(3, 2)");
         assert_eq!(why.title(), "Chain of 3 pairs to (3, 2)");
         assert_eq!(
@@ -281,7 +277,7 @@ mod tests {
         );
         assert_eq!(why.pairs_of(&cells[1]), "pairs 2 to 3 of 3");
         assert_eq!(why.pairs_of(&cells[2]), "pair 3 of 3");
-        let outside = Why::find(refused, &band(), &first(), (0, 6));
+        let outside = Why::find("the band", &band(), &first(), (0, 6));
         assert_eq!(
             outside,
             Err(Failure {
