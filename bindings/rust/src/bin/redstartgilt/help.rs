@@ -27,17 +27,17 @@ const SECTIONS: &[(&str, &[&str])] = &[
     ("Entries in a file", &[matrix_file::HELP]),
     ("Land, titles, units and colours of maps", &[mask::HELP, colours::HELP]),
     ("The files of the demo", &[demo_files::HELP]),
-    ("Standard input and output", &[STANDARD]),
+    ("Files of these options", &[FILES]),
 ];
 
-const STANDARD: &str = "  -
+const FILES: &str = "  -
       in the place of a file that --precision, --cell-to-place, --place-to-cell
       or --mask reads is standard input, of one file; in the place of that which
       --matrix writes it is standard output, and nothing else is printed there.
-      A file of that name is ./-
-      Of these options none writes over a file that is read or written, and no
-      file that they read or write is written over, whatever names and links
-      lead to it: before anything is computed the command ends with the status 2
+      A file of that name is ./-. Of these options none writes over a file that
+      is read or written, and no file that they read or write is written over,
+      whatever names and links lead to it: before anything is computed the
+      command ends with the status 2
 ";
 
 const OPTIONS: &str = "\

@@ -19,10 +19,9 @@ pub const HELP: &str = "  --mask FILE
       --grid, a list with the column and the row of each cell, from 1, in the
       order of the cells. A file with two numbers on every line is a list,
       unless all of them are 0 or 1. The factor must have as many cells as there
-      is water, and the map has up to 1,048,576 with the land
-      It stands in the place of --grid. With --csv a cell then has its column
-      and row too, and last the deviation, the square root of the variance,
-      which is empty where that is below 0 or not finite
+      is water, and the map has up to 1,048,576 with the land. With --csv a cell
+      has its column and row too, and last the deviation, the square root of the
+      variance, which is empty where that is below 0 or not finite
 ";
 
 /// The most cells that a grid has beside a mask.
