@@ -42,7 +42,7 @@ extern "C" {
 /* Where size_t does not have 64 bits, this type of negative length is an error. */
 typedef char redstartgilt_size_t_has_64_bits[sizeof(size_t) == 8 ? 1 : -1];
 
-/* Refusals; 0 is none. redstartgilt_refusal_words, at the end, has each in words. Those from 19 on:
+/* Refusals; 0 is none. Those from 19 on:
  *   19  a kept diagonal other than 1 of a factor of whole numbers
  *   20  a number too large in size: beyond 2^53 in selected entries in whole numbers; an entry beyond 2^30 in the bounds on
  *       a row's variance, beyond 2^40 in the variances along a track
@@ -446,9 +446,9 @@ uint32_t redstartgilt_diag(
     const uint32_t *starts, size_t starts_len, const uint32_t *rows, size_t rows_len, const double *values, size_t values_len,
     double *output, size_t output_len, uint8_t *marks, size_t marks_len);
 
-/* The diagonal in original order: the selected entries of all n diagonals with the given limit, then output[i] is the
- * entry at (orig_to_perm[i], orig_to_perm[i]). The result lists are filled as by selected entries, and need as much;
- * output needs n places. Refuses, in this order:
+/* The diagonal in original order: the selected entries of all n diagonals with the default limit, 10 times rows_len,
+ * then output[i] is the entry at (orig_to_perm[i], orig_to_perm[i]). The result lists are filled as by selected entries,
+ * and need as much; output needs n places. Refuses, in this order:
  *   1, 2, 3, 18   as selected entries does
  *   4   orig_to_perm_len not n, also one above 4,096
  *   10, 11   an index of n or more, or one that came before; the first fault in the list decides
@@ -456,6 +456,14 @@ uint32_t redstartgilt_diag(
  *   7   a list too short
  *   8   the closed set passes the limit; the scratch is then 0 as after an answer, the other lists as they were
  * The status of an answer is COMPLETE. */
+redstartgilt_selected redstartgilt_selected_inverse_diag_with_diagnostics(
+    size_t n, const uint32_t *starts, size_t starts_len, const uint32_t *rows, size_t rows_len, const double *values, size_t values_len,
+    const uint32_t *orig_to_perm, size_t orig_to_perm_len,
+    uint32_t *result_starts, size_t result_starts_len, uint32_t *result_rows, size_t result_rows_len, double *result_values, size_t result_values_len,
+    uint32_t *scratch, size_t scratch_len, double *output, size_t output_len);
+
+/* The diagonal in original order with the given limit: result_rows and result_values need the lesser of it and T.
+ * Otherwise as the call above. */
 redstartgilt_selected redstartgilt_selected_inverse_diag_with_limit(
     size_t n, const uint32_t *starts, size_t starts_len, const uint32_t *rows, size_t rows_len, const double *values, size_t values_len,
     const uint32_t *orig_to_perm, size_t orig_to_perm_len,
@@ -463,19 +471,11 @@ redstartgilt_selected redstartgilt_selected_inverse_diag_with_limit(
     uint32_t *result_starts, size_t result_starts_len, uint32_t *result_rows, size_t result_rows_len, double *result_values, size_t result_values_len,
     uint32_t *scratch, size_t scratch_len, double *output, size_t output_len);
 
-/* The diagonal in original order with the default limit, 10 times rows_len; dropped entries count. Otherwise as the call
- * above: result_rows and result_values need the lesser of that limit and T. */
-redstartgilt_selected redstartgilt_selected_inverse_diag_with_diagnostics(
-    size_t n, const uint32_t *starts, size_t starts_len, const uint32_t *rows, size_t rows_len, const double *values, size_t values_len,
-    const uint32_t *orig_to_perm, size_t orig_to_perm_len,
-    uint32_t *result_starts, size_t result_starts_len, uint32_t *result_rows, size_t result_rows_len, double *result_values, size_t result_values_len,
-    uint32_t *scratch, size_t scratch_len, double *output, size_t output_len);
-
 /* Operator variances: the operator's row r is the weighted sum of the cells columns[row_starts[r]] to
  * columns[row_starts[r + 1] - 1], in factor order, and output[r] its variance: from 0.0, for each term a, for each term
- * b, (weight a * weight b) * entry is added. The requests are all pairs of columns of each row, the limit is the given
- * one, and the result lists are filled as by selected entries, and need as much; output needs a place for each operator
- * row. A column may repeat in a row. Weights are not checked. Refuses, in this order:
+ * b, (weight a * weight b) * entry is added. The requests are all pairs of columns of each row, the limit is the default
+ * one, 10 times rows_len, and the result lists are filled as by selected entries, and need as much; output needs a place
+ * for each operator row. A column may repeat in a row. Weights are not checked. Refuses, in this order:
  *   1   as selected entries does, or more than 4,096 operator rows or 1,048,576 columns
  *   2, 3, 18   as selected entries does
  *   4   ncols not n
@@ -484,6 +484,14 @@ redstartgilt_selected redstartgilt_selected_inverse_diag_with_diagnostics(
  *   6   as above
  *   7   a list too short
  * CLOSURE_TOO_LARGE leaves the result lists and the output as they were; either status carries the counts. */
+redstartgilt_selected redstartgilt_selected_inverse_transformed_diag(
+    size_t n, const uint32_t *starts, size_t starts_len, const uint32_t *rows, size_t rows_len, const double *values, size_t values_len,
+    size_t ncols, const uint32_t *row_starts, size_t row_starts_len, const uint32_t *columns, size_t columns_len, const double *weights, size_t weights_len,
+    uint32_t *result_starts, size_t result_starts_len, uint32_t *result_rows, size_t result_rows_len, double *result_values, size_t result_values_len,
+    uint32_t *scratch, size_t scratch_len, double *output, size_t output_len);
+
+/* Operator variances with the given limit: result_rows and result_values need the lesser of it and T. Otherwise as the
+ * call above. */
 redstartgilt_selected redstartgilt_selected_inverse_transformed_diag_with_limit(
     size_t n, const uint32_t *starts, size_t starts_len, const uint32_t *rows, size_t rows_len, const double *values, size_t values_len,
     size_t ncols, const uint32_t *row_starts, size_t row_starts_len, const uint32_t *columns, size_t columns_len, const double *weights, size_t weights_len,
@@ -491,20 +499,13 @@ redstartgilt_selected redstartgilt_selected_inverse_transformed_diag_with_limit(
     uint32_t *result_starts, size_t result_starts_len, uint32_t *result_rows, size_t result_rows_len, double *result_values, size_t result_values_len,
     uint32_t *scratch, size_t scratch_len, double *output, size_t output_len);
 
-/* Operator variances with the default limit, 10 times rows_len; dropped entries count. Otherwise as the call above:
- * result_rows and result_values need the lesser of that limit and T. */
-redstartgilt_selected redstartgilt_selected_inverse_transformed_diag(
-    size_t n, const uint32_t *starts, size_t starts_len, const uint32_t *rows, size_t rows_len, const double *values, size_t values_len,
-    size_t ncols, const uint32_t *row_starts, size_t row_starts_len, const uint32_t *columns, size_t columns_len, const double *weights, size_t weights_len,
-    uint32_t *result_starts, size_t result_starts_len, uint32_t *result_rows, size_t result_rows_len, double *result_values, size_t result_values_len,
-    uint32_t *scratch, size_t scratch_len, double *output, size_t output_len);
-
 /* Covariances of rows of two operators: output[k] is the covariance of A's row a_rows[k] with B's row b_rows[k]. From
  * 0.0, for each term a of A's row, for each term b of B's row, (weight a * weight b) * entry is added. Operators are as
  * in operator variances, in factor order; their rows may be in any number of row pairs, also in none. The requests are,
  * for each row pair, all columns of A's row with all columns of B's row, put in order; the two may be one operator, and
- * a row with itself gives its variance. The limit is the given one, and the result lists are filled as by selected
- * entries, and need as much; output needs a place for each row pair. Weights are not checked. Refuses, in this order:
+ * a row with itself gives its variance. The limit is the default one, 10 times rows_len, and the result lists are filled
+ * as by selected entries, and need as much; output needs a place for each row pair. Weights are not checked. Refuses, in
+ * this order:
  *   1   as selected entries does, or of either operator more than 4,096 rows or 1,048,576 columns, or more than 1,048,576
  *       row pairs, counted by a_rows_len
  *   2, 3, 18   as selected entries does
@@ -528,27 +529,27 @@ redstartgilt_selected redstartgilt_selected_inverse_transformed_diag(
  *   const uint32_t a_rows[] = {0, 1}, b_rows[] = {0, 1};
  *   uint32_t result_starts[3], result_rows[3], scratch[12];
  *   double result_values[3], output[2];
- *   redstartgilt_selected reply = redstartgilt_selected_inverse_transformed_covariances_with_limit(
+ *   redstartgilt_selected reply = redstartgilt_selected_inverse_transformed_covariances(
  *       2, starts, 3, rows, 3, values, 3,
- *       2, a_starts, 3, a_columns, 3, a_weights, 3, 2, b_starts, 3, b_columns, 3, b_weights, 3, a_rows, 2, b_rows, 2, 3,
+ *       2, a_starts, 3, a_columns, 3, a_weights, 3, 2, b_starts, 3, b_columns, 3, b_weights, 3, a_rows, 2, b_rows, 2,
  *       result_starts, 3, result_rows, 3, result_values, 3, scratch, 12, output, 2);
  * gives refusal 0, COMPLETE, and the covariances -2 and 2. */
+redstartgilt_selected redstartgilt_selected_inverse_transformed_covariances(
+    size_t n, const uint32_t *starts, size_t starts_len, const uint32_t *rows, size_t rows_len, const double *values, size_t values_len,
+    size_t a_ncols, const uint32_t *a_row_starts, size_t a_row_starts_len, const uint32_t *a_columns, size_t a_columns_len, const double *a_weights, size_t a_weights_len,
+    size_t b_ncols, const uint32_t *b_row_starts, size_t b_row_starts_len, const uint32_t *b_columns, size_t b_columns_len, const double *b_weights, size_t b_weights_len,
+    const uint32_t *a_rows, size_t a_rows_len, const uint32_t *b_rows, size_t b_rows_len,
+    uint32_t *result_starts, size_t result_starts_len, uint32_t *result_rows, size_t result_rows_len, double *result_values, size_t result_values_len,
+    uint32_t *scratch, size_t scratch_len, double *output, size_t output_len);
+
+/* Covariances with the given limit: result_rows and result_values need the lesser of it and T. Otherwise as the call
+ * above. */
 redstartgilt_selected redstartgilt_selected_inverse_transformed_covariances_with_limit(
     size_t n, const uint32_t *starts, size_t starts_len, const uint32_t *rows, size_t rows_len, const double *values, size_t values_len,
     size_t a_ncols, const uint32_t *a_row_starts, size_t a_row_starts_len, const uint32_t *a_columns, size_t a_columns_len, const double *a_weights, size_t a_weights_len,
     size_t b_ncols, const uint32_t *b_row_starts, size_t b_row_starts_len, const uint32_t *b_columns, size_t b_columns_len, const double *b_weights, size_t b_weights_len,
     const uint32_t *a_rows, size_t a_rows_len, const uint32_t *b_rows, size_t b_rows_len,
     size_t limit,
-    uint32_t *result_starts, size_t result_starts_len, uint32_t *result_rows, size_t result_rows_len, double *result_values, size_t result_values_len,
-    uint32_t *scratch, size_t scratch_len, double *output, size_t output_len);
-
-/* Covariances of rows of two operators with the default limit, 10 times rows_len; dropped entries count. Otherwise as the
- * call above: result_rows and result_values need the lesser of that limit and T. */
-redstartgilt_selected redstartgilt_selected_inverse_transformed_covariances(
-    size_t n, const uint32_t *starts, size_t starts_len, const uint32_t *rows, size_t rows_len, const double *values, size_t values_len,
-    size_t a_ncols, const uint32_t *a_row_starts, size_t a_row_starts_len, const uint32_t *a_columns, size_t a_columns_len, const double *a_weights, size_t a_weights_len,
-    size_t b_ncols, const uint32_t *b_row_starts, size_t b_row_starts_len, const uint32_t *b_columns, size_t b_columns_len, const double *b_weights, size_t b_weights_len,
-    const uint32_t *a_rows, size_t a_rows_len, const uint32_t *b_rows, size_t b_rows_len,
     uint32_t *result_starts, size_t result_starts_len, uint32_t *result_rows, size_t result_rows_len, double *result_values, size_t result_values_len,
     uint32_t *scratch, size_t scratch_len, double *output, size_t output_len);
 

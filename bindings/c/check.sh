@@ -15,7 +15,7 @@ if gcc -m32 -ffreestanding -std=c99 -fsyntax-only -x c include/redstartgilt.h 2>
     fail "include/redstartgilt.h takes a size_t of 32 bits"
 fi
 grep -q redstartgilt_size_t_has_64_bits "$work/refused" || { cat "$work/refused" && exit 1; }
-$c -I include bindings/c/example.c "$archive" -o "$work/static"
+$c bindings/c/example.c "$archive" -o "$work/static"
 compare "$work/static"
 echo "C example: as expected"
 
@@ -40,6 +40,9 @@ if command -v pkg-config > "$work/which"; then
     $c bindings/c/example.c "${flags[@]}" -o "$work/shared"
     readelf --dynamic "$work/shared" | grep -q 'NEEDED.*\[libredstartgilt\.so\.[0-9]*\]' || fail "the example has no shared library"
     compare env LD_LIBRARY_PATH="$work/prefix/lib" "$work/shared"
+    # The example has the header of this folder; this program has the installed one.
+    $c bindings/c/inline.c "${flags[@]}" -o "$work/installed_inline"
+    cmp <("$work/inline" words) <("$work/installed_inline" words)
     echo "C example with the installed shared library: as expected"
 else
     echo "the installed library is not linked, as pkg-config is not installed"

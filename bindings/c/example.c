@@ -2,14 +2,14 @@
  * (5, -2; -2, 1).
  *
  * Built and run from the top of the repository, after `rt lib` in crates/redstartgilt:
- *   gcc -I include bindings/c/example.c crates/redstartgilt/out/libredstartgilt.a -o example && ./example
+ *   gcc bindings/c/example.c crates/redstartgilt/out/libredstartgilt.a -o example && ./example
  * After `bash bindings/c/install.sh PREFIX`, with PREFIX/lib/pkgconfig in PKG_CONFIG_PATH:
  *   gcc bindings/c/example.c $(pkg-config --cflags --libs redstartgilt) -o example && ./example
  */
 #include <stdio.h>
 #include <stdlib.h>
 
-#include <redstartgilt.h>
+#include "../../include/redstartgilt.h"
 
 #define COUNT(list) (sizeof(list) / sizeof((list)[0]))
 
@@ -50,7 +50,7 @@ int main(void)
         result_starts, COUNT(result_starts), result_rows, COUNT(result_rows), result_values, COUNT(result_values),
         scratch, scratch_len);
     if (reply.refusal != REDSTARTGILT_ACCEPTED) {
-        printf("refusal %u: %s\n", (unsigned)reply.refusal, redstartgilt_refusal_words(reply.refusal));
+        printf("refusal %u\n", (unsigned)reply.refusal);
         return 1;
     }
     printf("%s: %zu requested, %zu computed, %zu in the factor, limit %zu, ratio %.17g\n",

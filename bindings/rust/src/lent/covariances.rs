@@ -22,6 +22,41 @@ use crate::{Error, SelectedInverseDiagnostics};
 /// let (mut starts, mut rows, mut values) = ([0; 3], [0; 3], [0.0; 3]);
 /// let (mut scratch, mut output) = ([0; 12], [0.0; 2]);
 /// let result = ResultLists { starts: &mut starts, rows: &mut rows, values: &mut values };
+/// lent::selected_inverse_transformed_covariances(
+///     factor, a, b, &[0, 1], &[0, 0], result, &mut scratch, &mut output,
+/// )?;
+/// assert_eq!(output, [-2.0, -1.0]);
+/// # Ok::<(), redstartgilt::Error>(())
+/// ```
+#[allow(clippy::too_many_arguments)]
+pub fn selected_inverse_transformed_covariances(
+    factor: FactorLists<'_>,
+    a: OperatorLists<'_>,
+    b: OperatorLists<'_>,
+    a_rows: &[u32],
+    b_rows: &[u32],
+    result: ResultLists<'_>,
+    scratch: &mut [u32],
+    output: &mut [f64],
+) -> Result<SelectedInverseDiagnostics, Error> {
+    let reply = lend!(redstartgilt_selected_inverse_transformed_covariances:
+        factor(factor) operator(a) operator(b) [a_rows] [b_rows] result(result) {scratch} {output});
+    SelectedInverseDiagnostics::of_reply(reply).map_err(|error| factor.refused(error))
+}
+
+/// [`selected_inverse_transformed_covariances`] with a limit: a limit of all pairs is never passed.
+///
+/// ```
+/// use redstartgilt::lent::{self, FactorLists, OperatorLists, ResultLists};
+///
+/// let factor = FactorLists { n: 2, starts: &[0, 2, 3], rows: &[0, 1, 1], values: &[1.0, 2.0, 1.0] };
+/// // Cell 0, and the sum of both.
+/// let a = OperatorLists { ncols: 2, row_starts: &[0, 1, 3], columns: &[0, 0, 1], weights: &[1.0; 3] };
+/// // Cell 1.
+/// let b = OperatorLists { ncols: 2, row_starts: &[0, 1], columns: &[1], weights: &[1.0] };
+/// let (mut starts, mut rows, mut values) = ([0; 3], [0; 3], [0.0; 3]);
+/// let (mut scratch, mut output) = ([0; 12], [0.0; 2]);
+/// let result = ResultLists { starts: &mut starts, rows: &mut rows, values: &mut values };
 /// lent::selected_inverse_transformed_covariances_with_limit(
 ///     factor, a, b, &[0, 1], &[0, 0], 3, result, &mut scratch, &mut output,
 /// )?;
@@ -42,22 +77,5 @@ pub fn selected_inverse_transformed_covariances_with_limit(
 ) -> Result<SelectedInverseDiagnostics, Error> {
     let reply = lend!(redstartgilt_selected_inverse_transformed_covariances_with_limit:
         factor(factor) operator(a) operator(b) [a_rows] [b_rows] (limit) result(result) {scratch} {output});
-    SelectedInverseDiagnostics::of_reply(reply).map_err(|error| factor.refused(error))
-}
-
-/// [`selected_inverse_transformed_covariances_with_limit`] with the [`default_limit`](super::default_limit).
-#[allow(clippy::too_many_arguments)]
-pub fn selected_inverse_transformed_covariances(
-    factor: FactorLists<'_>,
-    a: OperatorLists<'_>,
-    b: OperatorLists<'_>,
-    a_rows: &[u32],
-    b_rows: &[u32],
-    result: ResultLists<'_>,
-    scratch: &mut [u32],
-    output: &mut [f64],
-) -> Result<SelectedInverseDiagnostics, Error> {
-    let reply = lend!(redstartgilt_selected_inverse_transformed_covariances:
-        factor(factor) operator(a) operator(b) [a_rows] [b_rows] result(result) {scratch} {output});
     SelectedInverseDiagnostics::of_reply(reply).map_err(|error| factor.refused(error))
 }

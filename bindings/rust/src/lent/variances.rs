@@ -6,8 +6,21 @@ use crate::{Error, SelectedInverseDiagnostics};
 /// The diagonal in original order: fills `result` with the closed set of all diagonals, and `output` with the diagonal
 /// at `orig_to_perm[i]` in place i.
 ///
-/// Refuses with 1, 2, 3, 18, 4, 10, 11, 6, 7, and with 8 where the closed set passes the limit; `scratch` then ends 0 as
-/// after an answer.
+/// Refuses with 1, 2, 3, 18, 4, 10, 11, 6, 7, and with 8 where the closed set passes the
+/// [`default_limit`](super::default_limit); `scratch` then ends 0 as after an answer.
+pub fn selected_inverse_diag_with_diagnostics(
+    factor: FactorLists<'_>,
+    orig_to_perm: &[u32],
+    result: ResultLists<'_>,
+    scratch: &mut [u32],
+    output: &mut [f64],
+) -> Result<SelectedInverseDiagnostics, Error> {
+    let reply = lend!(redstartgilt_selected_inverse_diag_with_diagnostics:
+        factor(factor) [orig_to_perm] result(result) {scratch} {output});
+    SelectedInverseDiagnostics::of_reply(reply).map_err(|error| factor.refused(error))
+}
+
+/// [`selected_inverse_diag_with_diagnostics`] with a limit, past which it refuses with 8.
 pub fn selected_inverse_diag_with_limit(
     factor: FactorLists<'_>,
     orig_to_perm: &[u32],
@@ -21,23 +34,23 @@ pub fn selected_inverse_diag_with_limit(
     SelectedInverseDiagnostics::of_reply(reply).map_err(|error| factor.refused(error))
 }
 
-/// [`selected_inverse_diag_with_limit`] with the [`default_limit`](super::default_limit).
-pub fn selected_inverse_diag_with_diagnostics(
-    factor: FactorLists<'_>,
-    orig_to_perm: &[u32],
-    result: ResultLists<'_>,
-    scratch: &mut [u32],
-    output: &mut [f64],
-) -> Result<SelectedInverseDiagnostics, Error> {
-    let reply = lend!(redstartgilt_selected_inverse_diag_with_diagnostics:
-        factor(factor) [orig_to_perm] result(result) {scratch} {output});
-    SelectedInverseDiagnostics::of_reply(reply).map_err(|error| factor.refused(error))
-}
-
 /// Operator variances: fills `result` with the closed set of all column pairs of each operator row, and `output` with
 /// the variance of each row.
 ///
 /// Refuses with 1, 2, 3, 18, 4, 9, 6, 7. `ClosureTooLarge` leaves `result` and `output` as they were.
+pub fn selected_inverse_transformed_diag(
+    factor: FactorLists<'_>,
+    operator: OperatorLists<'_>,
+    result: ResultLists<'_>,
+    scratch: &mut [u32],
+    output: &mut [f64],
+) -> Result<SelectedInverseDiagnostics, Error> {
+    let reply = lend!(redstartgilt_selected_inverse_transformed_diag:
+        factor(factor) operator(operator) result(result) {scratch} {output});
+    SelectedInverseDiagnostics::of_reply(reply).map_err(|error| factor.refused(error))
+}
+
+/// [`selected_inverse_transformed_diag`] with a limit: a limit of all pairs is never passed.
 ///
 /// ```
 /// use redstartgilt::lent::{self, FactorLists, OperatorLists, ResultLists};
@@ -61,18 +74,5 @@ pub fn selected_inverse_transformed_diag_with_limit(
 ) -> Result<SelectedInverseDiagnostics, Error> {
     let reply = lend!(redstartgilt_selected_inverse_transformed_diag_with_limit:
         factor(factor) operator(operator) (limit) result(result) {scratch} {output});
-    SelectedInverseDiagnostics::of_reply(reply).map_err(|error| factor.refused(error))
-}
-
-/// [`selected_inverse_transformed_diag_with_limit`] with the [`default_limit`](super::default_limit).
-pub fn selected_inverse_transformed_diag(
-    factor: FactorLists<'_>,
-    operator: OperatorLists<'_>,
-    result: ResultLists<'_>,
-    scratch: &mut [u32],
-    output: &mut [f64],
-) -> Result<SelectedInverseDiagnostics, Error> {
-    let reply = lend!(redstartgilt_selected_inverse_transformed_diag:
-        factor(factor) operator(operator) result(result) {scratch} {output});
     SelectedInverseDiagnostics::of_reply(reply).map_err(|error| factor.refused(error))
 }

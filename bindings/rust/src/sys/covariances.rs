@@ -43,7 +43,7 @@ extern "C" {
         output_len: usize,
     ) -> redstartgilt_selected;
 
-    /// Covariances with the default limit, 10 times the stored entries.
+    /// Covariances of rows of two operators.
     pub fn redstartgilt_selected_inverse_transformed_covariances(
         n: usize,
         starts: *const u32,

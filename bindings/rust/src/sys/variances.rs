@@ -27,7 +27,7 @@ extern "C" {
         output_len: usize,
     ) -> redstartgilt_selected;
 
-    /// The diagonal in original order, with the default limit, 10 times the stored entries.
+    /// The diagonal in original order.
     pub fn redstartgilt_selected_inverse_diag_with_diagnostics(
         n: usize,
         starts: *const u32,
@@ -79,7 +79,7 @@ extern "C" {
         output_len: usize,
     ) -> redstartgilt_selected;
 
-    /// Operator variances with the default limit, 10 times the stored entries.
+    /// Operator variances.
     pub fn redstartgilt_selected_inverse_transformed_diag(
         n: usize,
         starts: *const u32,

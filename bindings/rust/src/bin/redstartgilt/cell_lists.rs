@@ -243,9 +243,9 @@ fn pivot_array(file: &Path, text: &[u8]) -> Result<Vec<Pivot>, Failure> {
     Ok(found)
 }
 
-/// The permutation of a file, for a factor of this dimension.
-pub fn permutation(file: &Path, dimension: usize) -> Result<Permutation, Failure> {
-    let orig_to_perm = indices::<1>(file, &files::read(file)?, "one index")?
+/// The permutation of a text, for a factor of this dimension; `file` is for messages.
+pub fn permutation(file: &Path, text: &[u8], dimension: usize) -> Result<Permutation, Failure> {
+    let orig_to_perm = indices::<1>(file, text, "one index")?
         .into_iter()
         .map(|(_, [place])| place)
         .collect::<Vec<_>>();

@@ -451,7 +451,6 @@ mod tests {
         assert!((volumes.of_difference() - expected).abs() <= 1e-9 * expected);
     }
 
-    /// Land is land and not "not computed".
     #[test]
     fn the_factor_is_that_of_the_precision_matrix() {
         let harbour = Harbour::new();
@@ -461,6 +460,7 @@ mod tests {
         assert_eq!(harbour.factor().unwrap().check_against(&precision), Ok(()));
     }
 
+    /// Land is land and not "not computed".
     #[test]
     fn land_stays_land() {
         let harbour = Harbour::new();

@@ -8,7 +8,7 @@ use std::os::fd::AsFd;
 use std::os::unix::fs::{FileTypeExt, MetadataExt};
 use std::path::{Path, PathBuf};
 
-/// The paths in the place of `-`, as they stand in messages.
+/// The paths in the place of `-`, as they stand in messages; only of files that are kept apart.
 const STANDARD_INPUT: &str = "standard input";
 const STANDARD_OUTPUT: &str = "standard output";
 
@@ -27,24 +27,30 @@ pub struct Given {
     pub usage: Use,
     /// Whether it is neither overwritten nor written over another.
     pub apart: bool,
+    /// Whether it is standard input or standard output.
+    pub standard: bool,
 }
 
 impl Given {
     /// A file that is kept apart from the others, where `-` is standard input or output.
     pub fn apart(option: &str, word: OsString, usage: Use) -> Result<Self, Failure> {
+        let standard = word == "-";
         let path = match word.to_str() {
             Some("") => return Err(Failure::usage(format!("{option} needs the name of a file"))),
             Some("-") => match usage {
                 Use::Read => STANDARD_INPUT.into(),
                 Use::Written => STANDARD_OUTPUT.into(),
             },
-            _ => named(word),
+            // A file that has this very name.
+            Some(STANDARD_INPUT | STANDARD_OUTPUT) => Path::new(".").join(word),
+            _ => word.into(),
         };
         Ok(Self {
             option: option.to_string(),
             path,
             usage,
             apart: true,
+            standard,
         })
     }
 
@@ -52,72 +58,69 @@ impl Given {
     pub fn by_name(option: &str, word: OsString, usage: Use) -> Self {
         Self {
             option: option.to_string(),
-            path: named(word),
+            path: word.into(),
             usage,
             apart: false,
+            standard: false,
         }
     }
 
     pub fn is_standard_output(&self) -> bool {
-        self.usage == Use::Written && is(&self.path, STANDARD_OUTPUT)
+        self.standard && self.usage == Use::Written
     }
 
     fn is_standard_input(&self) -> bool {
-        self.usage == Use::Read && is(&self.path, STANDARD_INPUT)
+        self.standard && self.usage == Use::Read
     }
-}
-
-/// The path of a file of this name, also where that is one of the names above.
-fn named(word: OsString) -> PathBuf {
-    match word.to_str() {
-        Some(STANDARD_INPUT | STANDARD_OUTPUT) => Path::new(".").join(word),
-        _ => word.into(),
-    }
-}
-
-fn is(path: &Path, name: &str) -> bool {
-    path == Path::new(name)
 }
 
 /// What a file has.
 pub fn read(file: &Path) -> Result<Vec<u8>, Failure> {
-    let text = if is(file, STANDARD_INPUT) {
-        let mut text = Vec::new();
-        io::stdin().lock().read_to_end(&mut text).map(|_| text)
-    } else {
-        fs::read(file)
-    };
-    text.map_err(|error| Failure::in_file(file, error))
+    fs::read(file).map_err(|error| Failure::in_file(file, error))
+}
+
+/// The same of one that is kept apart.
+pub fn read_apart(file: &Path) -> Result<Vec<u8>, Failure> {
+    if file != Path::new(STANDARD_INPUT) {
+        return read(file);
+    }
+    let mut text = Vec::new();
+    let read = io::stdin().lock().read_to_end(&mut text);
+    read.map_err(|error| Failure::in_file(file, error))?;
+    Ok(text)
 }
 
 /// Writes a file, in the place of one that is there.
 pub fn write(file: &Path, text: impl AsRef<[u8]>) -> Result<(), Failure> {
-    if is(file, STANDARD_OUTPUT) {
-        let mut output = io::stdout().lock();
-        return written(output.write_all(text.as_ref()).and_then(|()| output.flush()));
-    }
     fs::write(file, text).map_err(|error| Failure::in_file(file, error))
 }
 
+/// The same of one that is kept apart.
+pub fn write_apart(file: &Path, text: impl AsRef<[u8]>) -> Result<(), Failure> {
+    if file != Path::new(STANDARD_OUTPUT) {
+        return write(file, text);
+    }
+    let mut output = io::stdout().lock();
+    written(output.write_all(text.as_ref()).and_then(|()| output.flush()))
+}
+
 /// That no file which is written is another one that is read or written, where one of both is to be kept apart; and that
-/// standard input and standard output are each one file's. What is printed counts as written.
+/// standard input is one file's. What is printed counts as written.
 pub fn check(files: &[Given]) -> Result<(), Failure> {
     let (read, mut written) = files.iter().partition::<Vec<_>, _>(|file| file.usage == Use::Read);
-    for (files, are_standard, what) in [
-        (&read, Given::is_standard_input as fn(&Given) -> bool, "read"),
-        (&written, Given::is_standard_output, "written"),
-    ] {
-        let mut standard = files.iter().filter(|file| are_standard(file));
-        if let (Some(one), Some(other)) = (standard.next(), standard.next()) {
-            let (stream, one, other) = (one.path.display(), &one.option, &other.option);
-            return Err(Failure::usage(format!("{one} and {other}: {stream} is {what} once")));
-        }
+    let mut standard = read.iter().filter(|file| file.standard);
+    if let (Some(one), Some(other)) = (standard.next(), standard.next()) {
+        let (one, other) = (&one.option, &other.option);
+        return Err(Failure::usage(format!(
+            "{one} and {other}: {STANDARD_INPUT} is read once"
+        )));
     }
     let printed = Given {
         option: "what is printed on".to_string(),
         path: STANDARD_OUTPUT.into(),
         usage: Use::Written,
         apart: false,
+        standard: true,
     };
     if !written.iter().any(|file| file.is_standard_output()) {
         written.push(&printed);

@@ -125,10 +125,10 @@ Options:
   --pairs FILE        the row pairs whose covariances are wanted; without it all. A row of --operator and a row of
                       --with a line
   --csv               print comma-separated values with a line of names, and no summary
-  --svg FILE          write the variances as a picture; needs --grid or --demo
+  --svg FILE          write the variances as a picture; needs --grid, --mask or --demo
   --html FILE         write the variances as a page for a browser, which needs no other file and no network: the map
                       with variance, deviation and coverage of the cell under the pointer or moved to by the arrow
-                      keys, the legend, the diagnosis and all cells as a table; needs --grid or --demo
+                      keys, the legend, the diagnosis and all cells as a table; needs --grid, --mask or --demo
   --grid WxH          the cells are a grid of W columns and H rows, numbered row by row from the top left
   --demo              take no factor: a small harbour, made and factorised by the command. --demo --csv has the numbers
                       of its cells, for --requests
@@ -155,7 +155,7 @@ Exit status:
       file of requests is 25 to 27, one of another dimension 14
   2   bad usage
   3   ClosureTooLarge: the requests, or the rows of operators, need more pairs than the limit; for the variances of all
-      cells without --limit, --entries and --whole it is 18
+      cells without --limit, --entries, --matrix and --whole it is 18
   4   with --exact: a number does not meet the theorem's hypotheses, and nothing is promised
   5   with --precision: the factor is not that of Q
   10 + N  the library refuses with number N:

@@ -20,8 +20,8 @@ pub const HELP: &str = "  --mask FILE
       order of the cells. A file with two numbers on every line is a list,
       unless all of them are 0 or 1. The factor must have as many cells as there
       is water, and the map has up to 1,048,576 with the land. With --csv a cell
-      has its column and row too, and last the deviation, the square root of the
-      variance, which is empty where that is below 0 or not finite
+      has its column and row too, and behind covered the deviation, the square
+      root of the variance, which is empty where that is below 0 or not finite
 ";
 
 /// The most cells that a grid has beside a mask.
@@ -84,7 +84,7 @@ pub fn placed(options: &Options, n: usize) -> Result<Option<Placed>, Failure> {
 }
 
 fn read(file: &Path, grid: Option<Grid>) -> Result<Placed, Failure> {
-    let text = files::read(file)?;
+    let text = files::read_apart(file)?;
     let mut lines = Lines::new(file, &text);
     let mut found = Vec::new();
     while let Some((number, line)) = lines.next_filled(is_comment)? {

@@ -20,7 +20,7 @@ pub const HELP: &str = "  --matrix FILE
 /// Writes the entries, where that is asked for.
 pub fn write<V: Value>(options: &Options, found: &Found<V>) -> Result<(), Failure> {
     match &options.matrix {
-        Some(file) => files::write(file, text(found.variances.len(), &found.entries)),
+        Some(file) => files::write_apart(file, text(found.variances.len(), &found.entries)),
         None => Ok(()),
     }
 }

@@ -170,7 +170,11 @@ impl Value for i64 {
 }
 
 fn read<V: Value>(file: &Path, kind: Kind) -> Result<Matrix<V>, Failure> {
-    parse(file, &files::read(file)?, kind)
+    let text = match kind {
+        Kind::Precision => files::read_apart(file)?,
+        _ => files::read(file)?,
+    };
+    parse(file, &text, kind)
 }
 
 /// The matrix of a text; `file` is for messages.

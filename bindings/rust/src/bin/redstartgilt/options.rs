@@ -19,6 +19,8 @@ pub struct Options {
     pub precision: Option<PathBuf>,
     /// The place of each cell in the factor.
     pub permutation: Option<PathBuf>,
+    /// The same by another name.
+    pub cell_to_place: Option<PathBuf>,
     /// The cell at each place of the factor.
     pub place_to_cell: Option<PathBuf>,
     pub pivots: Option<PathBuf>,
@@ -62,6 +64,13 @@ impl Options {
         self.files.iter().any(Given::is_standard_output)
     }
 
+    /// Whether an order is given.
+    pub fn has_order(&self) -> bool {
+        [&self.permutation, &self.cell_to_place, &self.place_to_cell]
+            .iter()
+            .any(|list| list.is_some())
+    }
+
     /// Whether entries are wanted, and not variances alone.
     pub fn wants_entries(&self) -> bool {
         self.entries || self.matrix.is_some()
@@ -83,6 +92,7 @@ pub fn read(words: impl IntoIterator<Item = OsString>) -> Result<Command, Failur
         write_requests: None,
         precision: None,
         permutation: None,
+        cell_to_place: None,
         place_to_cell: None,
         pivots: None,
         operator: None,
@@ -148,7 +158,14 @@ pub fn read(words: impl IntoIterator<Item = OsString>) -> Result<Command, Failur
             "--requests" => options.requests.replace(value.into()).is_some(),
             "--write-requests" => options.write_requests.replace(value.into()).is_some(),
             "--precision" => options.precision.replace(value.into()).is_some(),
-            "--permutation" | "--cell-to-place" => options.permutation.replace(value.into()).is_some(),
+            "--permutation" => {
+                let twice = options.cell_to_place.is_some();
+                options.permutation.replace(value.into()).is_some() || twice
+            }
+            "--cell-to-place" => {
+                let twice = options.permutation.is_some();
+                options.cell_to_place.replace(value.into()).is_some() || twice
+            }
             "--place-to-cell" => options.place_to_cell.replace(value.into()).is_some(),
             "--pivots" => options.pivots.replace(value.into()).is_some(),
             "--operator" => options.operator.replace(value.into()).is_some(),
@@ -227,6 +244,7 @@ fn checked(options: Options, demo: bool) -> Result<Command, Failure> {
             ("a factor", options.factor.is_some()),
             ("--precision", options.precision.is_some()),
             ("--permutation", options.permutation.is_some()),
+            ("--cell-to-place", options.cell_to_place.is_some()),
             ("--place-to-cell", options.place_to_cell.is_some()),
             ("--pivots", options.pivots.is_some()),
             ("--operator", options.operator.is_some()),
@@ -259,6 +277,7 @@ fn checked(options: Options, demo: bool) -> Result<Command, Failure> {
         if options.factor.is_none() {
             let others = [
                 ("--permutation", options.permutation.is_some()),
+                ("--cell-to-place", options.cell_to_place.is_some()),
                 ("--place-to-cell", options.place_to_cell.is_some()),
                 ("--pivots", options.pivots.is_some()),
                 ("--whole", options.whole),
@@ -276,7 +295,7 @@ fn checked(options: Options, demo: bool) -> Result<Command, Failure> {
         }
         mask::check(&options)?;
     }
-    if options.place_to_cell.is_some() && options.permutation.is_some() {
+    if options.place_to_cell.is_some() && (options.permutation.is_some() || options.cell_to_place.is_some()) {
         return Err(Failure::usage("--place-to-cell does not go with --cell-to-place"));
     }
     colours::check(&options)?;

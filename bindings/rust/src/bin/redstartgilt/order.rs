@@ -2,6 +2,7 @@
 
 use crate::cell_lists;
 use crate::failure::Failure;
+use crate::files;
 use crate::options::Options;
 use redstartgilt::Permutation;
 
@@ -27,16 +28,21 @@ pub const HELP: &str = "  --cell-to-place FILE
 
 /// The order that the options give, for a factor of dimension n.
 pub fn read(options: &Options, n: usize) -> Result<Option<Permutation>, Failure> {
-    match (&options.permutation, &options.place_to_cell) {
-        (Some(list), _) => cell_lists::permutation(list, n).map(Some),
-        (None, Some(list)) => match cell_lists::permutation(list, n) {
-            Ok(order) => Ok(Some(reversed(order))),
-            Err(failure) => Err(Failure {
-                message: format!("{}; {PLACE_TO_CELL}", failure.message),
-                ..failure
-            }),
-        },
-        (None, None) => Ok(None),
+    if let Some(list) = &options.permutation {
+        return cell_lists::permutation(list, &files::read(list)?, n).map(Some);
+    }
+    if let Some(list) = &options.cell_to_place {
+        return cell_lists::permutation(list, &files::read_apart(list)?, n).map(Some);
+    }
+    let Some(list) = &options.place_to_cell else {
+        return Ok(None);
+    };
+    match cell_lists::permutation(list, &files::read_apart(list)?, n) {
+        Ok(order) => Ok(Some(reversed(order))),
+        Err(failure) => Err(Failure {
+            message: format!("{}; {PLACE_TO_CELL}", failure.message),
+            ..failure
+        }),
     }
 }
 

@@ -25,6 +25,8 @@ pub const HELP: &str = "  --precision FILE
       their sizes: factorising and checking in 64-bit floats take (2k + 1) u of
       it, and the rest is for numbers written with 15 digits or more. With
       --whole they must be equal.
+      A factor file with more entries above the diagonal than below it, and one
+      whose entries above it mirror those below, is refused with the status 1.
       Without FACTOR: Q is factorised by CHOLMOD in the order that it chooses,
       and the factor is held against Q all the same. From Q to a map:
         redstartgilt --precision Q.mtx --grid 40x40 --html map.html
@@ -150,10 +152,6 @@ fn is_close(mismatch: &FactorMismatch) -> bool {
     }
 }
 
-fn has_order(options: &Options) -> bool {
-    options.permutation.is_some() || options.place_to_cell.is_some()
-}
-
 /// Holds a factor, with its order, against Q, where that is given.
 pub fn check(options: &Options, file: &Path, factor: &CholeskyFactor) -> Result<Checked, Failure> {
     let Some(q) = &options.precision else {
@@ -202,7 +200,7 @@ pub fn against(
         (PIVOTS, &with_pivots),
         (ITSELF, &is_q),
         (FEW_DIGITS, &|| is_close(&mismatch)),
-        (NO_ORDER, &|| options.factor.is_some() && !has_order(options)),
+        (NO_ORDER, &|| options.factor.is_some() && !options.has_order()),
     ]);
     Err(differs(q, file, mismatch.told_from(1), hint))
 }
@@ -227,7 +225,7 @@ pub fn check_pivots(options: &Options, file: &Path, factor: &LdlFactor) -> Resul
     let hint = hint(&[
         (REVERSED, &in_reverse),
         (FEW_DIGITS, &|| is_close(&mismatch)),
-        (NO_ORDER, &|| !has_order(options)),
+        (NO_ORDER, &|| !options.has_order()),
     ]);
     Err(differs(q, file, mismatch.told_from(1), hint))
 }
@@ -252,6 +250,6 @@ pub fn check_whole(
         Err(mismatch) => mismatch,
     };
     let in_reverse = || factor.check_against(&precision, &reversed(order.clone())).is_ok();
-    let hint = hint(&[(REVERSED, &in_reverse), (NO_ORDER, &|| !has_order(options))]);
+    let hint = hint(&[(REVERSED, &in_reverse), (NO_ORDER, &|| !options.has_order())]);
     Err(differs(q, file, mismatch.told_from(1), hint))
 }
