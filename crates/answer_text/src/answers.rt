@@ -1,80 +1,67 @@
 // What each call replies, and the lists that it was lent.
-use super::{
-    put, put_bytes, put_count, put_number, put_value, put_value_line, put_values, put_whole,
-    put_whole_line, put_wholes, put_words,
-};
-use dependency_chain::ChainPairs;
-use diagnostics::{Selected, SelectedInverseDiagnostics, SelectedInverseStatus};
-use floor::Stabilized;
-use lookup::ordered::Entry;
-use lookup::whole::WholeEntry;
-use pattern_lists::listed::PatternPairs;
-use refusal::{Checked, Refusal};
-use requests_reader::ReadRequests;
-use requests_writer::WrittenRequests;
+use super::{Value, put_bytes, put_hex_bytes, put_values, put_wholes, put_words};
+use diagnostics::{SelectedInverseDiagnostics, SelectedInverseStatus};
+use floor::StabilizedVariance;
+use refusal::Refusal;
 use std::io;
 use std::io::Write;
 use verdicts::refusal_number;
-use weight_ranges::VarianceBounds;
 
 pub fn put_ok(out: &mut impl Write) -> io::Result<()> {
-    put(out, b"reply ok\n")
+    writeln!(out, "reply ok")
 }
 
 // The number of a refusal.
 fn put_refused(out: &mut impl Write, why: Refusal) -> io::Result<()> {
-    put_number(out, b"reply ", refusal_number(why) as usize)
+    let number = refusal_number(why);
+    writeln!(out, "reply {number}")
 }
 
-pub fn put_checked(out: &mut impl Write, answer: Checked) -> io::Result<()> {
+pub fn put_checked(out: &mut impl Write, answer: Result<(), Refusal>) -> io::Result<()> {
     match answer {
-        Checked::Accepted => put_ok(out),
-        Checked::Refused(why) => put_refused(out, why),
+        Ok(()) => put_ok(out),
+        Err(why) => put_refused(out, why),
     }
 }
 
 // A refusal of a lookup by its number, an absent pair by none.
 fn put_no_value(out: &mut impl Write, number: usize) -> io::Result<()> {
     if number == 8 {
-        put(out, b" none")
+        write!(out, " none")
     } else {
-        put(out, b" refused-")?;
-        put_count(out, number)
+        write!(out, " refused-{number}")
     }
 }
 
 // What a lookup finds.
-pub fn put_entry(out: &mut impl Write, entry: Entry) -> io::Result<()> {
+pub fn put_entry(out: &mut impl Write, entry: Result<f64, Refusal>) -> io::Result<()> {
     match entry {
-        Entry::Value(z) => {
-            put(out, b" ")?;
-            put_value(out, z)
+        Ok(z) => {
+            let value = Value(z);
+            write!(out, " {value}")
         }
-        Entry::Refused(why) => put_no_value(out, refusal_number(why) as usize),
+        Err(why) => put_no_value(out, refusal_number(why) as usize),
     }
 }
 
 // What a lookup among whole numbers finds.
-pub fn put_whole_entry(out: &mut impl Write, entry: WholeEntry) -> io::Result<()> {
+pub fn put_whole_entry(out: &mut impl Write, entry: Result<i64, Refusal>) -> io::Result<()> {
     match entry {
-        WholeEntry::Value(z) => {
-            put(out, b" ")?;
-            put_whole(out, z)
-        }
-        WholeEntry::Refused(why) => put_no_value(out, refusal_number(why) as usize),
+        Ok(z) => write!(out, " {z}"),
+        Err(why) => put_no_value(out, refusal_number(why) as usize),
     }
 }
 
 fn put_pair_count(out: &mut impl Write, count: usize) -> io::Result<()> {
     put_ok(out)?;
-    put_number(out, b"pairs ", count)
+    writeln!(out, "pairs {count}")
 }
 
 // The reply of a call for pattern lists.
-pub fn put_listed(out: &mut impl Write, answer: PatternPairs) -> io::Result<()> {
+pub fn put_listed(out: &mut impl Write, answer: Result<usize, Refusal>) -> io::Result<()> {
     match answer {
-        PatternPairs::Listed(count) => put_pair_count(out, count),
-        PatternPairs::Refused(why) => put_refused(out, why),
+        Ok(count) => put_pair_count(out, count),
+        Err(why) => put_refused(out, why),
     }
 }
 
@@ -94,17 +81,17 @@ pub fn put_pairs(
 fn put_chain_length(out: &mut impl Write, count: usize) -> io::Result<()> {
     put_ok(out)?;
     if count == 0 {
-        put(out, b"chain none\n")
+        writeln!(out, "chain none")
     } else {
-        put_number(out, b"chain ", count)
+        writeln!(out, "chain {count}")
     }
 }
 
 // The reply of a call for a chain.
-pub fn put_chain(out: &mut impl Write, answer: ChainPairs) -> io::Result<()> {
+pub fn put_chain(out: &mut impl Write, answer: Result<usize, Refusal>) -> io::Result<()> {
     match answer {
-        ChainPairs::Pairs(count) => put_chain_length(out, count),
-        ChainPairs::Refused(why) => put_refused(out, why),
+        Ok(count) => put_chain_length(out, count),
+        Err(why) => put_refused(out, why),
     }
 }
 
@@ -122,15 +109,15 @@ pub fn put_chain_pairs(
 
 fn put_sizes(out: &mut impl Write, dimension: usize, count: usize) -> io::Result<()> {
     put_ok(out)?;
-    put_number(out, b"rdim ", dimension)?;
-    put_number(out, b"requests ", count)
+    writeln!(out, "rdim {dimension}")?;
+    writeln!(out, "requests {count}")
 }
 
 // The reply of reading a file of requests.
-pub fn put_read(out: &mut impl Write, answer: ReadRequests) -> io::Result<()> {
+pub fn put_read(out: &mut impl Write, answer: Result<(usize, usize), Refusal>) -> io::Result<()> {
     match answer {
-        ReadRequests::Read(dimension, count) => put_sizes(out, dimension, count),
-        ReadRequests::Refused(why) => put_refused(out, why),
+        Ok((dimension, count)) => put_sizes(out, dimension, count),
+        Err(why) => put_refused(out, why),
     }
 }
 
@@ -142,21 +129,21 @@ pub fn put_requests(out: &mut impl Write, rows: &[u32], columns: &[u32]) -> io::
 
 fn put_length(out: &mut impl Write, bytes: usize) -> io::Result<()> {
     put_ok(out)?;
-    put_number(out, b"bytes ", bytes)
+    writeln!(out, "bytes {bytes}")
 }
 
 // The reply of writing requests as a file.
-pub fn put_written(out: &mut impl Write, answer: WrittenRequests) -> io::Result<()> {
+pub fn put_written(out: &mut impl Write, answer: Result<usize, Refusal>) -> io::Result<()> {
     match answer {
-        WrittenRequests::Written(bytes) => put_length(out, bytes),
-        WrittenRequests::Refused(why) => put_refused(out, why),
+        Ok(bytes) => put_length(out, bytes),
+        Err(why) => put_refused(out, why),
     }
 }
 
 // The lists after it.
 pub fn put_file(out: &mut impl Write, scratch: &[u32], file: &[u8]) -> io::Result<()> {
     put_scratch(out, scratch)?;
-    put_bytes(out, b"file ", true, file)
+    put_hex_bytes(out, b"file ", file)
 }
 
 pub fn put_scratch(out: &mut impl Write, scratch: &[u32]) -> io::Result<()> {
@@ -168,13 +155,13 @@ pub fn put_output(out: &mut impl Write, output: &[f64]) -> io::Result<()> {
 }
 
 pub fn put_marks(out: &mut impl Write, marks: &[u8]) -> io::Result<()> {
-    put_bytes(out, b"marks ", false, marks)
+    put_bytes(out, b"marks ", marks)
 }
 
 fn put_status(out: &mut impl Write, status: SelectedInverseStatus) -> io::Result<()> {
     match status {
-        SelectedInverseStatus::Complete => put(out, b"status Complete\n"),
-        SelectedInverseStatus::ClosureTooLarge => put(out, b"status ClosureTooLarge\n"),
+        SelectedInverseStatus::Complete => writeln!(out, "status Complete"),
+        SelectedInverseStatus::ClosureTooLarge => writeln!(out, "status ClosureTooLarge"),
     }
 }
 
@@ -185,10 +172,10 @@ fn put_counts(
     factor: usize,
     limit: usize,
 ) -> io::Result<()> {
-    put_number(out, b"requested ", requested)?;
-    put_number(out, b"closure ", closure)?;
-    put_number(out, b"factor ", factor)?;
-    put_number(out, b"limit ", limit)
+    writeln!(out, "requested {requested}")?;
+    writeln!(out, "closure {closure}")?;
+    writeln!(out, "factor {factor}")?;
+    writeln!(out, "limit {limit}")
 }
 
 fn put_diagnosis(out: &mut impl Write, d: SelectedInverseDiagnostics) -> io::Result<()> {
@@ -202,17 +189,21 @@ fn put_diagnosis(out: &mut impl Write, d: SelectedInverseDiagnostics) -> io::Res
         d.factor_pairs,
         d.closure_limit,
     )?;
-    put_value_line(out, b"ratio ", d.closure_over_factor)
+    let ratio = Value(d.closure_over_factor);
+    writeln!(out, "ratio {ratio}")
 }
 
 // The reply of a call that fills result lists; true where it filled them.
-pub fn put_answer(out: &mut impl Write, answer: Selected) -> io::Result<bool> {
+pub fn put_answer(
+    out: &mut impl Write,
+    answer: Result<SelectedInverseDiagnostics, Refusal>,
+) -> io::Result<bool> {
     match answer {
-        Selected::Answered(d) => {
+        Ok(d) => {
             put_diagnosis(out, d)?;
             Ok(d.is_complete())
         }
-        Selected::Refused(why) => {
+        Err(why) => {
             put_refused(out, why)?;
             Ok(false)
         }
@@ -251,15 +242,15 @@ pub fn put_whole_result(
 
 fn put_range(out: &mut impl Write, low: i64, high: i64) -> io::Result<()> {
     put_ok(out)?;
-    put_whole_line(out, b"low ", low)?;
-    put_whole_line(out, b"high ", high)
+    writeln!(out, "low {low}")?;
+    writeln!(out, "high {high}")
 }
 
 // The bounds on a row's variance.
-pub fn put_bounds(out: &mut impl Write, answer: VarianceBounds) -> io::Result<()> {
+pub fn put_bounds(out: &mut impl Write, answer: Result<(i64, i64), Refusal>) -> io::Result<()> {
     match answer {
-        VarianceBounds::Bounds(low, high) => put_range(out, low, high),
-        VarianceBounds::Refused(why) => put_refused(out, why),
+        Ok((low, high)) => put_range(out, low, high),
+        Err(why) => put_refused(out, why),
     }
 }
 
@@ -270,20 +261,25 @@ pub fn put_whole_output(out: &mut impl Write, output: &[i64]) -> io::Result<()> 
 
 fn put_variance(out: &mut impl Write, floor: f64, hits: usize) -> io::Result<()> {
     put_ok(out)?;
-    put_value_line(out, b"floor ", floor)?;
-    put_number(out, b"hits ", hits)
+    let floor = Value(floor);
+    writeln!(out, "floor {floor}")?;
+    writeln!(out, "hits {hits}")
 }
 
-pub fn put_stabilized(out: &mut impl Write, answer: Stabilized) -> io::Result<()> {
+pub fn put_stabilized(
+    out: &mut impl Write,
+    answer: Result<StabilizedVariance, Refusal>,
+) -> io::Result<()> {
     match answer {
-        Stabilized::Answered(s) => put_variance(out, s.floor, s.floor_hits),
-        Stabilized::Refused(why) => put_refused(out, why),
+        Ok(s) => put_variance(out, s.floor, s.floor_hits),
+        Err(why) => put_refused(out, why),
     }
 }
 
 // The count and the least of the negative values.
 pub fn put_least(out: &mut impl Write, negative: usize, least: f64) -> io::Result<()> {
     put_ok(out)?;
-    put_number(out, b"negative ", negative)?;
-    put_value_line(out, b"least ", least)
+    let least = Value(least);
+    writeln!(out, "negative {negative}")?;
+    writeln!(out, "least {least}")
 }

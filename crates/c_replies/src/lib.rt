@@ -2,27 +2,15 @@
 #![tactic(auto)]
 
 ghost use Rattle.std.specs.Prelude.{◌≡◌};
-ghost use Rattle.diagnostics.specs.Selected.{selected_reply_of};
-ghost use Rattle.lookup.specs.Reply.{entry_reply, whole_reply};
-ghost use Rattle.pattern_lists.specs.ListedMarks.{list_reply};
-ghost use Rattle.dependency_chain.specs.Reply.{chain_reply};
-ghost use Rattle.floor.specs.Floor.{stabilized_reply};
-ghost use Rattle.weight_ranges.specs.Ranges.{bounds_reply};
-ghost use Rattle.requests_reader.specs.Reader.{read_reply};
-ghost use Rattle.requests_writer.specs.Writer.{written_reply};
 ghost use Rattle.c_replies.specs.Numbers.{status_number, selected_numbers, entry_numbers, counted_numbers, whole_entry_numbers, bounds_numbers, pair_numbers, requests_numbers, bytes_numbers, floor_numbers, least_numbers};
+ghost use Rattle.refusal.specs.Refusal.{reply_of};
 
-use dependency_chain::ChainPairs;
-use diagnostics::{Selected, SelectedInverseStatus};
-use floor::Stabilized;
+use diagnostics::{SelectedInverseDiagnostics, SelectedInverseStatus};
+use floor::StabilizedVariance;
 use least::CountAndLeast;
-use lookup::ordered::{CountedEntry, Entry};
-use lookup::whole::WholeEntry;
-use pattern_lists::listed::PatternPairs;
-use requests_reader::ReadRequests;
-use requests_writer::WrittenRequests;
+use lookup::ordered::CountedEntry;
+use refusal::Refusal;
 use verdicts::refusal_number;
-use weight_ranges::VarianceBounds;
 
 // The answer of a call that selects entries.
 #[repr(C)]
@@ -71,7 +59,7 @@ pub struct BoundsNumbers {
     pub high: i64,
 }
 
-// The answer of a pattern list, or of a chain.
+// The answer of a pattern list, or of a chain: how many pairs; of a chain 0 where the pair is not in the set.
 #[repr(C)]
 #[derive(Clone, Copy)]
 pub struct PairNumbers {
@@ -123,178 +111,182 @@ fn status_number(status: SelectedInverseStatus) -> u32
     }
 }
 
-pub fn selected_numbers(answer: Selected) -> SelectedNumbers
-    ensures { result ≡ selected_numbers (selected_reply_of answer) }
-{
-    match answer {
-        Selected::Answered(d) => {
-            let status = d.status;
-            SelectedNumbers {
-                refusal: 0,
-                status: status_number(status),
-                requested_pairs: d.requested_pairs,
-                closure_pairs: d.closure_pairs,
-                factor_pairs: d.factor_pairs,
-                closure_limit: d.closure_limit,
-                closure_over_factor: d.closure_over_factor,
+impl From<Result<SelectedInverseDiagnostics, Refusal>> for SelectedNumbers {
+    ghost from_gives = { λ answer numbers. numbers ≡ selected_numbers (reply_of answer) };
+
+    fn from(answer: Result<SelectedInverseDiagnostics, Refusal>) -> SelectedNumbers {
+        match answer {
+            Ok(d) => {
+                let status = d.status;
+                SelectedNumbers {
+                    refusal: 0,
+                    status: status_number(status),
+                    requested_pairs: d.requested_pairs,
+                    closure_pairs: d.closure_pairs,
+                    factor_pairs: d.factor_pairs,
+                    closure_limit: d.closure_limit,
+                    closure_over_factor: d.closure_over_factor,
+                }
             }
+            Err(why) => SelectedNumbers {
+                refusal: refusal_number(why),
+                status: 0,
+                requested_pairs: 0,
+                closure_pairs: 0,
+                factor_pairs: 0,
+                closure_limit: 0,
+                closure_over_factor: 0.0,
+            },
         }
-        Selected::Refused(why) => SelectedNumbers {
-            refusal: refusal_number(why),
-            status: 0,
-            requested_pairs: 0,
-            closure_pairs: 0,
-            factor_pairs: 0,
-            closure_limit: 0,
-            closure_over_factor: 0.0,
-        },
     }
 }
 
-pub fn entry_numbers(entry: Entry) -> EntryNumbers
-    ensures { result ≡ entry_numbers (entry_reply entry) }
-{
-    match entry {
-        Entry::Value(z) => EntryNumbers {
-            refusal: 0,
-            value: z,
-        },
-        Entry::Refused(why) => EntryNumbers {
-            refusal: refusal_number(why),
-            value: 0.0,
-        },
+impl From<Result<f64, Refusal>> for EntryNumbers {
+    ghost from_gives = { λ entry numbers. numbers ≡ entry_numbers (reply_of entry) };
+
+    fn from(entry: Result<f64, Refusal>) -> EntryNumbers {
+        match entry {
+            Ok(z) => EntryNumbers {
+                refusal: 0,
+                value: z,
+            },
+            Err(why) => EntryNumbers {
+                refusal: refusal_number(why),
+                value: 0.0,
+            },
+        }
     }
 }
 
-pub fn counted_numbers(found: CountedEntry) -> CountedNumbers
-    ensures { result ≡ counted_numbers (entry_reply found.entry) found.looks }
-{
-    let entry = found.entry;
-    let numbers = entry_numbers(entry);
-    CountedNumbers {
-        refusal: numbers.refusal,
-        value: numbers.value,
-        looks: found.looks,
+impl From<CountedEntry> for CountedNumbers {
+    ghost from_gives = { λ found numbers. numbers ≡ counted_numbers (reply_of found.entry) found.looks };
+
+    fn from(found: CountedEntry) -> CountedNumbers {
+        let entry = found.entry;
+        let numbers = EntryNumbers::from(entry);
+        CountedNumbers {
+            refusal: numbers.refusal,
+            value: numbers.value,
+            looks: found.looks,
+        }
     }
 }
 
-pub fn whole_entry_numbers(entry: WholeEntry) -> WholeEntryNumbers
-    ensures { result ≡ whole_entry_numbers (whole_reply entry) }
-{
-    match entry {
-        WholeEntry::Value(z) => WholeEntryNumbers {
-            refusal: 0,
-            value: z,
-        },
-        WholeEntry::Refused(why) => WholeEntryNumbers {
-            refusal: refusal_number(why),
-            value: 0,
-        },
+impl From<Result<i64, Refusal>> for WholeEntryNumbers {
+    ghost from_gives = { λ entry numbers. numbers ≡ whole_entry_numbers (reply_of entry) };
+
+    fn from(entry: Result<i64, Refusal>) -> WholeEntryNumbers {
+        match entry {
+            Ok(z) => WholeEntryNumbers {
+                refusal: 0,
+                value: z,
+            },
+            Err(why) => WholeEntryNumbers {
+                refusal: refusal_number(why),
+                value: 0,
+            },
+        }
     }
 }
 
-pub fn bounds_numbers(answer: VarianceBounds) -> BoundsNumbers
-    ensures { result ≡ bounds_numbers (bounds_reply answer) }
-{
-    match answer {
-        VarianceBounds::Bounds(low, high) => BoundsNumbers {
-            refusal: 0,
-            low: low,
-            high: high,
-        },
-        VarianceBounds::Refused(why) => BoundsNumbers {
-            refusal: refusal_number(why),
-            low: 0,
-            high: 0,
-        },
+impl From<Result<(i64, i64), Refusal>> for BoundsNumbers {
+    ghost from_gives = { λ answer numbers. numbers ≡ bounds_numbers (reply_of answer) };
+
+    fn from(answer: Result<(i64, i64), Refusal>) -> BoundsNumbers {
+        match answer {
+            Ok((low, high)) => BoundsNumbers {
+                refusal: 0,
+                low: low,
+                high: high,
+            },
+            Err(why) => BoundsNumbers {
+                refusal: refusal_number(why),
+                low: 0,
+                high: 0,
+            },
+        }
     }
 }
 
-pub fn pair_numbers(answer: PatternPairs) -> PairNumbers
-    ensures { result ≡ pair_numbers (list_reply answer) }
-{
-    match answer {
-        PatternPairs::Listed(count) => PairNumbers {
-            refusal: 0,
-            pairs: count,
-        },
-        PatternPairs::Refused(why) => PairNumbers {
-            refusal: refusal_number(why),
-            pairs: 0,
-        },
+impl From<Result<usize, Refusal>> for PairNumbers {
+    ghost from_gives = { λ answer numbers. numbers ≡ pair_numbers (reply_of answer) };
+
+    fn from(answer: Result<usize, Refusal>) -> PairNumbers {
+        match answer {
+            Ok(count) => PairNumbers {
+                refusal: 0,
+                pairs: count,
+            },
+            Err(why) => PairNumbers {
+                refusal: refusal_number(why),
+                pairs: 0,
+            },
+        }
     }
 }
 
-// The number of pairs of a chain, 0 where the pair is not in the set.
-pub fn chain_numbers(answer: ChainPairs) -> PairNumbers
-    ensures { result ≡ pair_numbers (chain_reply answer) }
-{
-    match answer {
-        ChainPairs::Pairs(length) => PairNumbers {
-            refusal: 0,
-            pairs: length,
-        },
-        ChainPairs::Refused(why) => PairNumbers {
-            refusal: refusal_number(why),
-            pairs: 0,
-        },
+impl From<Result<(usize, usize), Refusal>> for RequestsNumbers {
+    ghost from_gives = { λ answer numbers. numbers ≡ requests_numbers (reply_of answer) };
+
+    fn from(answer: Result<(usize, usize), Refusal>) -> RequestsNumbers {
+        match answer {
+            Ok((dimension, count)) => RequestsNumbers {
+                refusal: 0,
+                dimension: dimension,
+                requests: count,
+            },
+            Err(why) => RequestsNumbers {
+                refusal: refusal_number(why),
+                dimension: 0,
+                requests: 0,
+            },
+        }
     }
 }
 
-pub fn requests_numbers(answer: ReadRequests) -> RequestsNumbers
-    ensures { result ≡ requests_numbers (read_reply answer) }
-{
-    match answer {
-        ReadRequests::Read(dimension, count) => RequestsNumbers {
-            refusal: 0,
-            dimension: dimension,
-            requests: count,
-        },
-        ReadRequests::Refused(why) => RequestsNumbers {
-            refusal: refusal_number(why),
-            dimension: 0,
-            requests: 0,
-        },
+impl From<Result<usize, Refusal>> for BytesNumbers {
+    ghost from_gives = { λ answer numbers. numbers ≡ bytes_numbers (reply_of answer) };
+
+    fn from(answer: Result<usize, Refusal>) -> BytesNumbers {
+        match answer {
+            Ok(count) => BytesNumbers {
+                refusal: 0,
+                bytes: count,
+            },
+            Err(why) => BytesNumbers {
+                refusal: refusal_number(why),
+                bytes: 0,
+            },
+        }
     }
 }
 
-pub fn bytes_numbers(answer: WrittenRequests) -> BytesNumbers
-    ensures { result ≡ bytes_numbers (written_reply answer) }
-{
-    match answer {
-        WrittenRequests::Written(count) => BytesNumbers {
-            refusal: 0,
-            bytes: count,
-        },
-        WrittenRequests::Refused(why) => BytesNumbers {
-            refusal: refusal_number(why),
-            bytes: 0,
-        },
+impl From<Result<StabilizedVariance, Refusal>> for FloorNumbers {
+    ghost from_gives = { λ answer numbers. numbers ≡ floor_numbers (reply_of answer) };
+
+    fn from(answer: Result<StabilizedVariance, Refusal>) -> FloorNumbers {
+        match answer {
+            Ok(s) => FloorNumbers {
+                refusal: 0,
+                floor: s.floor,
+                floor_hits: s.floor_hits,
+            },
+            Err(why) => FloorNumbers {
+                refusal: refusal_number(why),
+                floor: 0.0,
+                floor_hits: 0,
+            },
+        }
     }
 }
 
-pub fn floor_numbers(answer: Stabilized) -> FloorNumbers
-    ensures { result ≡ floor_numbers (stabilized_reply answer) }
-{
-    match answer {
-        Stabilized::Answered(s) => FloorNumbers {
-            refusal: 0,
-            floor: s.floor,
-            floor_hits: s.floor_hits,
-        },
-        Stabilized::Refused(why) => FloorNumbers {
-            refusal: refusal_number(why),
-            floor: 0.0,
-            floor_hits: 0,
-        },
-    }
-}
+impl From<CountAndLeast> for LeastNumbers {
+    ghost from_gives = { λ answer numbers. numbers ≡ least_numbers answer };
 
-pub fn least_numbers(answer: CountAndLeast) -> LeastNumbers
-    ensures { result ≡ least_numbers answer }
-{
-    LeastNumbers {
-        num_negative: answer.num_negative,
-        min_value: answer.min_value,
+    fn from(answer: CountAndLeast) -> LeastNumbers {
+        LeastNumbers {
+            num_negative: answer.num_negative,
+            min_value: answer.min_value,
+        }
     }
 }

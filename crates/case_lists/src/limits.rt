@@ -1,16 +1,11 @@
 // The limit of a case.
 use case_text::{begins, decimal, skip_to};
 
-#[derive(Clone, Copy)]
-pub enum Limit {
-    Default,
-    Given(usize),
-}
-
-pub fn limit_of(text: &[u8]) -> Limit {
+// None where it is the default.
+pub fn limit_of(text: &[u8]) -> Option<usize> {
     let p = skip_to(text, 0, b"\nlimit ");
     if begins(text, p, b"default") {
-        return Limit::Default;
+        return None;
     }
-    Limit::Given(decimal(text, p) as usize)
+    Some(decimal(text, p) as usize)
 }

@@ -1,6 +1,6 @@
 -- The items of a list in a text of cases: numbers with blanks between them, the first of them their count.
 -- Assumes nothing.
-use Rattle.std.specs.Prelude.{ℕ, zero, suc, min, ◌≡◌, Bool, cond, List, length, ℤ, Float}
+use Rattle.std.specs.Prelude.{ℕ, zero, suc, min, ◌≡◌, List, length, ℤ, Float, Bool, cond}
 use Rattle.std.specs.Float.{binary64}
 use Rattle.std.specs.Float.Ieee.{of_bits}
 use Rattle.lists.specs.Overwrite.{filled}
@@ -11,9 +11,9 @@ unfoldable pub past_items : List ℕ → ℕ → ℕ → ℕ
 past_items text p zero = p
 past_items text p (suc k) = past_word text (past_blanks text (past_items text p k))
 
--- the item that k others stand before
-abbrev pub item_at : ℕ → List ℕ → ℕ → ℕ → ℕ
-item_at base text p k = number_at base text (past_blanks text (past_items text p k))
+-- the item that k others stand before, where `here` reads the one that starts at a place
+abbrev pub placed : {A : Type 0} → (List ℕ → ℕ → A) → List ℕ → ℕ → ℕ → A
+placed here text p k = here text (past_blanks text (past_items text p k))
 
 -- the count at p, and the place after it
 abbrev pub count_at : List ℕ → ℕ → ℕ
@@ -22,18 +22,31 @@ count_at text p = number_at 10 text (past_blanks text p)
 abbrev pub past_count : List ℕ → ℕ → ℕ
 past_count text p = past_word text (past_blanks text p)
 
--- the item as a word, as a byte in one of two bases, as a value, and as a whole number
+-- what starts at p as a word, as a byte in a base, as a value, and as a whole number
+abbrev pub word_here : List ℕ → ℕ → ℕ
+word_here text p = min (number_at 10 text p) 4294967295
+
+abbrev pub byte_here : ℕ → List ℕ → ℕ → ℕ
+byte_here base text p = min (number_at base text p) 255
+
+abbrev pub float_here : List ℕ → ℕ → Float
+float_here text p = of_bits binary64 (number_at 16 text p)
+
+abbrev pub whole_here : List ℕ → ℕ → ℤ
+whole_here text p = whole_number_at text p
+
+-- the item as each of them
 abbrev pub word_at : List ℕ → ℕ → ℕ → ℕ
-word_at text p k = min (item_at 10 text p k) 4294967295
+word_at = placed word_here
 
 abbrev pub byte_at : Bool → List ℕ → ℕ → ℕ → ℕ
-byte_at hex text p k = min (item_at (cond hex 16 10) text p k) 255
+byte_at hex = placed (byte_here (cond hex 16 10))
 
 abbrev pub float_at : List ℕ → ℕ → ℕ → Float
-float_at text p k = of_bits binary64 (item_at 16 text p k)
+float_at = placed float_here
 
 abbrev pub whole_at : List ℕ → ℕ → ℕ → ℤ
-whole_at text p k = whole_number_at text (past_blanks text (past_items text p k))
+whole_at = placed whole_here
 
 -- what reading a list at p gives: the items that the list has room for are put to its front
 pub record Listing {A : Type 0} (item : List ℕ → ℕ → ℕ → A) (text : List ℕ) (p : ℕ) (old : List A) (count : ℕ) (new : List A) : Type 0 where

@@ -1,130 +1,108 @@
 // Reading lists from the text of cases into lists that the caller lends; items past the lent list's room are dropped.
-ghost use Rattle.std.specs.Prelude.{◌≡◌, ◌≤◌, min, length};
+ghost use Rattle.std.specs.Prelude.{◌≡◌, ◌≤◌, ℕ, List, length};
 ghost use Rattle.lists.specs.Overwrite.{filled};
-ghost use Rattle.case_text.specs.Items.{word_at, byte_at, float_at, whole_at, Listing};
+ghost use Rattle.case_text.specs.Items.{placed, word_here, byte_here, float_here, whole_here, Listing};
 
-use super::{decimal, float_value, number_of, skip_blanks, skip_word, whole_number};
-use words::order::smaller;
+use super::{decimal, float_value, hexadecimal, skip_blanks, skip_word, whole_number};
+use std::cmp::min;
 
-fn narrow(x: u64) -> u32
-    ensures { result ≡ min x 4294967295 }
-{
-    if x < 4294967295 {
-        return x as u32;
-    }
-    4294967295
+// How the items of a list are written.
+pub trait Form {
+    type Item: Copy;
+
+    // The item that starts at a place.
+    ghost here: { List ℕ → ℕ → Self.Item };
+
+    fn read(text: &[u8], p: usize) -> Self::Item
+        ensures { result ≡ here text.now p };
 }
 
-fn narrow_byte(x: u64) -> u8
-    ensures { result ≡ min x 255 }
-{
-    if x < 255 {
-        return x as u8;
+// Decimal words, of which one above 2^32 - 1 is read as that.
+pub struct Words;
+
+impl Form for Words {
+    type Item = u32;
+
+    ghost here = { word_here };
+
+    fn read(text: &[u8], p: usize) -> u32 {
+        u32::try_from(decimal(text, p)).unwrap_or(u32::MAX)
     }
-    255
+}
+
+// Decimal bytes, of which one above 255 is read as that.
+pub struct Bytes;
+
+impl Form for Bytes {
+    type Item = u8;
+
+    ghost here = { byte_here 10 };
+
+    fn read(text: &[u8], p: usize) -> u8 {
+        u8::try_from(decimal(text, p)).unwrap_or(u8::MAX)
+    }
+}
+
+// The same in hexadecimal digits.
+pub struct HexBytes;
+
+impl Form for HexBytes {
+    type Item = u8;
+
+    ghost here = { byte_here 16 };
+
+    fn read(text: &[u8], p: usize) -> u8 {
+        u8::try_from(hexadecimal(text, p)).unwrap_or(u8::MAX)
+    }
+}
+
+// Values, each by its bits in hexadecimal digits.
+pub struct Values;
+
+impl Form for Values {
+    type Item = f64;
+
+    ghost here = { float_here };
+
+    fn read(text: &[u8], p: usize) -> f64 {
+        float_value(text, p)
+    }
+}
+
+// Decimal whole numbers.
+pub struct Wholes;
+
+impl Form for Wholes {
+    type Item = i64;
+
+    ghost here = { whole_here };
+
+    fn read(text: &[u8], p: usize) -> i64 {
+        whole_number(text, p)
+    }
 }
 
 // Puts the first `count` items after p to the front of the list.
-fn put_words(text: &[u8], p: usize, count: usize, list: &mut [u32])
+fn put_items<F: Form>(text: &[u8], p: usize, count: usize, list: &mut [F::Item])
     requires { count ≤ length list.old }
-    ensures { list.new ≡ filled (word_at text.now p) count list.old }
+    ensures { list.new ≡ filled (placed F.here text.now p) count list.old }
 {
     let mut q = p;
-    let mut i = 0;
-    while i < count {
+    for i in 0..count {
         q = skip_blanks(text, q);
-        list[i] = narrow(decimal(text, q));
+        let item = F::read(text, q);
+        list[i] = item;
         q = skip_word(text, q);
-        i += 1;
     }
 }
 
-// The same with bytes, as hexadecimal or decimal numbers.
-fn put_bytes(text: &[u8], p: usize, count: usize, hex: bool, list: &mut [u8])
-    requires { count ≤ length list.old }
-    ensures { list.new ≡ filled (byte_at hex text.now p) count list.old }
-{
-    let mut q = p;
-    let mut i = 0;
-    while i < count {
-        q = skip_blanks(text, q);
-        list[i] = narrow_byte(number_of(text, q, hex));
-        q = skip_word(text, q);
-        i += 1;
-    }
-}
-
-// The same with values.
-fn put_values(text: &[u8], p: usize, count: usize, list: &mut [f64])
-    requires { count ≤ length list.old }
-    ensures { list.new ≡ filled (float_at text.now p) count list.old }
-{
-    let mut q = p;
-    let mut i = 0;
-    while i < count {
-        q = skip_blanks(text, q);
-        list[i] = float_value(text, q);
-        q = skip_word(text, q);
-        i += 1;
-    }
-}
-
-// The same with whole numbers.
-fn put_wholes(text: &[u8], p: usize, count: usize, list: &mut [i64])
-    requires { count ≤ length list.old }
-    ensures { list.new ≡ filled (whole_at text.now p) count list.old }
-{
-    let mut q = p;
-    let mut i = 0;
-    while i < count {
-        q = skip_blanks(text, q);
-        let z = whole_number(text, q);
-        list[i] = z;
-        q = skip_word(text, q);
-        i += 1;
-    }
-}
-
-// Reads a counted list of words.
-pub fn read_words(text: &[u8], p: usize, list: &mut [u32]) -> usize
-    ensures { Listing word_at text.now p list.old result list.new }
+// Reads a counted list; the reply is how many items are put to the front of the lent list.
+pub fn read_list<F: Form>(text: &[u8], p: usize, list: &mut [F::Item]) -> usize
+    ensures { Listing (placed F.here) text.now p list.old result list.new }
 {
     let at = skip_blanks(text, p);
     let items = decimal(text, at) as usize;
-    let count = smaller(items, list.len());
-    put_words(text, skip_word(text, at), count, list);
-    count
-}
-
-// Reads a counted list of bytes.
-pub fn read_bytes(text: &[u8], p: usize, hex: bool, list: &mut [u8]) -> usize
-    ensures { Listing (byte_at hex) text.now p list.old result list.new }
-{
-    let at = skip_blanks(text, p);
-    let items = decimal(text, at) as usize;
-    let count = smaller(items, list.len());
-    put_bytes(text, skip_word(text, at), count, hex, list);
-    count
-}
-
-// Reads a counted list of values.
-pub fn read_values(text: &[u8], p: usize, list: &mut [f64]) -> usize
-    ensures { Listing float_at text.now p list.old result list.new }
-{
-    let at = skip_blanks(text, p);
-    let items = decimal(text, at) as usize;
-    let count = smaller(items, list.len());
-    put_values(text, skip_word(text, at), count, list);
-    count
-}
-
-// Reads a counted list of whole numbers.
-pub fn read_wholes(text: &[u8], p: usize, list: &mut [i64]) -> usize
-    ensures { Listing whole_at text.now p list.old result list.new }
-{
-    let at = skip_blanks(text, p);
-    let items = decimal(text, at) as usize;
-    let count = smaller(items, list.len());
-    put_wholes(text, skip_word(text, at), count, list);
+    let count = min(items, list.len());
+    put_items::<F>(text, skip_word(text, at), count, list);
     count
 }

@@ -1,3 +1,4 @@
 pub mod QueueLaws
 pub mod Answer
 pub mod Diagnosis
+pub mod KeptBy

@@ -15,7 +15,7 @@ use lib.Seq.{get_or-set_same, get_or-set_other}
 use borrow.Author.Tests.{le-ltb, lt-ltb, ltb-true, eqb-true}
 use Rattle.lists.specs.Test.{and_left, and_both, or_cases, or_left, or_right}
 use Rattle.refusal.specs.Bounds.{max_dimension}
-use Rattle.pairs.specs.Pair.{pair_total, ordered}
+use Rattle.pairs.specs.Pair.{pair_total}
 use Rattle.pairs.proofs.Pair.{ordered_is, is_ordered}
 use Rattle.pairs.specs.Scratch.{queue_start, packed, row_of, column_of}
 use Rattle.pairs.specs.ColumnOrder.{column_marking}

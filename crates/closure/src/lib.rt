@@ -3,35 +3,33 @@
 
 pub mod queue;
 pub mod stops;
-pub mod whole;
 
 ghost use Rattle.std.specs.Prelude.{◌≡◌, ◌≤◌, leb, length};
 ghost use Rattle.columns.specs.Kept.{pattern};
-ghost use Rattle.kept_entries.specs.KeptBy.{ValuesLent, kept_at};
 ghost use Rattle.diagnostics.specs.Diagnosis.{status_of, max_count};
 ghost use Rattle.closure.specs.Closure.{ClosureInput, Closes, Diagnoses};
 
 use diagnostics::{
     SelectedInverseDiagnostics, SelectedInverseStatus, selected_inverse_diagnostics,
 };
+use kept_entries::stored::StoredValue;
 use queue::close_queue;
 use refusal::MAX_DIMENSION;
 
-// Closes the marked pairs under their dependencies; which values are not 0 the floats or the whole numbers say, of which one list is empty. Returns how many pairs the closed set has, or limit + 1 where it has more. Leaves the closed set's marks, and its columns' stops, where it is within the limit.
-pub fn takahashi_dependency_closure(
+// Closes the marked pairs under their dependencies. Returns how many pairs the closed set has, or limit + 1 where it has more. Leaves the closed set's marks, and its columns' stops, where it is within the limit.
+pub fn takahashi_dependency_closure<T: StoredValue>(
     n: usize,
     starts: &[u32],
     rows: &[u32],
-    floats: &[f64],
-    wholes: &[i64],
+    values: &[T],
     requested_pairs: usize,
     limit: usize,
     stops: &mut [u32],
     scratch: &mut [u32],
 ) -> usize
     requires closure_input { ClosureInput n starts.now rows.now (length rows.now) requested_pairs stops.old scratch.old }
-    requires values_lent { ValuesLent (length rows.now) floats.now wholes.now }
-    ensures { Closes n (pattern starts.now rows.now (kept_at floats.now wholes.now)) limit scratch.old result
+    requires values_lent { length rows.now ≤ length values.now }
+    ensures { Closes n (pattern starts.now rows.now (T.kept values.now)) limit scratch.old result
         stops.new scratch.new }
 {
     if limit < requested_pairs {
@@ -43,8 +41,7 @@ pub fn takahashi_dependency_closure(
         n,
         starts,
         rows,
-        floats,
-        wholes,
+        values,
         limit,
         requested_pairs,
         stops,
@@ -64,13 +61,12 @@ fn status_within(count: usize, limit: usize) -> SelectedInverseStatus
     SelectedInverseStatus::Complete
 }
 
-// The diagnosis of a factor's pattern, by its floats or its whole numbers, of a count of kept pairs, the marked pairs and a limit. Leaves in scratch what the closure leaves.
-pub fn diagnose(
+// The diagnosis of a factor's pattern, of a count of kept pairs, the marked pairs and a limit. Leaves in scratch what the closure leaves.
+pub fn diagnose<T: StoredValue>(
     n: usize,
     starts: &[u32],
     rows: &[u32],
-    floats: &[f64],
-    wholes: &[i64],
+    values: &[T],
     kept_pairs: usize,
     requested_pairs: usize,
     limit: usize,
@@ -79,16 +75,15 @@ pub fn diagnose(
 ) -> SelectedInverseDiagnostics
     requires kept_pairs_le_max_count { kept_pairs ≤ max_count }
     requires closure_input { ClosureInput n starts.now rows.now (length rows.now) requested_pairs stops.old scratch.old }
-    requires values_lent { ValuesLent (length rows.now) floats.now wholes.now }
-    ensures { Diagnoses n (pattern starts.now rows.now (kept_at floats.now wholes.now)) kept_pairs limit scratch.old result
+    requires values_lent { length rows.now ≤ length values.now }
+    ensures { Diagnoses n (pattern starts.now rows.now (T.kept values.now)) kept_pairs limit scratch.old result
         stops.new scratch.new }
 {
     let count = takahashi_dependency_closure(
         n,
         starts,
         rows,
-        floats,
-        wholes,
+        values,
         requested_pairs,
         limit,
         stops,

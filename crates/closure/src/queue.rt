@@ -1,11 +1,10 @@
 // Closing the queue's pairs under the dependencies of a factor, with marks and a queue in scratch, after the loops of
 // `takahashi_dependency_closure` of uncertainty.rs.
-ghost use Rattle.std.specs.Prelude.{◌≡◌, ◌<◌, length};
-ghost use Rattle.kept_entries.specs.KeptBy.{ValuesLent, kept_at};
+ghost use Rattle.std.specs.Prelude.{◌≡◌, ◌<◌, ◌≤◌, length};
 ghost use Rattle.closure.specs.Queue.{QueueInput, ColumnEndInput, EndOf, after_span, EndColumnInput, ColumnEnded, QueueClosed};
 
 use super::stops::find_stop;
-use kept_entries::kept_by::is_kept;
+use kept_entries::stored::StoredValue;
 use marked_pairs::insert_closure_pair;
 use pair_places::PACKING;
 use pair_places::scratch::queue_start;
@@ -69,13 +68,13 @@ fn end_column(
 
 // Takes each pair of the queue and inserts its dependencies, up to the first pair past the limit. Entries not kept, and diagonals, are passed over.
 // At a column's stop the rest are dependencies of the pair inserted last, and follow when its turn comes. Pairs that a diagonal added are passed over
-// where its column has a stop before its end.
-pub fn close_queue(
+// where its column has a stop before its end. Inlined, it would take registers from the sums of a filling's loops.
+#[inline(never)]
+pub fn close_queue<T: StoredValue>(
     n: usize,
     starts: &[u32],
     rows: &[u32],
-    floats: &[f64],
-    wholes: &[i64],
+    values: &[T],
     limit: usize,
     first: usize,
     stops: &mut [u32],
@@ -83,10 +82,10 @@ pub fn close_queue(
     span_ends: &mut [u32],
     scratch: &mut [u32],
 ) -> usize
-    requires queue_input { QueueInput n starts.now rows.now (length rows.now) (kept_at floats.now wholes.now) stops.old span_starts.old span_ends.old limit
+    requires queue_input { QueueInput n starts.now rows.now (length rows.now) (T.kept values.now) stops.old span_starts.old span_ends.old limit
         scratch.old first }
-    requires values_lent { ValuesLent (length rows.now) floats.now wholes.now }
-    ensures { QueueClosed n starts.now rows.now (kept_at floats.now wholes.now) limit
+    requires values_lent { length rows.now ≤ length values.now }
+    ensures { QueueClosed n starts.now rows.now (T.kept values.now) limit
         scratch.old first stops.new scratch.new result }
 {
     let start = queue_start(n);
@@ -102,17 +101,14 @@ pub fn close_queue(
             continue 'queue;
         }
         let before = count;
-        let stop = find_stop(n, c, starts, rows, floats, wholes, stops);
+        let stop = find_stop(n, c, starts, rows, values, stops);
         let end = column_end(r, c, stop, starts, rows);
-        let mut p = at(starts, c);
-        'column: while p < end {
+        'column: for p in at(starts, c)..end {
             let k = at(rows, p);
-            let kept = is_kept(floats, wholes, p);
-            p += 1;
             if k <= c {
                 continue 'column;
             }
-            if !kept {
+            if !T::is_kept(values, p) {
                 continue 'column;
             }
             count = insert_closure_pair(n, r, k, count, scratch);

@@ -1,53 +1,49 @@
 // A column's stop: where one of its descendants is stored of which every other one is a descendant.
 ghost use Rattle.std.specs.Prelude.{◌≡◌, true, ◌+◌, ◌-◌, ◌≤◌, ◌<◌, max, length};
 ghost use Rattle.lists.specs.Test.{any_in};
-ghost use Rattle.kept_entries.specs.KeptBy.{ValuesLent, kept_at};
 ghost use Rattle.columns.specs.Factor.{Factor, Column};
 ghost use Rattle.closure.specs.Nested.{Stop, StopInput, StopFound};
 ghost use Rattle.closure.specs.Covered.{FirstKept, PlaceInput, Place, CoveredInput, Covered, other_row};
 
 use kept_entries::diagonal::first_from;
-use kept_entries::kept_by::{is_kept, kept_below_by};
 use kept_entries::nonzero_between;
+use kept_entries::stored::{StoredValue, kept_below};
 use words::at;
 
 // The first place from s to e kept below the diagonal of column c, e if none.
-fn first_descendant(
+fn first_descendant<T: StoredValue>(
     c: usize,
     s: usize,
     e: usize,
     rows: &[u32],
-    floats: &[f64],
-    wholes: &[i64],
+    values: &[T],
 ) -> usize
     requires column { Column rows.now (length rows.now) s e }
-    requires values_lent { ValuesLent (length rows.now) floats.now wholes.now }
-    ensures { FirstKept c s e rows.now (kept_at floats.now wholes.now) result }
+    requires values_lent { length rows.now ≤ length values.now }
+    ensures { FirstKept c s e rows.now (T.kept values.now) result }
 {
-    let mut q = s;
-    while q < e {
-        if kept_below_by(c, q, rows, floats, wholes) {
+    for q in s..e {
+        if kept_below(c, q, rows, values) {
             return q;
         }
-        q += 1;
     }
-    q
+    e
 }
 
 // Where the row of the entry at i is stored from j to e and is not 0, e if nowhere; j where the entry itself is 0.
-fn next_place(i: usize, j: usize, e: usize, rows: &[u32], floats: &[f64], wholes: &[i64]) -> usize
+fn next_place<T: StoredValue>(i: usize, j: usize, e: usize, rows: &[u32], values: &[T]) -> usize
     requires place_input { PlaceInput rows.now (length rows.now) i j e }
-    requires values_lent { ValuesLent (length rows.now) floats.now wholes.now }
-    ensures { Place rows.now (kept_at floats.now wholes.now) i j e result }
+    requires values_lent { length rows.now ≤ length values.now }
+    ensures { Place rows.now (T.kept values.now) i j e result }
 {
-    if !is_kept(floats, wholes, i) {
+    if !T::is_kept(values, i) {
         return j;
     }
     let r = at(rows, i);
     let k = first_from(r, rows, j, e);
     if k < e {
         if at(rows, k) == r {
-            if is_kept(floats, wholes, k) {
+            if T::is_kept(values, k) {
                 return k;
             }
         }
@@ -61,29 +57,26 @@ fn other_rows(a: usize, b: usize, j: usize, rows: &[u32]) -> bool
     ensures { result ≡ any_in (other_row rows.now a j) a b }
 {
     let mut other = false;
-    let mut i = a;
-    while i < b {
+    for i in a..b {
         if rows[i] != rows[j + (i - a)] {
             other = true;
         }
-        i += 1;
     }
     other
 }
 
 // Whether the entries from a to b have the rows of entries from s to e that follow one another, none of them 0, as in most factors.
-fn covered_in_order(
+fn covered_in_order<T: StoredValue>(
     a: usize,
     b: usize,
     s: usize,
     e: usize,
     rows: &[u32],
-    floats: &[f64],
-    wholes: &[i64],
+    values: &[T],
 ) -> bool
     requires covered_input { CoveredInput rows.now (length rows.now) a b s e }
-    requires values_lent { ValuesLent (length rows.now) floats.now wholes.now }
-    ensures { result ≡ true → Covered rows.now (kept_at floats.now wholes.now) a b s e }
+    requires values_lent { length rows.now ≤ length values.now }
+    ensures { result ≡ true → Covered rows.now (T.kept values.now) a b s e }
 {
     if b <= a {
         return true;
@@ -95,82 +88,69 @@ fn covered_in_order(
     if other_rows(a, b, j, rows) {
         return false;
     }
-    nonzero_between(floats, wholes, j, j + (b - a)) == b - a
+    nonzero_between(values, j, j + (b - a)) == b - a
 }
 
 // Whether each entry from a to b that is not 0 has its row at an entry from s to e that is not 0; rows ascend, so both are read once.
-fn covered_apart(
+fn covered_apart<T: StoredValue>(
     a: usize,
     b: usize,
     s: usize,
     e: usize,
     rows: &[u32],
-    floats: &[f64],
-    wholes: &[i64],
+    values: &[T],
 ) -> bool
     requires covered_input { CoveredInput rows.now (length rows.now) a b s e }
-    requires values_lent { ValuesLent (length rows.now) floats.now wholes.now }
-    ensures { result ≡ true → Covered rows.now (kept_at floats.now wholes.now) a b s e }
+    requires values_lent { length rows.now ≤ length values.now }
+    ensures { result ≡ true → Covered rows.now (T.kept values.now) a b s e }
 {
-    let mut i = a;
     let mut j = s;
-    while i < b {
-        j = next_place(i, j, e, rows, floats, wholes);
+    for i in a..b {
+        j = next_place(i, j, e, rows, values);
         if e <= j {
             return false;
         }
-        i += 1;
     }
     true
 }
 
 // The same, the quick way tried first.
-fn covered(
+fn covered<T: StoredValue>(
     a: usize,
     b: usize,
     s: usize,
     e: usize,
     rows: &[u32],
-    floats: &[f64],
-    wholes: &[i64],
+    values: &[T],
 ) -> bool
     requires covered_input { CoveredInput rows.now (length rows.now) a b s e }
-    requires values_lent { ValuesLent (length rows.now) floats.now wholes.now }
-    ensures { result ≡ true → Covered rows.now (kept_at floats.now wholes.now) a b s e }
+    requires values_lent { length rows.now ≤ length values.now }
+    ensures { result ≡ true → Covered rows.now (T.kept values.now) a b s e }
 {
-    if covered_in_order(a, b, s, e, rows, floats, wholes) {
+    if covered_in_order(a, b, s, e, rows, values) {
         return true;
     }
-    covered_apart(a, b, s, e, rows, floats, wholes)
+    covered_apart(a, b, s, e, rows, values)
 }
 
 // The place after column c's first descendant, where every other one is a descendant of it; else the column's end, which is always allowed
 // and costs a caller time alone.
-fn column_stop(
+fn column_stop<T: StoredValue>(
     n: usize,
     c: usize,
     starts: &[u32],
     rows: &[u32],
-    floats: &[f64],
-    wholes: &[i64],
+    values: &[T],
 ) -> usize
     requires factor { Factor n starts.now rows.now (length rows.now) × (c < n) }
-    requires values_lent { ValuesLent (length rows.now) floats.now wholes.now }
-    ensures { Stop starts.now rows.now (kept_at floats.now wholes.now) c result }
+    requires values_lent { length rows.now ≤ length values.now }
+    ensures { Stop starts.now rows.now (T.kept values.now) c result }
 {
     let e = at(starts, c + 1);
-    let q = first_descendant(c, at(starts, c), e, rows, floats, wholes);
+    let q = first_descendant(c, at(starts, c), e, rows, values);
     if q < e {
         let p = at(rows, q);
-        if covered(
-            q + 1,
-            e,
-            at(starts, p),
-            at(starts, p + 1),
-            rows,
-            floats,
-            wholes,
-        ) {
+        if covered(q + 1, e, at(starts, p), at(starts, p + 1), rows, values) {
             return q + 1;
         }
     }
@@ -188,24 +168,23 @@ fn at_least_one(stop: usize) -> usize
 }
 
 // Column c's stop: the one listed, or, where none is yet, the one then found and listed.
-pub fn find_stop(
+pub fn find_stop<T: StoredValue>(
     n: usize,
     c: usize,
     starts: &[u32],
     rows: &[u32],
-    floats: &[f64],
-    wholes: &[i64],
+    values: &[T],
     stops: &mut [u32],
 ) -> usize
-    requires stop_input { StopInput n c starts.now rows.now (kept_at floats.now wholes.now) (length rows.now) stops.old }
-    requires values_lent { ValuesLent (length rows.now) floats.now wholes.now }
-    ensures { StopFound n c starts.now rows.now (kept_at floats.now wholes.now) stops.old stops.new result }
+    requires stop_input { StopInput n c starts.now rows.now (T.kept values.now) (length rows.now) stops.old }
+    requires values_lent { length rows.now ≤ length values.now }
+    ensures { StopFound n c starts.now rows.now (T.kept values.now) stops.old stops.new result }
 {
     let listed = at(stops, c);
     if 0 < listed {
         return listed;
     }
-    let stop = at_least_one(column_stop(n, c, starts, rows, floats, wholes));
+    let stop = at_least_one(column_stop(n, c, starts, rows, values));
     stops[c] = stop as u32;
     stop
 }

@@ -8,7 +8,7 @@ pub mod runs;
 pub mod stored_sums;
 pub mod sums;
 
-ghost use Rattle.std.specs.Prelude.{◌≡◌, ◌+◌, ◌<◌, length};
+ghost use Rattle.std.specs.Prelude.{◌≡◌, ◌+◌, length};
 ghost use Rattle.lists.specs.Overwrite.{overwrite};
 ghost use Rattle.pairs.specs.ColumnOrder.{column_marking};
 ghost use Rattle.columns.specs.Form.{form_of, Divisors};
@@ -28,17 +28,16 @@ fn takahashi_column(
     starts: &[u32],
     rows: &[u32],
     values: &[f64],
-    with_pivots: bool,
-    pivots: &[f64],
+    pivots: Option<&[f64]>,
     result_starts: &[u32],
     result_rows: &[u32],
     result_values: &mut [f64],
     scratch: &[u32],
 )
     requires column_input { ColumnInput (route_lists n starts.now rows.now values.now result_starts.now result_rows.now scratch.now) j
-        (form_table (form_of with_pivots pivots.now) n starts.now rows.now values.now) result_values.old }
-    requires divisors { Divisors n starts.now rows.now values.now (form_of with_pivots pivots.now) }
-    ensures { ColumnsSolved n (column_marking n scratch.now) (form_table (form_of with_pivots pivots.now) n starts.now rows.now values.now) j
+        (form_table (form_of pivots) n starts.now rows.now values.now) result_values.old }
+    requires divisors { Divisors n starts.now rows.now values.now (form_of pivots) }
+    ensures { ColumnsSolved n (column_marking n scratch.now) (form_table (form_of pivots.entry) n starts.now rows.now values.now) j
         result_values.old result_values.new }
 {
     let first = at(result_starts, j);
@@ -48,7 +47,7 @@ fn takahashi_column(
     }
     let s = at(starts, j);
     let e = at(starts, j + 1);
-    let d = column_divisor(n, starts, rows, values, with_pivots, pivots, j);
+    let divisor = column_divisor(n, starts, rows, values, pivots, j);
     store_sums(
         n,
         j,
@@ -62,15 +61,14 @@ fn takahashi_column(
         scratch,
         result_values,
     );
-    finish_part(result_values, result_rows, first, last, j, with_pivots, d);
+    finish_part(result_values, result_rows, first, last, j, divisor);
     store_diagonal(
         n,
         j,
         first,
         s,
         e,
-        with_pivots,
-        d,
+        divisor,
         rows,
         values,
         result_rows,
@@ -85,8 +83,7 @@ pub fn takahashi_selected_inverse_on_closure(
     starts: &[u32],
     rows: &[u32],
     values: &[f64],
-    with_pivots: bool,
-    pivots: &[f64],
+    pivots: Option<&[f64]>,
     result_starts: &[u32],
     result_rows: &[u32],
     result_values: &mut [f64],
@@ -94,20 +91,17 @@ pub fn takahashi_selected_inverse_on_closure(
 )
     requires closure_route_input { ClosureRouteInput (route_lists n starts.now rows.now values.now result_starts.now result_rows.now scratch.now)
         (length result_values.old) }
-    requires divisors { Divisors n starts.now rows.now values.now (form_of with_pivots pivots.now) }
+    requires divisors { Divisors n starts.now rows.now values.now (form_of pivots) }
     ensures { result_values.new ≡ overwrite (entry_values n (column_marking n scratch.now)
-        (form_table (form_of with_pivots pivots.now) n starts.now rows.now values.now)) result_values.old }
+        (form_table (form_of pivots.entry) n starts.now rows.now values.now)) result_values.old }
 {
-    let mut j = n;
-    while 0 < j {
-        j -= 1;
+    for j in (0..n).rev() {
         takahashi_column(
             n,
             j,
             starts,
             rows,
             values,
-            with_pivots,
             pivots,
             result_starts,
             result_rows,

@@ -12,12 +12,8 @@ fn add_run(from: usize, last: usize, position: usize, l: f64, result_values: &mu
     requires { AddRunInput from last position (length result_values.old) }
     ensures { PartSet from last (run_terms from position l result_values.old) result_values.old result_values.new }
 {
-    let mut q = from;
-    let mut r = position;
-    while q < last {
-        result_values[q] = result_values[q] + l * result_values[r];
-        q += 1;
-        r += 1;
+    for q in from..last {
+        result_values[q] = result_values[q] + l * result_values[position + (q - from)];
     }
 }
 
@@ -45,10 +41,8 @@ fn add_rows(
     ensures { PartSet from last (row_terms base l result_rows.now scratch.now result_values.old)
         result_values.old result_values.new }
 {
-    let mut q = from;
-    while q < last {
+    for q in from..last {
         add_at(q, base + at(result_rows, q), l, scratch, result_values);
-        q += 1;
     }
 }
 

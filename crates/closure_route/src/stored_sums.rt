@@ -20,10 +20,8 @@ fn clear_part(first: usize, last: usize, result_values: &mut [f64])
     requires { (first ≤ last) × (last ≤ length result_values.old) }
     ensures { PartSet first last zeros result_values.old result_values.new }
 {
-    let mut q = first;
-    while q < last {
+    for q in first..last {
         result_values[q] = 0.0;
-        q += 1;
     }
 }
 
@@ -79,8 +77,7 @@ fn add_products(
         e result_values.old result_values.new }
 {
     let mut q = first;
-    let mut p = s;
-    while p < e {
+    for p in s..e {
         q = add_stored(
             n,
             j,
@@ -93,7 +90,6 @@ fn add_products(
             scratch,
             result_values,
         );
-        p += 1;
     }
 }
 
@@ -157,8 +153,7 @@ fn add_rests(
         last result_values.old result_values.new }
 {
     let mut p = s;
-    let mut q = first;
-    while q < last {
+    for q in first..last {
         p = add_rest(
             n,
             j,
@@ -172,7 +167,6 @@ fn add_rests(
             scratch,
             result_values,
         );
-        q += 1;
     }
 }
 

@@ -64,8 +64,7 @@ fn sum_from(
     let positions = queue_start(n);
     let base = positions + column_shift(n, i);
     let mut sum = start;
-    let mut p = first;
-    while p < e {
+    for p in first..e {
         sum = add_product(
             n,
             positions,
@@ -79,7 +78,6 @@ fn sum_from(
             scratch,
             result_values,
         );
-        p += 1;
     }
     sum
 }
@@ -108,12 +106,10 @@ pub fn has_zero(s: usize, e: usize, values: &[f64]) -> bool
     ensures { result ≡ any_in (zero_at values.now) s e }
 {
     let mut found = false;
-    let mut p = s;
-    while p < e {
+    for p in s..e {
         if values[p] == 0.0 {
             found = true;
         }
-        p += 1;
     }
     found
 }
@@ -131,12 +127,8 @@ fn sum_run(
     ensures { ProductsSummed values.now result_values.now first e (run_positions first position) start result }
 {
     let mut sum = start;
-    let mut p = first;
-    let mut r = position;
-    while p < e {
-        sum = sum + values[p] * result_values[r];
-        p += 1;
-        r += 1;
+    for p in first..e {
+        sum = sum + values[p] * result_values[position + (p - first)];
     }
     sum
 }
@@ -157,11 +149,9 @@ fn sum_rows(
         (row_positions base rows.now scratch.now) start result }
 {
     let mut sum = start;
-    let mut p = first;
-    while p < e {
+    for p in first..e {
         let position = at(scratch, base + at(rows, p));
         sum = sum + values[p] * result_values[position];
-        p += 1;
     }
     sum
 }

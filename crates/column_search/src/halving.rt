@@ -4,7 +4,6 @@ ghost use Rattle.columns.specs.Columns.{row};
 ghost use Rattle.result.specs.Halving.{halving, standing, halved_place};
 ghost use Rattle.column_search.specs.Reply.{place_reply};
 
-use super::Place;
 use words::at;
 
 // A place and the row there.
@@ -40,46 +39,46 @@ fn halve(rows: &[u32], r: usize, s: usize, e: usize) -> Stood
 }
 
 // The place that halving ends at, if r stands there.
-fn halve_for(rows: &[u32], r: usize, s: usize, e: usize) -> Place
+fn halve_for(rows: &[u32], r: usize, s: usize, e: usize) -> Option<usize>
     requires { (s < e) × (e ≤ length rows.now) }
     ensures { place_reply result ≡ standing rows.now r (halving rows.now r s (e - s)) }
 {
     let h = halve(rows, r, s, e);
     if h.there == r {
-        return Place::At(h.place);
+        return Some(h.place);
     }
-    Place::Absent
+    None
 }
 
 // Place p, if r stands there.
-fn standing_at(rows: &[u32], r: usize, p: usize) -> Place
+fn standing_at(rows: &[u32], r: usize, p: usize) -> Option<usize>
     requires { p < length rows.now }
     ensures { place_reply result ≡ standing rows.now r p }
 {
     if at(rows, p) == r {
-        return Place::At(p);
+        return Some(p);
     }
-    Place::Absent
+    None
 }
 
 // The place of row r from s to below e: the first, else by the distance from it in a run of rows one after the other, else by halving.
-pub fn find_by_halving(rows: &[u32], r: usize, s: usize, e: usize) -> Place
+pub fn find_by_halving(rows: &[u32], r: usize, s: usize, e: usize) -> Option<usize>
     requires { e ≤ length rows.now }
     ensures { place_reply result ≡ halved_place rows.now r s e }
 {
     if e <= s {
-        return Place::Absent;
+        return None;
     }
     let first = at(rows, s);
     if first == r {
-        return Place::At(s);
+        return Some(s);
     }
     if r < first {
-        return Place::Absent;
+        return None;
     }
     let last = at(rows, e - 1);
     if last < r {
-        return Place::Absent;
+        return None;
     }
     if last - first == e - 1 - s {
         return standing_at(rows, r, s + (r - first));

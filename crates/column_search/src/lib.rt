@@ -18,17 +18,10 @@ ghost use Rattle.column_search.specs.Reply.{place_reply};
 
 use words::at;
 
-// Where a row stands; `place_reply` of specs/Reply.antt gives document 01's number for an absent one.
-#[derive(Clone, Copy)]
-pub enum Place {
-    At(usize),
-    Absent,
-}
-
 // A place, and how many places were looked at for it.
 #[derive(Clone, Copy)]
 pub struct Found {
-    pub place: Place,
+    pub place: Option<usize>,
     pub looks: usize,
 }
 
@@ -36,7 +29,7 @@ fn absent(looks: usize) -> Found
     ensures { (place_reply result.place ≡ refused 8) × (result.looks ≡ looks) }
 {
     Found {
-        place: Place::Absent,
+        place: None,
         looks: looks,
     }
 }
@@ -45,7 +38,7 @@ fn found_at(p: usize, looks: usize) -> Found
     ensures { (place_reply result.place ≡ answered p) × (result.looks ≡ looks) }
 {
     Found {
-        place: Place::At(p),
+        place: Some(p),
         looks: looks,
     }
 }

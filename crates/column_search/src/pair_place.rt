@@ -1,52 +1,45 @@
 // The place of a pair in a result, or why it has none, and how many places the search looks at.
 ghost use Rattle.std.specs.Prelude.{◌≡◌};
 ghost use Rattle.refusal.specs.Steps.{refused};
-ghost use Rattle.refusal.specs.Refusal.{refusal_number};
+ghost use Rattle.refusal.specs.Refusal.{refusal_number, reply_of};
 ghost use Rattle.result.specs.Lookup.{entry_place, lookup_place};
 ghost use Rattle.result.specs.Counted.{entry_looks, lookup_looks};
-ghost use Rattle.column_search.specs.Reply.{place_reply, pair_reply};
+ghost use Rattle.column_search.specs.Reply.{place_reply};
 
+use super::find_in_column;
 use super::result_check::check_column;
-use super::{Place, find_in_column};
-use refusal::{Checked, Refusal};
-
-// Where a pair stands, or what it is refused with; `pair_reply` of specs/Reply.antt gives document 01's number.
-#[derive(Clone, Copy)]
-pub enum PairPlace {
-    At(usize),
-    Refused(Refusal),
-}
+use refusal::Refusal;
 
 // The same, and how many places were looked at.
 #[derive(Clone, Copy)]
 pub struct CountedPlace {
-    pub place: PairPlace,
+    pub place: Result<usize, Refusal>,
     pub looks: usize,
 }
 
 // A row's place as a pair's.
-pub fn of_row(place: Place) -> PairPlace
-    ensures { pair_reply result ≡ place_reply place }
+pub fn of_row(place: Option<usize>) -> Result<usize, Refusal>
+    ensures { reply_of result ≡ place_reply place }
 {
     match place {
-        Place::At(p) => PairPlace::At(p),
-        Place::Absent => PairPlace::Refused(Refusal::NotCovered),
+        Some(p) => Ok(p),
+        None => Err(Refusal::NotCovered),
     }
 }
 
 // A refusal before the search.
 fn unsearched(why: Refusal) -> CountedPlace
-    ensures { (pair_reply result.place ≡ refused (refusal_number why)) × (result.looks ≡ 0) }
+    ensures { (reply_of result.place ≡ refused (refusal_number why)) × (result.looks ≡ 0) }
 {
     CountedPlace {
-        place: PairPlace::Refused(why),
+        place: Err(why),
         looks: 0,
     }
 }
 
 // The place of row r and column c, r at least c; `values` is the number of values.
 fn ordered_place(starts: &[u32], rows: &[u32], values: usize, r: usize, c: usize) -> CountedPlace
-    ensures place_value { pair_reply result.place ≡ entry_place starts.now rows.now values r c }
+    ensures place_value { reply_of result.place ≡ entry_place starts.now rows.now values r c }
     ensures looks_value { result.looks ≡ entry_looks starts.now rows.now values r c }
 {
     if starts.len() == 0 {
@@ -57,8 +50,8 @@ fn ordered_place(starts: &[u32], rows: &[u32], values: usize, r: usize, c: usize
         return unsearched(Refusal::NotCovered);
     }
     match check_column(starts, rows, values, c) {
-        Checked::Refused(why) => unsearched(why),
-        Checked::Accepted => {
+        Err(why) => unsearched(why),
+        Ok(()) => {
             if n <= r {
                 return unsearched(Refusal::NotCovered);
             }
@@ -80,7 +73,7 @@ pub fn pair_place(
     row: usize,
     col: usize,
 ) -> CountedPlace
-    ensures place_value { pair_reply result.place ≡ lookup_place starts.now rows.now values row col }
+    ensures place_value { reply_of result.place ≡ lookup_place starts.now rows.now values row col }
     ensures looks_value { result.looks ≡ lookup_looks starts.now rows.now values row col }
 {
     if row < col {

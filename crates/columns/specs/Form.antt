@@ -1,7 +1,8 @@
 -- How a factor is given: L alone, of L * Lᵀ, with its diagonal kept; or L with ones on its diagonal, kept or not, and pivots d, of L * D * Lᵀ.
 -- What a column's entries are finished with, and how many pairs count as kept.
 -- Assumes nothing.
-use Rattle.std.specs.Prelude.{ℕ, ◌+◌, ◌<◌, ◌≡◌, Bool, true, false, ◌||◌, List, eqb, Float}
+use Rattle.std.specs.Prelude.{ℕ, ◌+◌, ◌<◌, ◌≡◌, Bool, true, false, ◌||◌, Option, None, Some, List, eqb, Float}
+use Rattle.std.specs.Borrow.{Bor}
 use Rattle.std.proofs.Math.ListN.{length}
 use Rattle.std.specs.Float.Ieee.{le}
 use Rattle.std.specs.Float.Ieee.Scale.{finite}
@@ -15,10 +16,10 @@ pub data Form : Type 0 where
   cholesky : Form
   pivoted : List Float → Form
 
--- as a call tells it: whether there are pivots, and the list, which says nothing where there are none
-abbrev pub form_of : Bool → List Float → Form
-form_of true pivots = pivoted pivots
-form_of false pivots = cholesky
+-- as a call tells it, by the pivots that it lends, if any
+abbrev pub form_of : Option (Bor (List Float)) → Form
+form_of None = cholesky
+form_of (Some pivots) = pivoted pivots.now
 
 -- a finite pivot above 0.0 for each of n columns
 pub record Pivots (n : ℕ) (pivots : List Float) : Type 0 where

@@ -1,8 +1,8 @@
 -- F2 of document 01, cell 0 with weight 3 and cell 1 with weight 2: their covariance 3 * 2 * -2 is the output -12, exactly, and so it is exchanged. Of the
 -- factor with the rows 2 0 and 6 4 and the same operators, the inverse reads back in sixteenths.
 -- Assumes nothing.
-use Rattle.std.specs.Prelude.{ℕ, zero, suc, ◌+◌, ◌<◌, ◌≡◌, refl, true, false, List, [], ◌∷◌, get_or, pos, negsuc, ◌*ℤ◌, Float}
-use Rattle.std.proofs.Common.{arith, sym, lit<, lit≤}
+use Rattle.std.specs.Prelude.{ℕ, ◌+◌, ◌≡◌, refl, true, List, [], ◌∷◌, get_or, pos, negsuc, ◌*ℤ◌, Float, Ok}
+use Rattle.std.proofs.Common.{sym, lit<, lit≤}
 use Rattle.std.specs.Float.{fin, nan}
 use Rattle.std.specs.Float.Ieee.{of_bits, of_int, ne, le, add, sub, mul, div, neg}
 use Rattle.lists.specs.Test.{any, any_in}
@@ -29,21 +29,21 @@ use Rattle.closed_set.specs.ClosedSet.{reach, member, request}
 use Rattle.entries.specs.Entries.{float_table}
 use Rattle.diagnostics.specs.Diagnosis.{diagnosis}
 use Rattle.diagnostics.specs.declared.SelectedInverseStatus.TheVariants.{Complete}
-use Rattle.diagnostics.specs.declared.Selected.TheVariants.{Answered}
 use Rattle.selection.specs.Diagnosis.{diagnosis_of}
-use Rattle.selection.specs.Selection.{room_of, room_steps, selected_answer, filling_of, Lent, lists}
+use Rattle.selection.specs.Selection.{room_of, room_steps, selected_answer, filling_of}
 use Rattle.selection.proofs.Selection.{lists_passed}
 use Rattle.exact_entries.specs.Recurrence.{found}
 use Rattle.exact_entries.specs.DyadicEntries.{DyadicCall, ReadsMultiples}
 use Rattle.exact_entries.specs.ExactEntries.{ExactCall}
-use Rattle.exact_entries.specs.Worked.{f2_lent, f2_cleared}
+use Rattle.exact_entries.specs.Worked.{f2_lent}
 use Rattle.exact_entries.proofs.Worked.{f2_diagonals, f2_exact}
-use Rattle.exact_entries.specs.DyadicWorked.{sixteenths_values, sixteenth}
-use Rattle.exact_entries.proofs.DyadicWorked.{sixteenths_dyadic}
+use Rattle.exact_entries.specs.DyadicWorked.{sixteenths_values}
 use Rattle.request_marks.specs.CrossRequests.{cross_requested}
 use Rattle.quadratic_form.specs.CrossValue.{add_terms, add_places}
-use Rattle.quadratic_form.specs.RowValue.{term_column, row_pair_values}
-use Rattle.quadratic_form.specs.ExactCross.{RowsWithin}
+use Rattle.quadratic_form.specs.RowValue.{row_pair_values}
+use Rattle.covariances_with_limit.specs.Covariances.{covariance_steps as limited_steps}
+use Rattle.covariances_with_limit.proofs.Worked.{place₁, f2_pair_within, pair_lists, pair_sixteenths}
+use Rattle.covariances_with_limit.proofs.Worked as general
 use Rattle.covariances.specs.Covariances.{operator, CovarianceCall, covariance_call, covariance_selection, covariance_steps, Covariances}
 use Rattle.covariances.proofs.Covariances.{covariance_accepted}
 use Rattle.covariances.specs.ExactCovariances.{exchanged, exact_covariance, ExactPair, CovariancesExact}
@@ -55,7 +55,7 @@ f2_pair =
 
 f2_pair_passed : Passed (covariance_steps f2_pair (room_of f2_lent) 1)
 unfolding any any_in of_int of_bits ne le first pair_total bit_words scratch_words bound_steps broken_steps starts_steps rows_steps column_steps finite_steps stored_steps operator_steps
-    diagonal_steps room_steps covariance_steps
+    diagonal_steps room_steps limited_steps
 f2_pair_passed = refl
 
 -- ---- the order of refusals
@@ -66,16 +66,16 @@ f2-verdict values a_rows b_rows =
 
 -- 18 before 4: an entry that is not finite, and lists of unequal length
 not_finite_first : f2-verdict (whole 1 ∷ nan ∷ whole 1 ∷ []) (0 ∷ []) [] ≡ refused 18
-unfolding any any_in of_int of_bits ne le first bound_steps broken_steps starts_steps rows_steps column_steps finite_steps stored_steps operator_steps diagonal_steps covariance_steps
+unfolding any any_in of_int of_bits ne le first bound_steps broken_steps starts_steps rows_steps column_steps finite_steps stored_steps operator_steps diagonal_steps limited_steps
 not_finite_first = refl
 
 -- 4 before 6: lists of unequal length, and a diagonal of 0.0; 9 before 6: a row outside, and that diagonal
 unequal_before_diagonal : f2-verdict (whole 0 ∷ whole 2 ∷ whole 1 ∷ []) (0 ∷ []) [] ≡ refused 4
-unfolding any any_in of_int of_bits ne le first bound_steps broken_steps starts_steps rows_steps column_steps finite_steps stored_steps operator_steps diagonal_steps covariance_steps
+unfolding any any_in of_int of_bits ne le first bound_steps broken_steps starts_steps rows_steps column_steps finite_steps stored_steps operator_steps diagonal_steps limited_steps
 unequal_before_diagonal = refl
 
 outside_before_diagonal : f2-verdict (whole 0 ∷ whole 2 ∷ whole 1 ∷ []) (1 ∷ []) (0 ∷ []) ≡ refused 9
-unfolding any any_in of_int of_bits ne le first bound_steps broken_steps starts_steps rows_steps column_steps finite_steps stored_steps operator_steps diagonal_steps covariance_steps
+unfolding any any_in of_int of_bits ne le first bound_steps broken_steps starts_steps rows_steps column_steps finite_steps stored_steps operator_steps diagonal_steps limited_steps
 outside_before_diagonal = refl
 
 -- ---- the exact case
@@ -84,17 +84,6 @@ f2_pair_call : ExactCall (covariance_selection f2_pair) f2_entries
 f2_pair_call =
     f2_exact cholesky (cross_requested (0 ∷ 1 ∷ []) (0 ∷ []) (0 ∷ 1 ∷ []) (1 ∷ []) (0 ∷ []) (0 ∷ [])) 30 (room_of f2_lent)
     (covariance_accepted f2_pair (room_of f2_lent) 1 f2_pair_passed).accepted f2_diagonals
-
--- a fact of one place, and of one place of each row
-place₁ : (G : ℕ → Type 0) → G 0 → (i : ℕ) → i < 1 → G i
-place₁ G g zero h = g
-place₁ G g (suc i) h = absurd (omega arith)
-
-places₁ : (G : ℕ → ℕ → Type 0) → G 0 0 → (i j : ℕ) → i < 1 → j < 1 → G i j
-places₁ G g i j h l = place₁ (λ i. (j : ℕ) → j < 1 → G i j) (place₁ (G 0) g) i h j l
-
-f2_pair_within : RowsWithin (term_column (0 ∷ [])) (term_column (1 ∷ [])) (λ p. pos 3) (λ p. pos 2) f2_matrix 0 1 0 1
-f2_pair_within = record { weights = λ i j h l. lit≤ tt; terms = places₁ _ (lit≤ tt); sums = places₁ _ (lit≤ tt) }
 
 f2_pair_exact : ExactPair f2_pair (λ p. pos 3) (λ p. pos 2) f2_matrix 0
 unfolding of_int
@@ -105,12 +94,9 @@ f2_pair_exact = record {
 }
 
 -- the call is answered with the pairs (1, 0), which is requested, and (1, 1), and leaves these lists
-abbrev pair_lists : Lent
-pair_lists = lists (0 ∷ 1 ∷ 2 ∷ []) (1 ∷ 1 ∷ 9 ∷ []) (neg (whole 2) ∷ whole 1 ∷ whole 9 ∷ []) f2_cleared
-
-f2_pair_left : Covariances f2_pair f2_lent (whole 9 ∷ []) (Answered (diagnosis 1 2 3 30 Complete)) pair_lists (neg (whole 12) ∷ [])
+f2_pair_left : Covariances f2_pair f2_lent (whole 9 ∷ []) (Ok (diagnosis 1 2 3 30 Complete)) pair_lists (neg (whole 12) ∷ [])
 unfolding any any_in sum_to picked select cells cell_count tabulate filled overwrite of_int of_bits ne le add sub mul div neg first after pair_total bit_words scratch_words
-    bound_steps broken_steps starts_steps rows_steps column_steps finite_steps stored_steps operator_steps diagonal_steps room_steps covariance_steps
+    bound_steps broken_steps starts_steps rows_steps column_steps finite_steps stored_steps operator_steps diagonal_steps room_steps limited_steps
     reach member factor_pairs diagnosis_of cross_requested row_pair_values add_terms add_places float_table
 f2_pair_left = record {
   replies = refl;
@@ -138,28 +124,13 @@ abbrev pair : CovarianceCall
 pair = covariance_call 2 f2_starts f2_rows sixteenths_values f2_pair.a f2_pair.b (0 ∷ []) (0 ∷ [])
 
 pair_passed : Passed (covariance_steps pair (room_of f2_lent) 1)
-unfolding any any_in of_int of_bits ne le first pair_total bit_words scratch_words bound_steps broken_steps starts_steps rows_steps column_steps finite_steps stored_steps operator_steps
-    diagonal_steps room_steps covariance_steps
-pair_passed = refl
+pair_passed = general.pair_passed
 
 pair_dyadic : DyadicCall (covariance_selection pair) 4 sixteenths-diag sixteenths sixteenths-z
-pair_dyadic =
-    sixteenths_dyadic (cross_requested (0 ∷ 1 ∷ []) (0 ∷ []) (0 ∷ 1 ∷ []) (1 ∷ []) (0 ∷ []) (0 ∷ [])) 30 (room_of f2_lent)
-    (covariance_accepted pair (room_of f2_lent) 1 pair_passed).accepted
+pair_dyadic = general.pair_dyadic
 
--- the lists that it leaves
-abbrev pair_sixteenths : Lent
-pair_sixteenths = lists (0 ∷ 1 ∷ 2 ∷ []) (1 ∷ 1 ∷ 9 ∷ []) (sixteenth true 3 ∷ sixteenth false 1 ∷ whole 9 ∷ []) f2_cleared
-
-pair_left : Covariances pair f2_lent (whole 9 ∷ []) (Answered (diagnosis 1 2 3 30 Complete)) pair_sixteenths (fin true 9 (negsuc 2) ∷ [])
-unfolding any any_in sum_to picked select cells cell_count tabulate filled overwrite of_int of_bits ne le add sub mul div neg first after pair_total bit_words scratch_words
-    bound_steps broken_steps starts_steps rows_steps column_steps finite_steps stored_steps operator_steps diagonal_steps room_steps covariance_steps
-    reach member factor_pairs diagnosis_of cross_requested row_pair_values add_terms add_places float_table
-pair_left = record {
-  replies = refl;
-  lists_are = lists_passed (covariance_steps pair (room_of f2_lent) 1) (filling_of (covariance_selection pair)) f2_lent pair_passed refl refl refl refl;
-  output_is = refl;
-}
+pair_left : Covariances pair f2_lent (whole 9 ∷ []) (Ok (diagnosis 1 2 3 30 Complete)) pair_sixteenths (fin true 9 (negsuc 2) ∷ [])
+pair_left = general.pair_left.selected
 
 -- `covariance_dyadic_reply`: the inverse over 16 is what reads back, so at (1, 0), which the row pair asks for, a number equal to -3 / 16
 pair_reads : ReadsMultiples (covariance_selection pair) pair_sixteenths 4 sixteenths-z sixteenths_matrix 16
@@ -167,8 +138,7 @@ pair_reads =
     (covariance_dyadic_reply pair f2_lent (whole 9 ∷ []) pair_left refl 4 sixteenths-diag sixteenths sixteenths-z pair_dyadic sixteenths_matrix 16 sixteenths-inverse).1
 
 pair_complete : (selected_answer (covariance_selection pair)).status ≡ Complete
-unfolding any any_in sum_to picked select cell_count of_int of_bits ne reach member cross_requested
-pair_complete = pair_reads.complete.1 (lit≤ tt)
+pair_complete = general.pair_complete
 
 pair_reads_below : (v : Float) × (found (covariance_selection pair) pair_sixteenths 1 0 ≡ answered v) × Multiple 4 v (negsuc 2) × (negsuc 2 *ℤ pos 16 ≡ pos 16 *ℤ negsuc 2)
 unfolding any any_in cross_requested

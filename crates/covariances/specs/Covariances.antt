@@ -1,24 +1,15 @@
--- The covariances of row pairs of two operators: what a call is handed, what it refuses in its order, what it answers and leaves.
+-- The covariances of row pairs of two operators: what a call is handed, what it refuses in its order, what it answers and leaves. All is as of a call that gives
+-- the default limit.
 -- Assumes nothing.
-use Rattle.std.specs.Prelude.{ℕ, ◌≤◌, not, List, [], ◌∷◌, ◌++◌, ltb, eqb, length, Float}
-use Rattle.refusal.specs.Bounds.{max_entries, output_steps}
+use Rattle.std.specs.Prelude.{ℕ, List, length, Float, Result}
 use Rattle.refusal.specs.Steps.{Step}
-use Rattle.refusal.specs.Groups.{grouped}
-use Rattle.columns.specs.Columns.{FactorLists, factor_lists, outside, bound_steps}
-use Rattle.columns.specs.Stored.{stored_steps}
-use Rattle.columns.specs.Operator.{operator_rows, operator_bound_steps, operator_steps}
-use Rattle.selection.specs.Selection.{Selection, selection, Lent, Room, room_of, default_limit, fill_steps, selected_table, Accepted}
-use Rattle.diagnostics.specs.declared.Selected.{Selected}
-use Rattle.request_marks.specs.CrossRequests.{cross_requested, OperatorPairs}
-use Rattle.quadratic_form.specs.RowValue.{row_pair_values}
+use Rattle.columns.specs.Columns.{FactorLists, factor_lists}
+use Rattle.selection.specs.Selection.{Selection, Lent, Room, room_of, default_limit}
 use Rattle.operator_values.specs.Output.{SelectedOutput}
-
--- an operator of `ncols` columns
-pub record Operator : Type 0 where
-  pub ncols : ℕ
-  pub row_starts : List ℕ
-  pub columns : List ℕ
-  pub weights : List Float
+use Rattle.covariances_with_limit.specs.Covariances as general
+pub use Rattle.covariances_with_limit.specs.Covariances.{Operator, operator}
+use Rattle.refusal.specs.declared.Refusal.{Refusal}
+use Rattle.diagnostics.specs.declared.SelectedInverseDiagnostics.{SelectedInverseDiagnostics}
 
 -- what a call is handed to read: a factor, operators a and b in factor order, and the rows of each row pair
 pub record CovarianceCall : Type 0 where
@@ -28,69 +19,36 @@ pub record CovarianceCall : Type 0 where
   pub a_rows : List ℕ
   pub b_rows : List ℕ
 
-abbrev pub operator : ℕ → List ℕ → List ℕ → List Float → Operator
-operator ncols row_starts columns weights = record { ncols = ncols; row_starts = row_starts; columns = columns; weights = weights }
-
 -- a call, from a function's parameters in their order
 abbrev pub covariance_call : ℕ → List ℕ → List ℕ → List Float → Operator → Operator → List ℕ → List ℕ → CovarianceCall
 covariance_call n starts rows values a b a_rows b_rows = record { factor = factor_lists n starts rows values; a = a; b = b; a_rows = a_rows; b_rows = b_rows }
 
+-- the same call with the default limit
+abbrev pub with_default : CovarianceCall → general.CovarianceCall
+with_default x = record { factor = x.factor; a = x.a; b = x.b; a_rows = x.a_rows; b_rows = x.b_rows; limit = default_limit x.factor.rows }
+
 module _ (x : CovarianceCall) where
   -- the requests are every column of the one row with every column of the other, for each row pair; the limit is the default one
   abbrev pub covariance_selection : Selection
-  covariance_selection =
-      selection x.factor (cross_requested x.a.row_starts x.a.columns x.b.row_starts x.b.columns x.a_rows x.b_rows)
-      (default_limit x.factor.rows)
-
-  -- 1: too many row pairs, counted by a's list
-  abbrev pub pair_bound_steps : List Step
-  pair_bound_steps = (1, ltb max_entries (length x.a_rows)) ∷ []
+  covariance_selection = general.covariance_selection (with_default x)
 
   -- 1 of the factor, of either operator and of the row pairs
   abbrev pub covariance_bounds : List Step
-  covariance_bounds =
-      bound_steps x.factor.n (length x.factor.rows) ++ (operator_bound_steps x.a.row_starts x.a.columns ++ (operator_bound_steps x.b.row_starts x.b.columns ++ pair_bound_steps))
+  covariance_bounds = general.covariance_bounds (with_default x)
 
-  -- 4: an operator's columns are not n, or the row pairs' lists are of unequal length
-  abbrev pub count_steps : List Step
-  count_steps = (4, not (eqb x.a.ncols x.factor.n)) ∷ (4, not (eqb x.b.ncols x.factor.n)) ∷ (4, not (eqb (length x.a_rows) (length x.b_rows))) ∷ []
-
-  -- 9: a row pair outside either operator
-  abbrev pub row_steps : List Step
-  row_steps = (9, outside (operator_rows x.a.row_starts) x.a_rows) ∷ (9, outside (operator_rows x.b.row_starts) x.b_rows) ∷ []
-
-  -- 9 of either operator and of the row pairs
-  abbrev pub operators_steps : List Step
-  operators_steps =
-      operator_steps x.factor.n x.a.row_starts x.a.columns (length x.a.weights) ++ (operator_steps x.factor.n x.b.row_starts x.b.columns (length x.b.weights) ++ row_steps)
-
-  -- refusals 1; 2, 3, 18; 4; 9; 6, 7; 7 of an output of that length
-  abbrev pub covariance_groups : Room → ℕ → List (List Step)
-  covariance_groups lengths output =
-      covariance_bounds
-      ∷ stored_steps x.factor
-      ∷ count_steps
-      ∷ operators_steps
-      ∷ fill_steps x.factor (default_limit x.factor.rows) lengths
-      ∷ output_steps (length x.a_rows) output
-      ∷ []
-
-  unfoldable pub covariance_steps : Room → ℕ → List Step
-  covariance_steps lengths output = grouped (covariance_groups lengths output)
+  abbrev pub covariance_steps : Room → ℕ → List Step
+  covariance_steps = general.covariance_steps (with_default x)
 
   -- the row pairs' values
   abbrev pub covariance_values : List Float
-  covariance_values =
-      row_pair_values x.a.row_starts x.a.columns x.a.weights x.b.row_starts x.b.columns x.b.weights x.a_rows x.b_rows (selected_table covariance_selection)
+  covariance_values = general.covariance_values (with_default x)
 
 -- the reply and the lists of a call; either status carries the diagnosis
-abbrev pub Covariances : CovarianceCall → Lent → List Float → Selected → Lent → List Float → Type 0
+abbrev pub Covariances : CovarianceCall → Lent → List Float → Result SelectedInverseDiagnostics Refusal → Lent → List Float → Type 0
 Covariances x lent output = SelectedOutput (covariance_steps x (room_of lent) (length output)) (covariance_selection x) (covariance_values x) lent output
 
 -- ---- a call that passed
 
 -- what it has
-pub record AcceptedCovariances (x : CovarianceCall) (lengths : Room) (output : ℕ) : Type 0 where
-  pub accepted : Accepted (covariance_selection x) lengths
-  pub operators : OperatorPairs x.factor.n x.a.row_starts x.a.columns (length x.a.weights) x.b.row_starts x.b.columns (length x.b.weights) x.a_rows x.b_rows
-  pub room : length x.a_rows ≤ output
+abbrev pub AcceptedCovariances : CovarianceCall → Room → ℕ → Type 0
+AcceptedCovariances x = general.AcceptedCovariances (with_default x)

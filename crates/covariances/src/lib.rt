@@ -1,21 +1,16 @@
 // The covariances of row pairs of two operators.
 #![tactic(auto)]
 
-pub mod checks;
-
 ghost use Rattle.selection.specs.Selection.{lists};
 ghost use Rattle.covariances.specs.Covariances.{operator, covariance_call, Covariances};
 
-use checks::check_covariances;
-use diagnostics::{Selected, SelectedInverseStatus};
-use fill::fill_lists;
-use operator_values::row_pair_values;
-use pair_places::scratch::clear_scratch;
-use refusal::Checked;
-use request_marks::cross::mark_cross_pairs;
+use covariances_with_limit::selected_inverse_transformed_covariances_with_limit;
+use diagnostics::SelectedInverseDiagnostics;
+use refusal::{MAX_ENTRIES, Refusal};
 use selected_checks::default_limit;
 
 // The value of each row pair, if the closed set of all their columns' pairs is within the default limit. The result lists are filled as by selected entries.
+// Above the bound on entries there is no limit to compute.
 pub fn selected_inverse_transformed_covariances(
     n: usize,
     starts: &[u32],
@@ -36,7 +31,7 @@ pub fn selected_inverse_transformed_covariances(
     result_values: &mut [f64],
     scratch: &mut [u32],
     output: &mut [f64],
-) -> Selected
+) -> Result<SelectedInverseDiagnostics, Refusal>
     ensures { Covariances
         (covariance_call n starts.now rows.now values.now
         (operator a_ncols a_row_starts.now a_columns.now a_weights.now)
@@ -45,7 +40,10 @@ pub fn selected_inverse_transformed_covariances(
         (lists result_starts.old result_rows.old result_values.old scratch.old) output.old result
         (lists result_starts.new result_rows.new result_values.new scratch.new) output.new }
 {
-    match check_covariances(
+    if MAX_ENTRIES < rows.len() {
+        return Err(Refusal::TooLarge);
+    }
+    selected_inverse_transformed_covariances_with_limit(
         n,
         starts,
         rows,
@@ -60,62 +58,11 @@ pub fn selected_inverse_transformed_covariances(
         b_weights,
         a_rows,
         b_rows,
-        result_starts.len(),
-        result_rows.len(),
-        result_values.len(),
-        scratch.len(),
-        output.len(),
-    ) {
-        Checked::Refused(why) => Selected::Refused(why),
-        Checked::Accepted => {
-            let requested_pairs = mark_cross_pairs(
-                n,
-                a_row_starts,
-                a_columns,
-                b_row_starts,
-                b_columns,
-                a_rows,
-                b_rows,
-                scratch,
-            );
-            let limit = default_limit(rows.len());
-            let diagnosis = fill_lists(
-                n,
-                starts,
-                rows,
-                values,
-                requested_pairs,
-                limit,
-                result_starts,
-                result_rows,
-                result_values,
-                scratch,
-            );
-            let status = diagnosis.status;
-            match status {
-                SelectedInverseStatus::ClosureTooLarge => {
-                    clear_scratch(n, scratch);
-                    return Selected::Answered(diagnosis);
-                }
-                SelectedInverseStatus::Complete => {
-                    row_pair_values(
-                        n,
-                        a_row_starts,
-                        a_columns,
-                        a_weights,
-                        b_row_starts,
-                        b_columns,
-                        b_weights,
-                        a_rows,
-                        b_rows,
-                        scratch,
-                        result_values,
-                        output,
-                    );
-                    clear_scratch(n, scratch);
-                    Selected::Answered(diagnosis)
-                }
-            }
-        }
-    }
+        default_limit(rows.len()),
+        result_starts,
+        result_rows,
+        result_values,
+        scratch,
+        output,
+    )
 }

@@ -1,6 +1,6 @@
 -- The covariances of row pairs of two operators with a limit: what a call is handed, what it refuses in its order, what it answers and leaves.
 -- Assumes nothing.
-use Rattle.std.specs.Prelude.{ℕ, ◌≤◌, ◌<◌, not, List, [], ◌∷◌, ◌++◌, ltb, eqb, length, Float}
+use Rattle.std.specs.Prelude.{ℕ, ◌≤◌, ◌<◌, not, List, [], ◌∷◌, ◌++◌, ltb, eqb, length, Float, Result}
 use Rattle.std.proofs.Common.{subst, ltb-false, leb-false, eqb-true}
 use Rattle.std.proofs.lemmas.Bool.{not-false}
 use Rattle.lists.specs.Test.{any_below}
@@ -16,12 +16,19 @@ use Rattle.columns.specs.Operator.{operator_rows, operator_bound_steps, operator
 use Rattle.columns.proofs.Operator.{operator_steps-sound}
 use Rattle.selection.specs.Selection.{Selection, selection, Lent, Room, room_of, fill_steps, selected_table, Accepted}
 use Rattle.selection.proofs.Call.{fill_accepted}
-use Rattle.diagnostics.specs.declared.Selected.{Selected}
 use Rattle.request_marks.specs.CrossRequests.{cross_requested, OperatorPairs}
 use Rattle.request_marks.proofs.CrossRequests.{cross_requested_ranged}
 use Rattle.quadratic_form.specs.RowValue.{row_pair_values}
 use Rattle.operator_values.specs.Output.{SelectedOutput}
-use Rattle.covariances.specs.Covariances.{Operator}
+use Rattle.refusal.specs.declared.Refusal.{Refusal}
+use Rattle.diagnostics.specs.declared.SelectedInverseDiagnostics.{SelectedInverseDiagnostics}
+
+-- an operator of `ncols` columns
+pub record Operator : Type 0 where
+  pub ncols : ℕ
+  pub row_starts : List ℕ
+  pub columns : List ℕ
+  pub weights : List Float
 
 -- what a call is handed to read: a factor, operators a and b in factor order, the rows of each row pair, and a limit
 pub record CovarianceCall : Type 0 where
@@ -31,6 +38,9 @@ pub record CovarianceCall : Type 0 where
   pub a_rows : List ℕ
   pub b_rows : List ℕ
   pub limit : ℕ
+
+abbrev pub operator : ℕ → List ℕ → List ℕ → List Float → Operator
+operator ncols row_starts columns weights = record { ncols = ncols; row_starts = row_starts; columns = columns; weights = weights }
 
 -- a call, from a function's parameters in their order
 abbrev pub covariance_call : ℕ → List ℕ → List ℕ → List Float → Operator → Operator → List ℕ → List ℕ → ℕ → CovarianceCall
@@ -85,7 +95,7 @@ module _ (x : CovarianceCall) where
       row_pair_values x.a.row_starts x.a.columns x.a.weights x.b.row_starts x.b.columns x.b.weights x.a_rows x.b_rows (selected_table covariance_selection)
 
 -- the reply and the lists of a call; either status carries the diagnosis
-pub record Covariances (x : CovarianceCall) (lent : Lent) (output : List Float) (reply : Selected) (left : Lent) (out : List Float) : Type 0 where
+pub record Covariances (x : CovarianceCall) (lent : Lent) (output : List Float) (reply : Result SelectedInverseDiagnostics Refusal) (left : Lent) (out : List Float) : Type 0 where
   pub selected : SelectedOutput (covariance_steps x (room_of lent) (length output)) (covariance_selection x) (covariance_values x) lent output reply left out
 
 -- ---- a call that passed

@@ -1,4 +1,3 @@
 -- Covariances of row pairs of two operators: refusals, reply, lists and the exact case.
 pub mod Covariances
 pub mod ExactCovariances
-pub mod Worked

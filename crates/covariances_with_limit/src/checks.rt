@@ -6,25 +6,24 @@ ghost use Rattle.refusal.specs.Refusal.{reply_of};
 ghost use Rattle.columns.specs.Columns.{outside, bound_steps};
 ghost use Rattle.columns.specs.Operator.{operator_rows, operator_bound_steps, operator_steps};
 ghost use Rattle.selection.specs.Selection.{room};
-ghost use Rattle.covariances.specs.Covariances.{operator};
-ghost use Rattle.covariances_with_limit.specs.Covariances.{covariance_call, covariance_steps};
+ghost use Rattle.covariances_with_limit.specs.Covariances.{operator, covariance_call, covariance_steps};
 
 use factor_check::bounds::check_bounds;
 use factor_check::check_stored;
 use operator_check::{check_operator, check_operator_bounds, operator_rows};
-use refusal::{Checked, MAX_ENTRIES, Refusal};
+use refusal::{MAX_ENTRIES, Refusal};
 use selected_checks::check_fill;
-use verdicts::{check_output, first_of};
+use verdicts::check_output;
 use words::index::index_outside;
 
 // 1 of so many row pairs.
-fn check_pair_bound(pairs: usize) -> Checked
+fn check_pair_bound(pairs: usize) -> Result<(), Refusal>
     ensures { reply_of result ≡ verdict ((1, ltb max_entries pairs) ∷ []) }
 {
     if MAX_ENTRIES < pairs {
-        return Checked::Refused(Refusal::TooLarge);
+        return Err(Refusal::TooLarge);
     }
-    Checked::Accepted
+    Ok(())
 }
 
 // 1 of the factor, of either operator and of the row pairs.
@@ -36,44 +35,49 @@ fn check_all_bounds(
     b_row_starts: &[u32],
     b_columns: &[u32],
     pairs: usize,
-) -> Checked
+) -> Result<(), Refusal>
     ensures { reply_of result ≡ verdict (bound_steps n entries ++ (operator_bound_steps a_row_starts.now a_columns.now
         ++ (operator_bound_steps b_row_starts.now b_columns.now ++ (1, ltb max_entries pairs) ∷ []))) }
 {
-    let factor = check_bounds(n, entries);
-    let first = check_operator_bounds(a_row_starts, a_columns);
-    let second = check_operator_bounds(b_row_starts, b_columns);
-    let later = first_of(second, check_pair_bound(pairs));
-    first_of(factor, first_of(first, later))
+    check_bounds(n, entries)?;
+    check_operator_bounds(a_row_starts, a_columns)?;
+    check_operator_bounds(b_row_starts, b_columns)?;
+    check_pair_bound(pairs)
 }
 
 // 4: the operators' columns are n, and the row pairs' lists of one length.
-fn check_counts(a_ncols: usize, b_ncols: usize, n: usize, a_rows: usize, b_rows: usize) -> Checked
+fn check_counts(
+    a_ncols: usize,
+    b_ncols: usize,
+    n: usize,
+    a_rows: usize,
+    b_rows: usize,
+) -> Result<(), Refusal>
     ensures { reply_of result ≡ verdict ((4, not (eqb a_ncols n)) ∷ (4, not (eqb b_ncols n)) ∷ (4, not (eqb a_rows b_rows)) ∷ []) }
 {
     if a_ncols != n {
-        return Checked::Refused(Refusal::DimensionMismatch);
+        return Err(Refusal::DimensionMismatch);
     }
     if b_ncols != n {
-        return Checked::Refused(Refusal::DimensionMismatch);
+        return Err(Refusal::DimensionMismatch);
     }
     if a_rows != b_rows {
-        return Checked::Refused(Refusal::DimensionMismatch);
+        return Err(Refusal::DimensionMismatch);
     }
-    Checked::Accepted
+    Ok(())
 }
 
 // The last part of step 9: row pairs inside the operators, which have so many rows.
-fn check_rows(a_count: usize, a_rows: &[u32], b_count: usize, b_rows: &[u32]) -> Checked
+fn check_rows(a_count: usize, a_rows: &[u32], b_count: usize, b_rows: &[u32]) -> Result<(), Refusal>
     ensures { reply_of result ≡ verdict ((9, outside a_count a_rows.now) ∷ (9, outside b_count b_rows.now) ∷ []) }
 {
     if index_outside(a_count, a_rows) {
-        return Checked::Refused(Refusal::BrokenOperator);
+        return Err(Refusal::BrokenOperator);
     }
     if index_outside(b_count, b_rows) {
-        return Checked::Refused(Refusal::BrokenOperator);
+        return Err(Refusal::BrokenOperator);
     }
-    Checked::Accepted
+    Ok(())
 }
 
 // 9 of either operator and of the row pairs.
@@ -87,20 +91,19 @@ fn check_operators(
     b_weights: usize,
     a_rows: &[u32],
     b_rows: &[u32],
-) -> Checked
+) -> Result<(), Refusal>
     ensures { reply_of result ≡ verdict (operator_steps n a_row_starts.now a_columns.now a_weights
         ++ (operator_steps n b_row_starts.now b_columns.now b_weights
         ++ (9, outside (operator_rows a_row_starts.now) a_rows.now) ∷ (9, outside (operator_rows b_row_starts.now) b_rows.now) ∷ [])) }
 {
-    let first = check_operator(n, a_row_starts, a_columns, a_weights);
-    let second = check_operator(n, b_row_starts, b_columns, b_weights);
-    let rows = check_rows(
+    check_operator(n, a_row_starts, a_columns, a_weights)?;
+    check_operator(n, b_row_starts, b_columns, b_weights)?;
+    check_rows(
         operator_rows(a_row_starts),
         a_rows,
         operator_rows(b_row_starts),
         b_rows,
-    );
-    first_of(first, first_of(second, rows))
+    )
 }
 
 // Refusals 1 to 7 and 18; the lists lent for writing are judged by their lengths.
@@ -125,7 +128,7 @@ pub fn check_covariances(
     result_values: usize,
     scratch: usize,
     output: usize,
-) -> Checked
+) -> Result<(), Refusal>
     ensures { reply_of result ≡ verdict (covariance_steps
         (covariance_call n starts.now rows.now values.now
         (operator a_ncols a_row_starts.now a_columns.now a_weights.now)
@@ -133,7 +136,7 @@ pub fn check_covariances(
         a_rows.now b_rows.now limit)
         (room result_starts result_rows result_values scratch) output) }
 {
-    match check_all_bounds(
+    check_all_bounds(
         n,
         rows.len(),
         a_row_starts,
@@ -141,38 +144,30 @@ pub fn check_covariances(
         b_row_starts,
         b_columns,
         a_rows.len(),
-    ) {
-        Checked::Refused(why) => Checked::Refused(why),
-        Checked::Accepted => match check_stored(n, starts, rows, values) {
-            Checked::Refused(why) => Checked::Refused(why),
-            Checked::Accepted => {
-                let counts = check_counts(a_ncols, b_ncols, n, a_rows.len(), b_rows.len());
-                let operators = check_operators(
-                    n,
-                    a_row_starts,
-                    a_columns,
-                    a_weights.len(),
-                    b_row_starts,
-                    b_columns,
-                    b_weights.len(),
-                    a_rows,
-                    b_rows,
-                );
-                let fill = check_fill(
-                    n,
-                    starts,
-                    rows,
-                    values,
-                    limit,
-                    result_starts,
-                    result_rows,
-                    result_values,
-                    scratch,
-                );
-                let last = first_of(fill, check_output(a_rows.len(), output));
-                let later = first_of(operators, last);
-                first_of(counts, later)
-            }
-        },
-    }
+    )?;
+    check_stored(n, starts, rows, values)?;
+    check_counts(a_ncols, b_ncols, n, a_rows.len(), b_rows.len())?;
+    check_operators(
+        n,
+        a_row_starts,
+        a_columns,
+        a_weights.len(),
+        b_row_starts,
+        b_columns,
+        b_weights.len(),
+        a_rows,
+        b_rows,
+    )?;
+    check_fill(
+        n,
+        starts,
+        rows,
+        values,
+        limit,
+        result_starts,
+        result_rows,
+        result_values,
+        scratch,
+    )?;
+    check_output(a_rows.len(), output)
 }

@@ -1,18 +1,17 @@
-// The covariances of row pairs of two operators with a limit that the caller gives, else as crate covariances has them.
+// The covariances of row pairs of two operators with a limit that the caller gives.
 #![tactic(auto)]
 
 pub mod checks;
 
 ghost use Rattle.selection.specs.Selection.{lists};
-ghost use Rattle.covariances.specs.Covariances.{operator};
-ghost use Rattle.covariances_with_limit.specs.Covariances.{covariance_call, Covariances};
+ghost use Rattle.covariances_with_limit.specs.Covariances.{operator, covariance_call, Covariances};
 
 use checks::check_covariances;
-use diagnostics::{Selected, SelectedInverseStatus};
+use diagnostics::{SelectedInverseDiagnostics, SelectedInverseStatus};
 use fill::fill_lists;
 use operator_values::row_pair_values;
 use pair_places::scratch::clear_scratch;
-use refusal::Checked;
+use refusal::Refusal;
 use request_marks::cross::mark_cross_pairs;
 
 // The value of each row pair, if the closed set of all their columns' pairs has at most `limit` pairs. The result lists are filled as by selected entries.
@@ -37,7 +36,7 @@ pub fn selected_inverse_transformed_covariances_with_limit(
     result_values: &mut [f64],
     scratch: &mut [u32],
     output: &mut [f64],
-) -> Selected
+) -> Result<SelectedInverseDiagnostics, Refusal>
     ensures { Covariances
         (covariance_call n starts.now rows.now values.now
         (operator a_ncols a_row_starts.now a_columns.now a_weights.now)
@@ -46,7 +45,7 @@ pub fn selected_inverse_transformed_covariances_with_limit(
         (lists result_starts.old result_rows.old result_values.old scratch.old) output.old result
         (lists result_starts.new result_rows.new result_values.new scratch.new) output.new }
 {
-    match check_covariances(
+    check_covariances(
         n,
         starts,
         rows,
@@ -67,56 +66,53 @@ pub fn selected_inverse_transformed_covariances_with_limit(
         result_values.len(),
         scratch.len(),
         output.len(),
-    ) {
-        Checked::Refused(why) => Selected::Refused(why),
-        Checked::Accepted => {
-            let requested_pairs = mark_cross_pairs(
+    )?;
+    let requested_pairs = mark_cross_pairs(
+        n,
+        a_row_starts,
+        a_columns,
+        b_row_starts,
+        b_columns,
+        a_rows,
+        b_rows,
+        scratch,
+    );
+    let diagnosis = fill_lists(
+        n,
+        starts,
+        rows,
+        values,
+        None,
+        requested_pairs,
+        limit,
+        result_starts,
+        result_rows,
+        result_values,
+        scratch,
+    );
+    let status = diagnosis.status;
+    match status {
+        SelectedInverseStatus::ClosureTooLarge => {
+            clear_scratch(n, scratch);
+            return Ok(diagnosis);
+        }
+        SelectedInverseStatus::Complete => {
+            row_pair_values(
                 n,
                 a_row_starts,
                 a_columns,
+                a_weights,
                 b_row_starts,
                 b_columns,
+                b_weights,
                 a_rows,
                 b_rows,
                 scratch,
-            );
-            let diagnosis = fill_lists(
-                n,
-                starts,
-                rows,
-                values,
-                requested_pairs,
-                limit,
-                result_starts,
-                result_rows,
                 result_values,
-                scratch,
+                output,
             );
-            let status = diagnosis.status;
-            match status {
-                SelectedInverseStatus::ClosureTooLarge => {
-                    clear_scratch(n, scratch);
-                    return Selected::Answered(diagnosis);
-                }
-                SelectedInverseStatus::Complete => {
-                    row_pair_values(
-                        n,
-                        a_row_starts,
-                        a_columns,
-                        a_weights,
-                        b_row_starts,
-                        b_columns,
-                        b_weights,
-                        a_rows,
-                        b_rows,
-                        scratch,
-                        result_values,
-                        output,
-                    );
-                    clear_scratch(n, scratch);
-                    Selected::Answered(diagnosis)
-                }
-            }
+            clear_scratch(n, scratch);
+            Ok(diagnosis)
         }
     }
 }

@@ -1,5 +1,4 @@
 -- The chain from a requested pair to a pair of the closed set.
-pub mod Reply
 pub mod Chain
 pub mod Laws
 pub mod Answer

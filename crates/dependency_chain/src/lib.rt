@@ -12,7 +12,6 @@ ghost use Rattle.closed_set.specs.Requests.{requested};
 ghost use Rattle.chains.specs.ChainOf.{chain_of};
 ghost use Rattle.levels.specs.Levels.{level_word};
 ghost use Rattle.levels.specs.Back.{levels_chain};
-ghost use Rattle.dependency_chain.specs.Reply.{chain_reply};
 ghost use Rattle.dependency_chain.specs.Chain.{chain_call, seek_steps, asked_steps, Listed, ChainListed};
 ghost use Rattle.dependency_chain.specs.Laws.{ListInput, SeekInput};
 
@@ -23,35 +22,27 @@ use levels::chain::write_chain;
 use levels::closing::level_pairs;
 use pair_places::column_place;
 use pair_places::scratch::chain_words;
-use refusal::{Checked, Refusal};
+use refusal::Refusal;
 use selected_checks::check_request_bound;
 use selected_checks::requests::check_requests;
-use verdicts::first_of;
 use words::order::{larger, smaller};
 use words::{at, clear};
 
-// How many pairs the chain has, 0 where the pair is not in the set; `chain_reply` of specs/Reply.antt gives a refusal's number.
-#[derive(Clone, Copy)]
-pub enum ChainPairs {
-    Pairs(usize),
-    Refused(Refusal),
-}
-
 // 7 of the scratch and 5 of the pair.
-fn check_seek(n: usize, scratch: usize, row: usize, column: usize) -> Checked
+fn check_seek(n: usize, scratch: usize, row: usize, column: usize) -> Result<(), Refusal>
     requires { n ≤ max_dimension }
     ensures { reply_of result ≡ verdict (seek_steps n scratch row column) }
 {
     if scratch < chain_words(n) {
-        return Checked::Refused(Refusal::TooShort);
+        return Err(Refusal::TooShort);
     }
     if n <= row {
-        return Checked::Refused(Refusal::RequestOutOfRange);
+        return Err(Refusal::RequestOutOfRange);
     }
     if n <= column {
-        return Checked::Refused(Refusal::RequestOutOfRange);
+        return Err(Refusal::RequestOutOfRange);
     }
-    Checked::Accepted
+    Ok(())
 }
 
 // What is refused before the chain is looked for; `scratch` is its length.
@@ -66,27 +57,17 @@ fn check_asked(
     row: usize,
     column: usize,
     scratch: usize,
-) -> Checked
+) -> Result<(), Refusal>
     ensures { reply_of result ≡ verdict (asked_steps
         (chain_call n starts.now rows.now values.now dimension request_rows.now request_columns.now row column)
         scratch) }
 {
-    let bounds = first_of(
-        check_bounds(n, rows.len()),
-        check_request_bound(request_rows.len()),
-    );
-    match bounds {
-        Checked::Refused(why) => Checked::Refused(why),
-        Checked::Accepted => match check_stored(n, starts, rows, values) {
-            Checked::Refused(why) => Checked::Refused(why),
-            Checked::Accepted => {
-                let requests = check_requests(n, dimension, request_rows, request_columns);
-                let diagonals = check_diagonals(n, starts, rows, values);
-                let seek = check_seek(n, scratch, row, column);
-                first_of(requests, first_of(diagonals, seek))
-            }
-        },
-    }
+    check_bounds(n, rows.len())?;
+    check_request_bound(request_rows.len())?;
+    check_stored(n, starts, rows, values)?;
+    check_requests(n, dimension, request_rows, request_columns)?;
+    check_diagonals(n, starts, rows, values)?;
+    check_seek(n, scratch, row, column)
 }
 
 // Lists the chain to (r, c), which has the level, if there is room for it.
@@ -101,19 +82,19 @@ fn list_chain(
     scratch: &[u32],
     chain_rows: &mut [u32],
     chain_columns: &mut [u32],
-) -> ChainPairs
+) -> Result<usize, Refusal>
     requires { ListInput n starts.now rows.now (length values.now) r c level scratch.now }
     ensures { Listed (levels_chain (pattern starts.now rows.now (nonzero values.now)) (level_word n scratch.now) r c)
-        chain_rows.old chain_columns.old (chain_reply result) chain_rows.new chain_columns.new }
+        chain_rows.old chain_columns.old (reply_of result) chain_rows.new chain_columns.new }
 {
     if level == 0 {
-        return ChainPairs::Pairs(0);
+        return Ok(0);
     }
     if chain_rows.len() < level {
-        return ChainPairs::Refused(Refusal::TooShort);
+        return Err(Refusal::TooShort);
     }
     if chain_columns.len() < level {
-        return ChainPairs::Refused(Refusal::TooShort);
+        return Err(Refusal::TooShort);
     }
     write_chain(
         n,
@@ -127,7 +108,7 @@ fn list_chain(
         chain_rows,
         chain_columns,
     );
-    ChainPairs::Pairs(level)
+    Ok(level)
 }
 
 // Looks for the chain to (r, c), r at least c, and lists it; the scratch ends 0.
@@ -143,10 +124,10 @@ fn seek_chain(
     scratch: &mut [u32],
     chain_rows: &mut [u32],
     chain_columns: &mut [u32],
-) -> ChainPairs
+) -> Result<usize, Refusal>
     requires { SeekInput n starts.now rows.now (length values.now) request_rows.now request_columns.now r c scratch.old }
     ensures listed { Listed (chain_of n (pattern starts.now rows.now (nonzero values.now)) (requested request_rows.now request_columns.now) r c)
-        chain_rows.old chain_columns.old (chain_reply result) chain_rows.new chain_columns.new }
+        chain_rows.old chain_columns.old (reply_of result) chain_rows.new chain_columns.new }
     ensures scratch_after { scratch.new ≡ cleared (chain_words n) scratch.old }
 {
     level_pairs(
@@ -189,13 +170,13 @@ pub fn dependency_chain(
     scratch: &mut [u32],
     chain_rows: &mut [u32],
     chain_columns: &mut [u32],
-) -> ChainPairs
+) -> Result<usize, Refusal>
     ensures { ChainListed
         (chain_call n starts.now rows.now values.now dimension request_rows.now request_columns.now row column)
-        scratch.old chain_rows.old chain_columns.old (chain_reply result)
+        scratch.old chain_rows.old chain_columns.old (reply_of result)
         scratch.new chain_rows.new chain_columns.new }
 {
-    let asked = check_asked(
+    check_asked(
         n,
         starts,
         rows,
@@ -206,21 +187,18 @@ pub fn dependency_chain(
         row,
         column,
         scratch.len(),
-    );
-    match asked {
-        Checked::Refused(why) => ChainPairs::Refused(why),
-        Checked::Accepted => seek_chain(
-            n,
-            starts,
-            rows,
-            values,
-            request_rows,
-            request_columns,
-            larger(row, column),
-            smaller(row, column),
-            scratch,
-            chain_rows,
-            chain_columns,
-        ),
-    }
+    )?;
+    seek_chain(
+        n,
+        starts,
+        rows,
+        values,
+        request_rows,
+        request_columns,
+        larger(row, column),
+        smaller(row, column),
+        scratch,
+        chain_rows,
+        chain_columns,
+    )
 }

@@ -1,3 +1,2 @@
 -- The diagnosis of a selected inverse.
 pub mod Diagnosis
-pub mod Selected

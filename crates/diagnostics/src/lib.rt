@@ -4,8 +4,6 @@
 ghost use Rattle.std.specs.Prelude.{◌≡◌, ◌≤◌};
 ghost use Rattle.diagnostics.specs.Diagnosis.{complete_of, max_count, ratio_of, diagnosis};
 
-use refusal::Refusal;
-
 // Whether the closed set is within the limit.
 #[derive(Clone, Copy)]
 pub enum SelectedInverseStatus {
@@ -33,13 +31,6 @@ impl SelectedInverseDiagnostics {
             SelectedInverseStatus::ClosureTooLarge => false,
         }
     }
-}
-
-// What a call that fills result lists answers; `selected_reply_of` of specs/Selected.antt gives the number of a refusal.
-#[derive(Clone, Copy)]
-pub enum Selected {
-    Answered(SelectedInverseDiagnostics),
-    Refused(Refusal),
 }
 
 // closure_pairs / max(factor_pairs, 1).

@@ -1,6 +1,7 @@
 -- A factor's descendants as lists of entries: their rows ascend, so that the table solves the recurrence.
 -- Assumes nothing.
-use Rattle.std.specs.Prelude.{ℕ, suc, ◌≤◌, ◌<◌, ◌≡◌, refl, Bool, true, false, List, [], ◌∷◌, map, length, get_or, Float}
+use Rattle.std.specs.Prelude.{ℕ, suc, ◌≤◌, ◌<◌, ◌≡◌, refl, Bool, Option, None, Some, is_some, List, [], ◌∷◌, map, length, get_or, Float}
+use Rattle.std.specs.Borrow.{Bor}
 use Rattle.std.proofs.Common.{arith, le_refl, sym, ◌∙◌}
 use Rattle.std.proofs.lemmas.List.{length-map}
 use Rattle.columns.specs.Columns.{row, value}
@@ -75,15 +76,17 @@ pub form_solves : (form : Form) {n : ℕ} {starts rows : List ℕ} (values : Lis
 form_solves cholesky values F = float_solves values F
 form_solves (pivoted pivots) values F = pivot_solves values pivots F
 
--- as a call tells the form
-pub told_solves : (b : Bool) {n : ℕ} {starts rows : List ℕ} (values pivots : List Float) → Factor n starts rows (length values) →
-    Solves floats (step_below b) (step_on b) (divisor n starts rows values (form_of b pivots)) (desc starts rows values) (Lower n)
-    (form_table (form_of b pivots) n starts rows values)
-told_solves true values pivots F = pivot_solves values pivots F
-told_solves false values pivots F = float_solves values F
+-- as a call tells the form, b whether it lends pivots
+pub told_solves : (pivots : Option (Bor (List Float))) {b : Bool} → b ≡ is_some pivots → {n : ℕ} {starts rows : List ℕ} (values : List Float)
+    → Factor n starts rows (length values) →
+    Solves floats (step_below b) (step_on b) (divisor n starts rows values (form_of pivots)) (desc starts rows values) (Lower n)
+    (form_table (form_of pivots) n starts rows values)
+told_solves None e values F = rw e (float_solves values F)
+told_solves (Some pivots) e values F = rw e (pivot_solves values pivots.now F)
 
-pub told_table : (b : Bool) (n : ℕ) (starts rows : List ℕ) (values pivots : List Float) → form_table (form_of b pivots) n starts rows values
-    ≡ table floats (step_below b) (step_on b) n (divisor n starts rows values (form_of b pivots)) (desc starts rows values)
+pub told_table : (pivots : Option (Bor (List Float))) {b : Bool} → b ≡ is_some pivots → (n : ℕ) (starts rows : List ℕ) (values : List Float)
+    → form_table (form_of pivots) n starts rows values
+    ≡ table floats (step_below b) (step_on b) n (divisor n starts rows values (form_of pivots)) (desc starts rows values)
 unfolding float_table pivot_table
-told_table true n starts rows values pivots = refl
-told_table false n starts rows values pivots = refl
+told_table None e n starts rows values = rw e
+told_table (Some pivots) e n starts rows values = rw e

@@ -8,7 +8,7 @@ ghost use Rattle.columns.specs.Stored.{kept_not_finite, not_finite_column, finit
 
 use finite_check::{any_not_finite, not_finite_between};
 use kept_entries::diagonal::first_from;
-use refusal::{Checked, Refusal};
+use refusal::Refusal;
 use words::at;
 
 // Whether an entry from s to e is kept in column c and not finite.
@@ -26,26 +26,24 @@ fn kept_not_finite(n: usize, starts: &[u32], rows: &[u32], values: &[f64]) -> bo
     requires { Factor n starts.now rows.now (length values.now) }
     ensures { result ≡ any (not_finite_column starts.now rows.now values.now) n }
 {
-    let mut c = 0;
-    while c < n {
+    for c in 0..n {
         if column_not_finite(c, rows, values, at(starts, c), at(starts, c + 1)) {
             return true;
         }
-        c += 1;
     }
     false
 }
 
 // 18: a kept entry that is not finite. Where all values are finite one look at them decides; the columns are looked at only where one is not.
-pub fn check_finite(n: usize, starts: &[u32], rows: &[u32], values: &[f64]) -> Checked
+pub fn check_finite(n: usize, starts: &[u32], rows: &[u32], values: &[f64]) -> Result<(), Refusal>
     requires { Factor n starts.now rows.now (length values.now) }
     ensures { reply_of result ≡ verdict (finite_steps n starts.now rows.now values.now) }
 {
     if !any_not_finite(values) {
-        return Checked::Accepted;
+        return Ok(());
     }
     if kept_not_finite(n, starts, rows, values) {
-        return Checked::Refused(Refusal::NotFiniteEntry);
+        return Err(Refusal::NotFiniteEntry);
     }
-    Checked::Accepted
+    Ok(())
 }

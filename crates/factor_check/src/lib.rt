@@ -15,36 +15,30 @@ ghost use Rattle.columns.specs.Stored.{stored_steps, factor_steps};
 
 use bounds::check_bounds;
 use finite::check_finite;
-use refusal::Checked;
+use refusal::Refusal;
 use rows::check_rows;
 use starts::check_starts;
 
 // 2 and 3 of compressed columns, whatever their values; `values` is the number of values.
-pub fn check_columns(n: usize, starts: &[u32], rows: &[u32], values: usize) -> Checked
+pub fn check_columns(n: usize, starts: &[u32], rows: &[u32], values: usize) -> Result<(), Refusal>
     ensures { reply_of result ≡ verdict (column_steps n starts.now rows.now values) }
 {
-    match check_starts(n, starts, rows, values) {
-        Checked::Refused(why) => Checked::Refused(why),
-        Checked::Accepted => check_rows(n, starts, rows),
-    }
+    check_starts(n, starts, rows, values)?;
+    check_rows(n, starts, rows)
 }
 
 // 2, 3 and 18 of a factor.
-pub fn check_stored(n: usize, starts: &[u32], rows: &[u32], values: &[f64]) -> Checked
+pub fn check_stored(n: usize, starts: &[u32], rows: &[u32], values: &[f64]) -> Result<(), Refusal>
     ensures { reply_of result ≡ verdict (stored_steps (factor_lists n starts.now rows.now values.now)) }
 {
-    match check_columns(n, starts, rows, values.len()) {
-        Checked::Refused(why) => Checked::Refused(why),
-        Checked::Accepted => check_finite(n, starts, rows, values),
-    }
+    check_columns(n, starts, rows, values.len())?;
+    check_finite(n, starts, rows, values)
 }
 
 // 1, 2, 3 and 18 of a factor.
-pub fn check_factor(n: usize, starts: &[u32], rows: &[u32], values: &[f64]) -> Checked
+pub fn check_factor(n: usize, starts: &[u32], rows: &[u32], values: &[f64]) -> Result<(), Refusal>
     ensures { reply_of result ≡ verdict (factor_steps (factor_lists n starts.now rows.now values.now)) }
 {
-    match check_bounds(n, rows.len()) {
-        Checked::Refused(why) => Checked::Refused(why),
-        Checked::Accepted => check_stored(n, starts, rows, values),
-    }
+    check_bounds(n, rows.len())?;
+    check_stored(n, starts, rows, values)
 }

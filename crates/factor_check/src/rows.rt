@@ -7,7 +7,7 @@ ghost use Rattle.refusal.specs.Refusal.{reply_of};
 ghost use Rattle.columns.specs.Columns.{start, outside_at, outside, not_above, unsorted, rows_steps};
 ghost use Rattle.columns.specs.Factor.{Starts};
 
-use refusal::{Checked, Refusal};
+use refusal::Refusal;
 use words::at;
 use words::order::descents;
 
@@ -35,10 +35,8 @@ fn start_descents(n: usize, starts: &[u32], rows: &[u32]) -> usize
     ensures { any (unsorted starts.now rows.now) n ≡ ltb result (tally (not_above rows.now) 1 (start starts.now n)) }
 {
     let mut count = 0;
-    let mut c = 0;
-    while c < n {
+    for c in 0..n {
         count += start_descent(rows, at(starts, c), at(starts, c + 1));
-        c += 1;
     }
     count
 }
@@ -67,26 +65,24 @@ fn row_outside(n: usize, starts: &[u32], rows: &[u32]) -> bool
     requires { Starts n starts.now rows.now × (any (unsorted starts.now rows.now) n ≡ false) }
     ensures { result ≡ outside n rows.now }
 {
-    let mut c = 0;
-    while c < n {
+    for c in 0..n {
         if last_outside(n, rows, at(starts, c + 1)) {
             return true;
         }
-        c += 1;
     }
     false
 }
 
 // 3: a row of n or more, or one not above the one before it in its column.
-pub fn check_rows(n: usize, starts: &[u32], rows: &[u32]) -> Checked
+pub fn check_rows(n: usize, starts: &[u32], rows: &[u32]) -> Result<(), Refusal>
     requires { Starts n starts.now rows.now }
     ensures { reply_of result ≡ verdict (rows_steps n starts.now rows.now) }
 {
     if column_unsorted(n, starts, rows) {
-        return Checked::Refused(Refusal::BrokenRows);
+        return Err(Refusal::BrokenRows);
     }
     if row_outside(n, starts, rows) {
-        return Checked::Refused(Refusal::BrokenRows);
+        return Err(Refusal::BrokenRows);
     }
-    Checked::Accepted
+    Ok(())
 }

@@ -26,12 +26,10 @@ fn columns_beyond(n: usize, starts: &[u32], rows: &[u32], values: &[i64]) -> boo
     requires { Factor n starts.now rows.now (length values.now) }
     ensures { result ≡ any (kept_exceeds starts.now rows.now values.now) n }
 {
-    let mut c = 0;
-    while c < n {
+    for c in 0..n {
         if column_beyond(c, rows, values, at(starts, c), at(starts, c + 1)) {
             return true;
         }
-        c += 1;
     }
     false
 }

@@ -5,7 +5,7 @@ ghost use Rattle.refusal.specs.Steps.{verdict};
 ghost use Rattle.refusal.specs.Refusal.{refusal_number, reply_of};
 ghost use Rattle.columns.specs.Columns.{falls, broken_steps, starts_steps};
 
-use refusal::{Checked, Refusal};
+use refusal::Refusal;
 use words::at;
 
 // Whether one of the first n starts is above the next.
@@ -13,12 +13,10 @@ fn start_falls(n: usize, starts: &[u32]) -> bool
     requires { n < length starts.now }
     ensures { result ≡ any (falls starts.now) n }
 {
-    let mut c = 0;
-    while c < n {
+    for c in 0..n {
         if starts[c + 1] < starts[c] {
             return true;
         }
-        c += 1;
     }
     false
 }
@@ -30,34 +28,34 @@ pub fn check_broken(
     starts: &[u32],
     indices: usize,
     values: usize,
-) -> Checked
+) -> Result<(), Refusal>
     requires { n < length starts.now }
     ensures { reply_of result ≡ verdict (broken_steps (refusal_number why) n starts.now indices values) }
 {
     if starts[0] != 0 {
-        return Checked::Refused(why);
+        return Err(why);
     }
     if start_falls(n, starts) {
-        return Checked::Refused(why);
+        return Err(why);
     }
     if at(starts, n) != indices {
-        return Checked::Refused(why);
+        return Err(why);
     }
     if indices != values {
-        return Checked::Refused(why);
+        return Err(why);
     }
-    Checked::Accepted
+    Ok(())
 }
 
 // 2: starts that are broken or not n + 1, or values of another number than rows; `values` is the number of values.
-pub fn check_starts(n: usize, starts: &[u32], rows: &[u32], values: usize) -> Checked
+pub fn check_starts(n: usize, starts: &[u32], rows: &[u32], values: usize) -> Result<(), Refusal>
     ensures { reply_of result ≡ verdict (starts_steps n starts.now rows.now values) }
 {
     if starts.len() <= n {
-        return Checked::Refused(Refusal::BrokenStarts);
+        return Err(Refusal::BrokenStarts);
     }
     if n + 1 < starts.len() {
-        return Checked::Refused(Refusal::BrokenStarts);
+        return Err(Refusal::BrokenStarts);
     }
     check_broken(Refusal::BrokenStarts, n, starts, rows.len(), values)
 }

@@ -50,10 +50,8 @@ pub fn mark_column(
         marker.old weights.old sums.old marker.new weights.new sums.new }
 {
     let mut m = 0;
-    let mut p = s;
-    while p < e {
+    for p in s..e {
         m = mark_entry(c, at(rows, p), values[p], m, marker, weights, sums);
-        p += 1;
     }
     m
 }
@@ -63,10 +61,8 @@ pub fn unmark_column(rows: &[u32], a: usize, m: usize, marker: &mut [usize; MAX_
     requires { (a + m ≤ length rows.now) × ((x : ℕ) → x < m → get_or rows.now (a + x) 0 < max_dimension) }
     ensures { marker.new ≡ unmarks rows.now a marker.old m }
 {
-    let mut p = 0;
-    while p < m {
+    for p in 0..m {
         let r = at(rows, a + p);
         marker[r] = MAX_DIMENSION;
-        p += 1;
     }
 }

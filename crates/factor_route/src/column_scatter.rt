@@ -13,6 +13,7 @@ fn find_mark(t: usize, rows: &[u32], q: usize, e: usize, marker: &[usize; MAX_DI
     requires { MarkAhead rows.now marker.now q e t }
     ensures { MarkAt rows.now marker.now q e t result }
 {
+    // stops at the mark: a `for` up to e would also test each place against e
     let mut p = q;
     while marker[at(rows, p)] != t {
         p += 1;
@@ -39,14 +40,12 @@ fn scatter_column(
 {
     let l = weights[c];
     let mut held = sums[c] + l * values[a];
-    let mut t = c + 1;
     let mut q = a + 1;
-    while t < m {
+    for t in c + 1..m {
         let p = find_mark(t, rows, q, e, marker);
         let z = values[p];
         sums[t] = sums[t] + l * z;
         held = held + weights[t] * z;
-        t += 1;
         q = p + 1;
     }
     sums[c] = held;
@@ -75,9 +74,8 @@ fn scatter_pair(
     let y = values[a + 1];
     let mut held = sums[c] + l * values[a] + k * y;
     let mut next = sums[c + 1] + l * y + k * values[a + 1 + shift];
-    let mut t = c + 2;
     let mut q = a + 2;
-    while t < m {
+    for t in c + 2..m {
         let p = find_mark(t, rows, q, e, marker);
         let z = values[p];
         let x = values[p + shift];
@@ -85,7 +83,6 @@ fn scatter_pair(
         sums[t] = sums[t] + l * z + k * x;
         held = held + w * z;
         next = next + w * x;
-        t += 1;
         q = p + 1;
     }
     sums[c] = held;

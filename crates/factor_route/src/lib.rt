@@ -29,8 +29,7 @@ fn pattern_column(
     starts: &[u32],
     rows: &[u32],
     values: &[f64],
-    with_pivots: bool,
-    pivots: &[f64],
+    pivots: Option<&[f64]>,
     result_starts: &[u32],
     result_rows: &[u32],
     result_values: &mut [f64],
@@ -39,11 +38,11 @@ fn pattern_column(
     weights: &mut [f64; MAX_DIMENSION],
     sums: &mut [f64; MAX_DIMENSION],
 )
-    requires route_input { RouteInput (form_of with_pivots pivots.now) n starts.now rows.now values.now result_starts.now result_rows.now (length result_values.old) × (j < n) }
+    requires route_input { RouteInput (form_of pivots) n starts.now rows.now values.now result_starts.now result_rows.now (length result_values.old) × (j < n) }
     requires work_rows { WorkRows marker.old weights.old sums.old }
     requires known { Known nan n (desc starts.now rows.now values.now) result_starts.now result_rows.now
-        (form_table (form_of with_pivots pivots.now) n starts.now rows.now values.now) (j + 1) result_values.old }
-    ensures { ColumnWritten (form_of with_pivots pivots.now) n starts.now rows.now values.now result_starts.now j
+        (form_table (form_of pivots) n starts.now rows.now values.now) (j + 1) result_values.old }
+    ensures { ColumnWritten (form_of pivots.entry) n starts.now rows.now values.now result_starts.now j
         result_values.old result_values.new marker.new weights.new sums.new }
 {
     let a = at(result_starts, j);
@@ -62,8 +61,8 @@ fn pattern_column(
         weights,
         sums,
     );
-    let d = column_divisor(n, starts, rows, values, with_pivots, pivots, j);
-    write_column(result_values, a, e, weights, sums, with_pivots, d, m);
+    let divisor = column_divisor(n, starts, rows, values, pivots, j);
+    write_column(result_values, a, e, weights, sums, divisor, m);
     unmark_column(result_rows, b, m, marker);
 }
 
@@ -73,30 +72,26 @@ pub fn takahashi_selected_inverse_on_factor_pattern(
     starts: &[u32],
     rows: &[u32],
     values: &[f64],
-    with_pivots: bool,
-    pivots: &[f64],
+    pivots: Option<&[f64]>,
     result_starts: &[u32],
     result_rows: &[u32],
     result_values: &mut [f64],
 )
-    requires { RouteInput (form_of with_pivots pivots.now) n starts.now rows.now values.now result_starts.now result_rows.now (length result_values.old) }
+    requires { RouteInput (form_of pivots) n starts.now rows.now values.now result_starts.now result_rows.now (length result_values.old) }
     ensures { result_values.new ≡ overwrite
         (entry_values n (pattern_pair starts.now rows.now (nonzero values.now))
-        (form_table (form_of with_pivots pivots.now) n starts.now rows.now values.now))
+        (form_table (form_of pivots.entry) n starts.now rows.now values.now))
         result_values.old }
 {
     let mut marker = [MAX_DIMENSION; MAX_DIMENSION];
     let mut weights = [0.0f64; MAX_DIMENSION];
     let mut sums = [0.0f64; MAX_DIMENSION];
-    let mut j = n;
-    while 0 < j {
-        j -= 1;
+    for j in (0..n).rev() {
         pattern_column(
             n,
             starts,
             rows,
             values,
-            with_pivots,
             pivots,
             result_starts,
             result_rows,

@@ -2,15 +2,15 @@
 -- Assumes nothing.
 use Prim.Native.Nat.{ℕ, suc, ◌+◌, ◌-◌, ◌*◌, ◌≤◌, ◌<◌}
 use native.Mathlib.Omega.{arith}
-use mathlib.Core.Path.{◌≡◌, refl, sym, ap, ◌∙◌}
+use mathlib.Core.Path.{◌≡◌, refl, sym, ap, subst, ◌∙◌}
 use mathlib.Core.Bool.{Bool, true, false, not, ◌&&◌, false≢true}
 use mathlib.Core.List.{List, [], ◌∷◌}
 use lib.Dec.{eqb, ltb}
 use lib.ListN.{length, get_or, drop, drop_of_length-le}
-use borrow.Author.Tests.{lt-ltb, le-ltb, ltb-true, eq-eqb, ne_eqb}
+use borrow.Author.Tests.{ltb-true, lt-ltb, le-ltb, eq-eqb, ne_eqb}
 use Rattle.matrix_market.specs.Text.{empty, is_blank, is_digit, numeral}
 use Rattle.matrix_market.specs.File.{are_numbers, number}
-use Rattle.file_lines.specs.Scan.{line_of, rest_of, past, unblank, digits_of, undigit, unfield, nth_number, cut}
+use Rattle.file_lines.specs.Scan.{line_of, rest_of, past, unblank, digits_of, undigit, unfield, field_there, nth_number, cut}
 use Rattle.file_lines.specs.Places.{Skipped, NumberAt, DigitsRead, FieldAt, fields_at, LineAt, EndAt, PairAt, TripleAt}
 use Rattle.file_lines.proofs.ScanLaws.{cut_early, numeral_more, numeral_end, past_more, past_stop, past_end, front_more, front_stop, front_end}
 use Rattle.file_lines.proofs.ScanLaws.{shape, shape_none, shape_more, number_first, number_later, unfield_rest, unblank_rest}
@@ -18,37 +18,26 @@ use Rattle.file_lines.proofs.ScanLaws.{drop_next, rest_none, rest_end, head_byte
 use Rattle.file_lines.proofs.FieldLaws.{shape-fields, number-fields}
 
 -- ---- a run of bytes
--- while a run of bytes that pass the test goes on
-pub record SkipLoop (test : ℕ → Bool) (text : List ℕ) (p i : ℕ) : Type 0 where
-  pub left : past test (drop i text) ≡ past test (drop p text)
-  pub above : p ≤ i
-  pub within : i ≤ length text
+-- while a run of bytes that pass the test goes on, from p to i
+abbrev pub SkipLoop : (ℕ → Bool) → List ℕ → ℕ → ℕ → Type 0
+SkipLoop test text p i = past test (drop i text) ≡ past test (drop p text)
 
-module _ (test : ℕ → Bool) (text : List ℕ) (p : ℕ) where
-  pub skip_start : p ≤ length text → SkipLoop test text p p
-  skip_start h = record { left = refl; above = omega arith; within = h }
+module _ (test : ℕ → Bool) (text : List ℕ) (p i : ℕ) (s : SkipLoop test text p i) where
+  pub skip_more : i < length text → test (get_or text i 0) ≡ true → SkipLoop test text p (i + 1)
+  skip_more l h = sym (ap (past test) (drop_next text i l) ∙ past_more test _ _ h) ∙ s
 
-  module _ (i : ℕ) (s : SkipLoop test text p i) where
-    pub skip_more : i < length text → test (get_or text i 0) ≡ true → SkipLoop test text p (i + 1)
-    skip_more l h =
-        record {
-          left = sym (ap (past test) (drop_next text i l) ∙ past_more test _ _ h) ∙ s.left;
-          above = omega (arith, s.above);
-          within = omega arith;
-        }
+  pub skip_stop : p ≤ i → i < length text → test (get_or text i 0) ≡ false → Skipped test text p i
+  skip_stop a l h =
+      record {
+        left = drop_next text i l ∙ sym (ap (past test) (drop_next text i l) ∙ past_stop test _ _ h) ∙ s;
+        above = a;
+        within = omega arith;
+      }
 
-    pub skip_stop : i < length text → test (get_or text i 0) ≡ false → Skipped test text p i
-    skip_stop l h =
-        record {
-          left = drop_next text i l ∙ sym (ap (past test) (drop_next text i l) ∙ past_stop test _ _ h) ∙ s.left;
-          above = s.above;
-          within = s.within;
-        }
-
-    pub skip_end : length text ≤ i → Skipped test text p i
-    skip_end h =
-        let none : drop i text ≡ [] = drop_of_length-le text h in
-        record { left = none ∙ sym (ap (past test) none ∙ past_end test) ∙ s.left; above = s.above; within = s.within }
+  pub skip_end : p ≤ length text → length text ≤ i → Skipped test text p (length text)
+  skip_end a h =
+      let none : drop i text ≡ [] = drop_of_length-le text h in
+      record { left = drop_of_length-le text (omega arith) ∙ sym (ap (past test) none ∙ past_end test) ∙ s; above = a; within = omega arith }
 
 -- ---- a number
 some_digits : (ds : List ℕ) (p i : ℕ) → i + 0 ≡ p + length ds → not (empty ds) ≡ ltb p i
@@ -90,57 +79,63 @@ module _ (text : List ℕ) (p : ℕ) where
         done (ap digits_of (drop_next text i l) ∙ front_stop is_digit _ _ h)
         (ap undigit (drop_next text i l) ∙ past_stop is_digit _ _ h ∙ sym (drop_next text i l))
 
-    pub number_end : length text ≤ i → NumberAt text p value i
+    pub number_end : length text ≤ i → NumberAt text p value (length text)
     number_end h =
         let none : drop i text ≡ [] = drop_of_length-le text h in
-        done (ap digits_of none ∙ front_end is_digit) (ap undigit none ∙ past_end is_digit ∙ sym none)
+        let end : i ≡ length text = omega (arith, s.within) in
+        subst (NumberAt text p value) end (done (ap digits_of none ∙ front_end is_digit) (ap undigit none ∙ past_end is_digit ∙ sym none))
 
 -- ---- a field: blanks and a number
-pub field_at : (text : List ℕ) (p at value next : ℕ) (there : Bool) → Skipped is_blank text p at → NumberAt text at value next → there ≡ ltb at next
-    → FieldAt text p there value next
-field_at text p at value next there s n t =
-    record {
-      found = t ∙ sym n.there ∙ ap (λ (l : List ℕ). not (empty (digits_of l))) s.left;
-      is = n.is ∙ ap (λ (l : List ℕ). cut (numeral 0 (digits_of l))) s.left ∙ ap cut (sym (number_first (drop p text)));
-      left = n.left ∙ ap undigit s.left;
-      above = omega (arith, s.above, n.above);
-      past_it = λ e. let l : at < next = ltb-true at next (sym t ∙ e) in omega (arith, s.above);
-      within = n.within;
-    }
-
--- ---- a line of k numbers
-module _ (k : ℕ) (text : List ℕ) (p value mid next : ℕ) (there formed : Bool) (f : FieldAt text p there value mid) where
-  -- whether the line has the form: by its first field, and what is behind it
-  shape_behind : (first : Bool) → there ≡ first → are_numbers (suc k) (fields_at text p) ≡ (first && shape k (line_of (unfield (drop p text))))
-  shape_behind first h =
-      sym (shape-fields (suc k) (line_of (drop p text))) ∙ shape_more (drop p text) k
-      ∙ ap (λ (b : Bool). b && shape k (line_of (unfield (drop p text)))) (sym f.found ∙ h)
-
-  -- no field
-  pub line_broken : there ≡ false → p ≤ length text → LineAt (suc k) text p false p
-  line_broken h w =
+module _ (text : List ℕ) (p at value next : ℕ) (s : Skipped is_blank text p at) (n : NumberAt text at value next) where
+  pub field_of : FieldAt text p (ltb at next) value next
+  field_of =
       record {
-        shaped = sym (shape_behind false h);
-        left = λ e. absurd (false≢true e);
-        past_it = λ e. absurd (false≢true e);
-        within = w;
+        found = sym n.there ∙ ap (λ (l : List ℕ). not (empty (digits_of l))) s.left;
+        is = n.is ∙ ap (λ (l : List ℕ). cut (numeral 0 (digits_of l))) s.left ∙ ap cut (sym (number_first (drop p text)));
+        left = n.left ∙ ap undigit s.left;
+        above = omega (arith, s.above, n.above);
+        past_it = λ e. let l : at < next = ltb-true at next e in omega (arith, s.above);
+        within = n.within;
       }
 
+  pub no_field : next ≡ at → field_there (drop p text) ≡ false
+  no_field e = sym field_of.found ∙ le-ltb at next (omega arith)
+
+  pub field_at : (next ≡ at → ⊥) → FieldAt text p true value next
+  field_at e = subst (λ (b : Bool). FieldAt text p b value next) (lt-ltb at next (omega (arith, n.above, e))) field_of
+
+-- ---- a line of k numbers
+-- whether the line has the form: by its first field, and what is behind it
+form : (k : ℕ) (text : List ℕ) (p : ℕ) (first : Bool) → field_there (drop p text) ≡ first
+    → are_numbers (suc k) (fields_at text p) ≡ (first && shape k (line_of (unfield (drop p text))))
+form k text p first h =
+    sym (shape-fields (suc k) (line_of (drop p text))) ∙ shape_more (drop p text) k
+    ∙ ap (λ (b : Bool). b && shape k (line_of (unfield (drop p text)))) h
+
+-- no field
+pub form_none : (k : ℕ) (text : List ℕ) (p : ℕ) → field_there (drop p text) ≡ false → are_numbers (suc k) (fields_at text p) ≡ false
+form_none k text p h = form k text p false h
+
+module _ (k : ℕ) (text : List ℕ) (p value mid : ℕ) (f : FieldAt text p true value mid) where
   -- a field and k more
-  pub line_more : there ≡ true → LineAt k text mid formed next → LineAt (suc k) text p formed next
-  line_more h l =
+  pub form_more : are_numbers (suc k) (fields_at text p) ≡ are_numbers k (fields_at text mid)
+  form_more =
+      form k text p true (sym f.found)
+      ∙ sym (sym (shape-fields k (line_of (drop mid text))) ∙ ap (λ (t : List ℕ). shape k (line_of t)) f.left)
+
+  pub line_more : (formed : Bool) (next : ℕ) → LineAt k text mid formed next → LineAt (suc k) text p formed next
+  line_more formed next l =
       record {
-        shaped =
-            l.shaped ∙ sym (shape-fields k (line_of (drop mid text))) ∙ ap (λ (t : List ℕ). shape k (line_of t)) f.left
-            ∙ sym (shape_behind true h);
+        shaped = l.shaped ∙ sym form_more;
         left = λ e. l.left e ∙ ap rest_of f.left ∙ unfield_rest (drop p text);
-        past_it = λ e. omega (arith, l.past_it e, f.past_it h);
+        past_it = λ e. omega (arith, l.past_it e, f.past_it refl);
         within = l.within;
       }
 
-  -- its later numbers
-  pub number_next : (i : ℕ) → cut (nth_number i (line_of (drop mid text))) ≡ cut (nth_number (suc i) (line_of (drop p text)))
-  number_next i = ap cut (ap (λ (t : List ℕ). nth_number i (line_of t)) f.left ∙ sym (number_later (drop p text) i))
+-- its later numbers
+pub number_next : (text : List ℕ) (p value mid : ℕ) (there : Bool) → FieldAt text p there value mid → (i : ℕ)
+    → cut (nth_number i (line_of (drop mid text))) ≡ cut (nth_number (suc i) (line_of (drop p text)))
+number_next text p value mid there f i = ap cut (ap (λ (t : List ℕ). nth_number i (line_of t)) f.left ∙ sym (number_later (drop p text) i))
 
 -- a line of k + 1 numbers, read one after the other: the numbers of its fields
 pub number_read : (k i : ℕ) (text : List ℕ) (p : ℕ) (formed : Bool) (next : ℕ) → i ≤ k → LineAt (suc k) text p formed next → formed ≡ true →
@@ -202,56 +197,47 @@ line_end_lem text p ended next e =
     }
 
 -- ---- lines of two and of three numbers
--- no number where one is due
-module _ (text : List ℕ) (p value mid : ℕ) (there : Bool) (f : FieldAt text p there value mid) (h : there ≡ false) (w : p ≤ length text) where
-  pub pair_none : PairAt text p false 0 0 p
-  pair_none =
-      record {
-        line = line_broken 1 text p value mid 0 there false f h w;
-        first_is = λ e. absurd (false≢true e);
-        second_is = λ e. absurd (false≢true e);
-      }
+no_line : (k : ℕ) (text : List ℕ) (p : ℕ) → are_numbers k (fields_at text p) ≡ false → LineAt k text p false 0
+no_line k text p h = record { shaped = sym h; left = λ e. absurd (false≢true e); past_it = λ e. absurd (false≢true e); within = omega arith }
 
-  pub triple_none : TripleAt text p false 0 0 0 p
-  triple_none =
-      record {
-        line = line_broken 2 text p value mid 0 there false f h w;
-        first_is = λ e. absurd (false≢true e);
-        second_is = λ e. absurd (false≢true e);
-        third_is = λ e. absurd (false≢true e);
-      }
+pub pair_not : (text : List ℕ) (p : ℕ) → are_numbers 2 (fields_at text p) ≡ false → PairAt text p false 0 0 0
+pair_not text p h = record { line = no_line 2 text p h; first_is = λ e. absurd (false≢true e); second_is = λ e. absurd (false≢true e) }
+
+pub triple_not : (text : List ℕ) (p : ℕ) → are_numbers 3 (fields_at text p) ≡ false → TripleAt text p false 0 0 0 0
+triple_not text p h =
+    record {
+      line = no_line 3 text p h;
+      first_is = λ e. absurd (false≢true e);
+      second_is = λ e. absurd (false≢true e);
+      third_is = λ e. absurd (false≢true e);
+    }
 
 -- a number and what follows it
-module _ (text : List ℕ) (p a mid : ℕ) (there : Bool) (f : FieldAt text p there a mid) (h : there ≡ true) where
-  pub pair_half : (b last : ℕ) (half : Bool) → FieldAt text mid half b last → half ≡ false → mid ≤ length text → p ≤ length text → PairAt text p false 0 0 p
-  pair_half b last half g q w v =
-      let l = line_more 1 text p a mid mid there false f h (line_broken 0 text mid b last 0 half false g q w) in
-      record {
-        line = record { shaped = l.shaped; left = λ e. absurd (false≢true e); past_it = λ e. absurd (false≢true e); within = v };
-        first_is = λ e. absurd (false≢true e);
-        second_is = λ e. absurd (false≢true e);
-      }
-
-  pub pair_whole : (b last next : ℕ) (half ended : Bool) → FieldAt text mid half b last → half ≡ true → EndAt text last ended next
-      → PairAt text p ended a b next
-  pair_whole b last next half ended g q e =
-      let line = line_more 1 text p a mid next there ended f h (line_more 0 text mid b last next half ended g q (line_end_lem text last ended next e)) in
+module _ (text : List ℕ) (p a mid : ℕ) (f : FieldAt text p true a mid) where
+  pub pair_whole : (b last next : ℕ) → FieldAt text mid true b last → EndAt text last true next → PairAt text p true a b next
+  pair_whole b last next g e =
+      let line = line_more 1 text p a mid f true next (line_more 0 text mid b last g true next (line_end_lem text last true next e)) in
       record {
         line = line;
-        first_is = λ d. f.is ∙ number_read 1 0 text p ended next (omega arith) line d;
-        second_is = λ d. g.is ∙ number_next 1 text p a mid next there ended f 0 ∙ number_read 1 1 text p ended next (omega arith) line d;
+        first_is = λ d. f.is ∙ number_read 1 0 text p true next (omega arith) line d;
+        second_is = λ d. g.is ∙ number_next text p a mid true f 0 ∙ number_read 1 1 text p true next (omega arith) line d;
       }
 
-  pub triple : (b c next : ℕ) (formed : Bool) → PairAt text mid formed b c next → TripleAt text p formed a b c next
-  triple b c next formed l =
-      let line = line_more 2 text p a mid next there formed f h l.line in
+  -- two numbers and something else before the line's end
+  pub pair_cut : (b last at : ℕ) → FieldAt text mid true b last → EndAt text last false at → PairAt text p false 0 0 0
+  pair_cut b last at g e =
+      pair_not text p (form_more 1 text p a mid f ∙ form_more 0 text mid b last g ∙ sym (line_end_lem text last false at e).shaped)
+
+  pub triple : (b c next : ℕ) → PairAt text mid true b c next → TripleAt text p true a b c next
+  triple b c next l =
+      let line = line_more 2 text p a mid f true next l.line in
       record {
         line = line;
-        first_is = λ e. f.is ∙ number_read 2 0 text p formed next (omega arith) line e;
+        first_is = λ e. f.is ∙ number_read 2 0 text p true next (omega arith) line e;
         second_is = λ e.
-            l.first_is e ∙ sym (number_read 1 0 text mid formed next (omega arith) l.line e) ∙ number_next 1 text p a mid next there formed f 0
-            ∙ number_read 2 1 text p formed next (omega arith) line e;
+            l.first_is e ∙ sym (number_read 1 0 text mid true next (omega arith) l.line e) ∙ number_next text p a mid true f 0
+            ∙ number_read 2 1 text p true next (omega arith) line e;
         third_is = λ e.
-            l.second_is e ∙ sym (number_read 1 1 text mid formed next (omega arith) l.line e) ∙ number_next 1 text p a mid next there formed f 1
-            ∙ number_read 2 2 text p formed next (omega arith) line e;
+            l.second_is e ∙ sym (number_read 1 1 text mid true next (omega arith) l.line e) ∙ number_next text p a mid true f 1
+            ∙ number_read 2 2 text p true next (omega arith) line e;
       }

@@ -13,7 +13,7 @@ use Rattle.file_lines.specs.Scan.{digits_of, cut}
 use Rattle.file_lines.specs.Places.{Skipped, NumberAt, DigitsRead, FewAt, FieldAt, PlainAt}
 use Rattle.file_lines.proofs.ScanLaws.{drop_next, front_stop}
 use Rattle.file_lines.proofs.FieldLaws.{digit_inked}
-use Rattle.file_lines.proofs.PlaceLaws.{skip_start, skip_more, skip_stop, number_start, number_more, number_stop, field_at, end_here, pair_whole}
+use Rattle.file_lines.proofs.PlaceLaws.{skip_more, skip_stop, number_start, number_more, number_stop, field_at, end_here, pair_whole}
 
 -- ---- a few digits
 module _ (text : List ℕ) (p : ℕ) where
@@ -49,10 +49,6 @@ module _ (text : List ℕ) (p value next : ℕ) (few : FewAt text p value next) 
       let above : p < next = omega (arith, few.above, more) in
       digit_byte (is_digit (get_or text p 0)) text p (omega (arith, l)) refl (few_number.there ∙ lt-ltb p next above)
 
-pub plain-not : (text : List ℕ) (p : ℕ) (formed : Bool) (first second next : ℕ) → formed ≡ false → PlainAt text p formed first second next
-plain-not text p formed first second next h =
-    record { inside = λ e. absurd (false≢true (sym h ∙ e)); digit = λ e. absurd (false≢true (sym h ∙ e)); pair = λ e. absurd (false≢true (sym h ∙ e)) }
-
 not_digit : (b : ℕ) → (b ≡ 32) ⊎ (b ≡ 10) → is_digit b ≡ false
 unfolding is_digit
 not_digit b (inl h) = rw h
@@ -73,38 +69,32 @@ module _ (text : List ℕ) (p a mid b last : ℕ) (room : p + 10 ≤ length text
   second_digit = few_digit text (mid + 1) b last y later last_in (not_digit _ (inr end))
 
   no_blanks : Skipped is_blank text p p
-  no_blanks = skip_stop is_blank text p p (skip_start is_blank text p (omega (arith, room))) (omega (arith, room)) (digit_inked _ first_digit)
+  no_blanks = skip_stop is_blank text p p refl (omega arith) (omega (arith, room)) (digit_inked _ first_digit)
 
   one_blank : Skipped is_blank text mid (mid + 1)
   unfolding is_blank
   one_blank =
       let gap-blank : is_blank (get_or text mid 0) ≡ true = rw gap in
       let next-in : mid + 1 < length text = omega (arith, x.most, room) in
-      skip_stop is_blank text mid (mid + 1) (skip_more is_blank text mid mid (skip_start is_blank text mid (omega (arith, mid_in))) mid_in gap-blank)
-      next-in (digit_inked _ second_digit)
+      skip_stop is_blank text mid (mid + 1) (skip_more is_blank text mid mid refl mid_in gap-blank) (omega arith) next-in (digit_inked _ second_digit)
 
   none_behind : Skipped is_blank text last last
   unfolding is_blank
   none_behind =
       let end-other : is_blank (get_or text last 0) ≡ false = rw end in
-      skip_stop is_blank text last last (skip_start is_blank text last (omega (arith, last_in))) last_in end-other
+      skip_stop is_blank text last last refl (omega arith) last_in end-other
 
   first_field : FieldAt text p true a mid
-  first_field =
-      let above : p < mid = omega (arith, x.above, some) in
-      field_at text p p a mid true no_blanks (few_number text p a mid x some mid_in (not_digit _ (inl gap))) (sym (lt-ltb p mid above))
+  first_field = field_at text p p a mid no_blanks (few_number text p a mid x some mid_in (not_digit _ (inl gap))) some
 
   second_field : FieldAt text mid true b last
   second_field =
-      let above : mid + 1 < last = omega (arith, y.above, later) in
-      field_at text mid (mid + 1) b last true one_blank (few_number text (mid + 1) b last y later last_in (not_digit _ (inr end)))
-      (sym (lt-ltb (mid + 1) last above))
+      field_at text mid (mid + 1) b last one_blank (few_number text (mid + 1) b last y later last_in (not_digit _ (inr end))) later
 
   pub plain_line : PlainAt text p true a b (last + 1)
   plain_line =
       record {
         inside = λ _. omega (arith, room);
         digit = λ _. first_digit;
-        pair = λ _.
-            pair_whole text p a mid true first_field refl b last (last + 1) true true second_field refl (end_here text last last none_behind last_in end);
+        pair = λ _. pair_whole text p a mid first_field b last (last + 1) second_field (end_here text last last none_behind last_in end);
       }

@@ -40,12 +40,10 @@ fn unmarked_column(
     requires { ChoiceColumnInput n rows.now (length values.now) s e (length scratch.now) }
     ensures { result ≡ any_in (unmarked_at n scratch.now rows.now values.now c) s e }
 {
-    let mut p = s;
-    while p < e {
+    for p in s..e {
         if unmarked_entry(n, c, at(rows, p), values[p], scratch) {
             return true;
         }
-        p += 1;
     }
     false
 }
@@ -86,8 +84,7 @@ pub fn closure_is_cholesky_factor_pattern(
     if closure_pairs != factor_pairs {
         return false;
     }
-    let mut c = 0;
-    while c < n {
+    for c in 0..n {
         if unmarked_pattern(
             n,
             c,
@@ -99,7 +96,6 @@ pub fn closure_is_cholesky_factor_pattern(
         ) {
             return false;
         }
-        c += 1;
     }
     true
 }

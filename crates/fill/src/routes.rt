@@ -16,8 +16,7 @@ pub fn takahashi_selected_inverse(
     starts: &[u32],
     rows: &[u32],
     values: &[f64],
-    with_pivots: bool,
-    pivots: &[f64],
+    pivots: Option<&[f64]>,
     factor_pairs: usize,
     closure_pairs: usize,
     result_starts: &[u32],
@@ -25,10 +24,10 @@ pub fn takahashi_selected_inverse(
     result_values: &mut [f64],
     scratch: &[u32],
 )
-    requires { RoutesInput (form_of with_pivots pivots.now) n starts.now rows.now values.now factor_pairs closure_pairs result_starts.now result_rows.now scratch.now
+    requires { RoutesInput (form_of pivots) n starts.now rows.now values.now factor_pairs closure_pairs result_starts.now result_rows.now scratch.now
         (length result_values.old) }
     ensures { result_values.new ≡ overwrite (entry_values n (column_marking n scratch.now)
-        (form_table (form_of with_pivots pivots.now) n starts.now rows.now values.now)) result_values.old }
+        (form_table (form_of pivots.entry) n starts.now rows.now values.now)) result_values.old }
 {
     if closure_is_cholesky_factor_pattern(
         n,
@@ -44,7 +43,6 @@ pub fn takahashi_selected_inverse(
             starts,
             rows,
             values,
-            with_pivots,
             pivots,
             result_starts,
             result_rows,
@@ -57,7 +55,6 @@ pub fn takahashi_selected_inverse(
         starts,
         rows,
         values,
-        with_pivots,
         pivots,
         result_starts,
         result_rows,

@@ -22,12 +22,10 @@ pub fn not_finite_between(values: &[f64], s: usize, e: usize) -> bool
     ensures { result ≡ any_in (not_finite values.now) s e }
 {
     let mut found = false;
-    let mut p = s;
-    while p < e {
+    for p in s..e {
         if !is_finite(values[p]) {
             found = true;
         }
-        p += 1;
     }
     found
 }

@@ -5,7 +5,7 @@ use native.Mathlib.Omega.{arith}
 use mathlib.Core.Path.{◌≡◌, refl, sym, ap, ◌∙◌}
 use mathlib.Core.Bool.{Bool, true, false, not, cond}
 use mathlib.Core.List.{List}
-use lib.ListN.{length, set, length-set}
+use lib.ListN.{length, set}
 use lib.Ieee.{Float, lt}
 use Rattle.lists.specs.Sum.{bit}
 use Rattle.lists.specs.Select.{tally, tally_none, tally_next}
@@ -15,16 +15,12 @@ use Rattle.floor.specs.Floored.{floored_value, floored, hit, floor_hits}
 
 -- after the first i values
 pub record Applied (floor : Float) (values old output : List Float) (hits i : ℕ) : Type 0 where
-  pub within : i ≤ length values
-  pub long : length output ≡ length old
   pub listed : output ≡ filled (λ k. floored_value floor (value values k)) i old
   pub counted : hits ≡ tally (hit floor values) 0 i
 
 module _ (floor : Float) (values old : List Float) where
   pub applied_none : Applied floor values old old 0 0
   applied_none = record {
-    within = omega arith;
-    long = refl;
     listed = filled_none _ old;
     counted = sym (tally_none (hit floor values) 0);
   }
@@ -33,8 +29,6 @@ module _ (floor : Float) (values old : List Float) where
     next : (b : Bool) (new : Float) (m : ℕ) → lt floor (value values i) ≡ b → new ≡ cond b (value values i) floor → m ≡ hits + bit (not b)
         → Applied floor values old (set output i new) m (i + 1)
     next b new m e p q = record {
-      within = omega arith;
-      long = length-set output i new ∙ A.long;
       listed = ap (set output i) (p ∙ rw e)
           ∙ ap (λ (x : List Float). set x i (floored_value floor (value values i))) A.listed
           ∙ filled_more (λ k. floored_value floor (value values k)) old i (omega arith);
@@ -50,11 +44,10 @@ module _ (floor : Float) (values old : List Float) where
     pub applied_hit : lt floor (value values i) ≡ false → Applied floor values old (set output i floor) (hits + 1) (i + 1)
     applied_hit e = next false floor (hits + 1) e refl refl
 
-  pub applied_all : {output : List Float} {hits i : ℕ} → Applied floor values old output hits i → length values ≤ i
+  pub applied_all : {output : List Float} {hits i : ℕ} → Applied floor values old output hits i → i ≡ length values
       → (hits ≡ floor_hits floor values) × (output ≡ overwrite (floored floor values) old)
   unfolding filled
-  applied_all {output} {hits} {i} A l =
-      let e : i ≡ length values = let w = A.within in omega arith in (
-        A.counted ∙ ap (tally (hit floor values) 0) e,
-        A.listed ∙ ap (λ (k : ℕ). filled (λ k. floored_value floor (value values k)) k old) e,
-      )
+  applied_all {output} {hits} {i} A e = (
+    A.counted ∙ ap (tally (hit floor values) 0) e,
+    A.listed ∙ ap (λ (k : ℕ). filled (λ k. floored_value floor (value values k)) k old) e,
+  )

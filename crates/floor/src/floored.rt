@@ -10,16 +10,13 @@ pub fn apply_floor(values: &[f64], floor_value: f64, output: &mut [f64]) -> usiz
     ensures output_after { output.new ≡ overwrite (floored floor_value values.now) output.old }
 {
     let mut floor_hits = 0;
-    let mut i = 0;
-    while i < values.len() {
-        let x = values[i];
-        if x > floor_value {
-            output[i] = x;
+    for (i, x) in values.iter().enumerate() {
+        if *x > floor_value {
+            output[i] = *x;
         } else {
             output[i] = floor_value;
             floor_hits += 1;
         }
-        i += 1;
     }
     floor_hits
 }

@@ -33,14 +33,11 @@ fn positive_mean(values: &[f64]) -> f64
 {
     let mut sum = 0.0;
     let mut count: usize = 0;
-    let mut i = 0;
-    while i < values.len() {
-        let x = values[i];
-        if x > 0.0 {
-            sum += x;
+    for x in values {
+        if *x > 0.0 {
+            sum += *x;
             count += 1;
         }
-        i += 1;
     }
     if count == 0 {
         return 1.0;

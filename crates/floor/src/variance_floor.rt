@@ -7,7 +7,7 @@ ghost use Rattle.floor.specs.VarianceFloor.{bad_scale, floor_steps, floor_of};
 
 use super::positive_mean::mean_level;
 use finite_check::{any_not_finite, is_finite};
-use refusal::{Checked, MAX_ENTRIES, Refusal};
+use refusal::{MAX_ENTRIES, Refusal};
 
 // The floor: 0.0, or max(|mean of positive values|, 1) * scale.
 #[derive(Clone, Copy)]
@@ -32,22 +32,22 @@ fn bad_scale(floor: VarianceFloor) -> bool
 }
 
 // 1, 13, 14 and 7, for an output of `room` places.
-pub fn check_floor(values: &[f64], floor: VarianceFloor, room: usize) -> Checked
+pub fn check_floor(values: &[f64], floor: VarianceFloor, room: usize) -> Result<(), Refusal>
     ensures { reply_of result ≡ verdict (floor_steps floor values.now room) }
 {
     if MAX_ENTRIES < values.len() {
-        return Checked::Refused(Refusal::TooLarge);
+        return Err(Refusal::TooLarge);
     }
     if any_not_finite(values) {
-        return Checked::Refused(Refusal::NotFinite);
+        return Err(Refusal::NotFinite);
     }
     if bad_scale(floor) {
-        return Checked::Refused(Refusal::BadScale);
+        return Err(Refusal::BadScale);
     }
     if room < values.len() {
-        return Checked::Refused(Refusal::TooShort);
+        return Err(Refusal::TooShort);
     }
-    Checked::Accepted
+    Ok(())
 }
 
 // The floor's value.

@@ -1,1 +1,2 @@
 pub mod DiagonalLaws
+pub mod KeptBy

@@ -1,4 +1,3 @@
 -- The kept entries of a factor.
 pub mod Above
-pub mod KeptBy
 pub mod DiagonalIs

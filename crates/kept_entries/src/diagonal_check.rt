@@ -7,7 +7,7 @@ ghost use Rattle.columns.specs.Factor.{Factor, Column};
 ghost use Rattle.columns.specs.Diagonal.{bad_between, diagonal_steps};
 
 use super::diagonal::first_from;
-use refusal::{Checked, Refusal};
+use refusal::Refusal;
 use words::at;
 
 // Whether the entries from s to e have no kept diagonal of column c, or one at most 0.0. Rows ascend, so one place decides; 0.0 is at most 0.0.
@@ -26,16 +26,19 @@ fn bad_diagonal(c: usize, rows: &[u32], values: &[f64], s: usize, e: usize) -> b
 }
 
 // 6: a column without a kept diagonal, or with one at most 0.0.
-pub fn check_diagonals(n: usize, starts: &[u32], rows: &[u32], values: &[f64]) -> Checked
+pub fn check_diagonals(
+    n: usize,
+    starts: &[u32],
+    rows: &[u32],
+    values: &[f64],
+) -> Result<(), Refusal>
     requires { Factor n starts.now rows.now (length values.now) }
     ensures { reply_of result ≡ verdict (diagonal_steps (factor_lists n starts.now rows.now values.now)) }
 {
-    let mut c = 0;
-    while c < n {
+    for c in 0..n {
         if bad_diagonal(c, rows, values, at(starts, c), at(starts, c + 1)) {
-            return Checked::Refused(Refusal::NonPositiveDefinite);
+            return Err(Refusal::NonPositiveDefinite);
         }
-        c += 1;
     }
-    Checked::Accepted
+    Ok(())
 }

@@ -11,7 +11,7 @@ ghost use Rattle.columns.specs.UnitDiagonals.{other_than_one, unit_steps, missin
 ghost use Rattle.kept_entries.specs.DiagonalIs.{DiagonalIs};
 
 use super::diagonal::first_from;
-use refusal::{Checked, Refusal};
+use refusal::Refusal;
 use whole_steps::{is_nonzero, is_one, whole_at};
 use words::at;
 
@@ -41,27 +41,25 @@ fn diagonal_at(c: usize, rows: &[u32], values: &[i64], s: usize, e: usize) -> i6
 }
 
 // 19, a kept diagonal other than 1 in any column; then 6, a column without a kept diagonal.
-pub fn check_units(n: usize, starts: &[u32], rows: &[u32], values: &[i64]) -> Checked
+pub fn check_units(n: usize, starts: &[u32], rows: &[u32], values: &[i64]) -> Result<(), Refusal>
     requires { Factor n starts.now rows.now (length values.now) }
     ensures { reply_of result ≡ verdict (unit_steps 19 n starts.now rows.now (whole_nonzero values.now) (whole_one values.now)
         ++ missing_steps n starts.now rows.now (whole_nonzero values.now)) }
 {
     let mut missing = false;
-    let mut c = 0;
-    while c < n {
+    for c in 0..n {
         let d = diagonal_at(c, rows, values, at(starts, c), at(starts, c + 1));
         if is_other(d) {
-            return Checked::Refused(Refusal::DiagonalNotOne);
+            return Err(Refusal::DiagonalNotOne);
         }
         if !is_nonzero(d) {
             missing = true;
         }
-        c += 1;
     }
     if missing {
-        return Checked::Refused(Refusal::NonPositiveDefinite);
+        return Err(Refusal::NonPositiveDefinite);
     }
-    Checked::Accepted
+    Ok(())
 }
 
 // Whether the entries from s to e have a kept diagonal of column c other than 1. Rows ascend, so one place decides; 0.0 is dropped.
@@ -83,16 +81,19 @@ fn other_diagonal(c: usize, rows: &[u32], values: &[f64], s: usize, e: usize) ->
 }
 
 // 23: a kept diagonal other than 1, in any column.
-pub fn check_pivot_diagonals(n: usize, starts: &[u32], rows: &[u32], values: &[f64]) -> Checked
+pub fn check_pivot_diagonals(
+    n: usize,
+    starts: &[u32],
+    rows: &[u32],
+    values: &[f64],
+) -> Result<(), Refusal>
     requires { Factor n starts.now rows.now (length values.now) }
     ensures { reply_of result ≡ verdict (unit_steps 23 n starts.now rows.now (nonzero values.now) (float_one values.now)) }
 {
-    let mut c = 0;
-    while c < n {
+    for c in 0..n {
         if other_diagonal(c, rows, values, at(starts, c), at(starts, c + 1)) {
-            return Checked::Refused(Refusal::PivotDiagonalNotOne);
+            return Err(Refusal::PivotDiagonalNotOne);
         }
-        c += 1;
     }
-    Checked::Accepted
+    Ok(())
 }

@@ -4,23 +4,31 @@
 
 ghost use Rattle.std.specs.Prelude.{◌≡◌};
 ghost use Rattle.exact.specs.PivotCase.{step_below, step_on};
+ghost use Rattle.last_steps.specs.DivisorParts.{is_pivot, number};
+
+// What the entries of a column are finished with: of L.Lᵀ the diagonal of the factor's column, of L.D.Lᵀ the column's pivot.
+#[derive(Clone, Copy)]
+pub enum Divisor {
+    Diagonal(f64),
+    Pivot(f64),
+}
 
 // An entry below the diagonal.
-pub fn entry_below(with_pivots: bool, d: f64, sum: f64) -> f64
-    ensures { result ≡ step_below with_pivots d sum }
+pub fn entry_below(divisor: Divisor, sum: f64) -> f64
+    ensures { result ≡ step_below (is_pivot divisor) (number divisor) sum }
 {
-    if with_pivots {
-        return -sum;
+    match divisor {
+        Divisor::Diagonal(d) => -sum / d,
+        Divisor::Pivot(_) => -sum,
     }
-    -sum / d
 }
 
 // The entry on the diagonal.
-pub fn entry_on_diagonal(with_pivots: bool, d: f64, sum: f64) -> f64
-    ensures { result ≡ step_on with_pivots d sum }
+pub fn entry_on_diagonal(divisor: Divisor, sum: f64) -> f64
+    ensures { result ≡ step_on (is_pivot divisor) (number divisor) sum }
 {
-    if with_pivots {
-        return 1.0 / d - sum;
+    match divisor {
+        Divisor::Diagonal(d) => 1.0 / (d * d) - sum / d,
+        Divisor::Pivot(d) => 1.0 / d - sum,
     }
-    1.0 / (d * d) - sum / d
 }

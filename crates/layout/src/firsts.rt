@@ -77,12 +77,10 @@ pub fn lay_firsts(
 {
     let mut count = 0;
     let mut place = 0;
-    let mut c = 0;
-    while c < n {
+    for c in 0..n {
         firsts[c] = count as u32;
         count = place_reached_column(n, place, c, count, reached, listed, scratch);
         place += n - c;
-        c += 1;
     }
     count
 }

@@ -24,12 +24,10 @@ fn lay_positions(
     requires { LayPositionsInput base shift first end rows.now scratch.old }
     ensures { PositionsLaid base shift first end rows.now scratch.old scratch.new }
 {
-    let mut q = first;
-    while q < end {
+    for q in first..end {
         let r = at(rows, q);
         let position = shift + q;
         scratch[base + r] = position as u32;
-        q += 1;
     }
 }
 
@@ -92,12 +90,10 @@ pub fn lay_out(
 {
     let mut count = 0;
     let mut place = 0;
-    let mut c = 0;
-    while c < n {
+    for c in 0..n {
         result_starts[c] = count as u32;
         count = lay_reached_column(n, place, c, count, reached, result_rows, scratch);
         place += n - c;
-        c += 1;
     }
     result_starts[n] = count as u32;
     count

@@ -18,19 +18,19 @@ use Rattle.selection.specs.Selection.{Lent, room_of, selected_answer, filling_of
 use Rattle.selection.proofs.Selection.{lists_refused}
 use Rattle.selection.specs.RequestSteps.{request_bound_steps}
 use Rattle.selection.specs.LdlCall.{LdlCall, ldl_selection, ldl_steps}
-use Rattle.diagnostics.specs.declared.Selected.TheVariants.{Answered, Refused}
 use Rattle.ldl_entries.specs.LdlEntries.{LdlEntries}
+use Rattle.std.specs.Prelude.{Ok, Err}
 
 module _ (x : LdlCall) (lent : Lent) where
   abbrev steps : List Step
   steps = ldl_steps x (room_of lent)
 
   pub entries_refused : {why : Refusal} → verdict steps ≡ refused (refusal_number why)
-      → LdlEntries x lent (Refused why) lent
+      → LdlEntries x lent (Err why) lent
   entries_refused e = record { replies = sym (first_refused steps _ _ e); lists_are = lists_refused steps (filling_of (ldl_selection x)) lent e }
 
   pub entries_answered : Passed steps → {d : SelectedInverseDiagnostics} {left : Lent} → d ≡ selected_answer (ldl_selection x)
-      → ResultLists steps (filling_of (ldl_selection x)) lent left → LdlEntries x lent (Answered d) left
+      → ResultLists steps (filling_of (ldl_selection x)) lent left → LdlEntries x lent (Ok d) left
   entries_answered p e L = record { replies = ap (λ (y : SelectedInverseDiagnostics). answered y) e ∙ sym (first_passed steps _ p); lists_are = L }
 
   -- more stored entries than the bound are refused whatever the limit

@@ -1,14 +1,12 @@
 -- What reads back after a call that answers: the recurrence of L, D, L transposed; where every pivot is 1, and where every exact step is a multiple of one
 -- 2 ^ -s, the exact inverse.
 -- Assumes nothing.
-use Rattle.std.specs.Prelude.{ℕ, ◌^◌, ◌≡◌, List, ℤ, pos}
+use Rattle.std.specs.Prelude.{ℕ, ◌^◌, ◌≡◌, List, ℤ, pos, Result}
 use Rattle.std.proofs.Common.{sym, ◌∙◌}
 use Rattle.refusal.specs.Steps.{Step, answered, Passed}
 use Rattle.refusal.proofs.Steps.{first_passed}
 use Rattle.refusal.proofs.Told.{told_passed, told_answer}
 use Rattle.diagnostics.specs.declared.SelectedInverseDiagnostics.{SelectedInverseDiagnostics}
-use Rattle.diagnostics.specs.declared.Selected.{Selected}
-use Rattle.diagnostics.specs.Selected.{selected_reply_of}
 use Rattle.integers.specs.Matrix.{Matrix}
 use Rattle.integers.specs.Inverse.{WholeInverse}
 use Rattle.integers.specs.PivotInverse.{PivotInverse}
@@ -26,16 +24,18 @@ use Rattle.exact_entries.specs.DyadicEntries.{ReadsMultiples}
 use Rattle.exact_entries.specs.PivotEntries.{DyadicPivots}
 use Rattle.exact_entries.proofs.PivotEntries.{pivots_entries}
 use Rattle.ldl_entries.specs.LdlEntries.{LdlEntries}
+use Rattle.refusal.specs.declared.Refusal.{Refusal}
+use Rattle.refusal.specs.Refusal.{reply_of}
 
-module _ (x : LdlCall) (lent : Lent) {reply : Selected} {left : Lent} (C : LdlEntries x lent reply left) where
+module _ (x : LdlCall) (lent : Lent) {reply : Result SelectedInverseDiagnostics Refusal} {left : Lent} (C : LdlEntries x lent reply left) where
   abbrev steps : List Step
   steps = ldl_steps x (room_of lent)
 
   -- a call whose steps pass replies with the diagnosis
-  pub ldl_passed : Passed steps → selected_reply_of reply ≡ answered (selected_answer (ldl_selection x))
+  pub ldl_passed : Passed steps → reply_of reply ≡ answered (selected_answer (ldl_selection x))
   ldl_passed p = C.replies ∙ first_passed steps (selected_answer (ldl_selection x)) p
 
-  module _ {d : SelectedInverseDiagnostics} (answer : selected_reply_of reply ≡ answered d) where
+  module _ {d : SelectedInverseDiagnostics} (answer : reply_of reply ≡ answered d) where
     -- and only such a call answers
     pub ldl_answers : Passed steps
     ldl_answers = told_passed steps (selected_answer (ldl_selection x)) (sym answer ∙ C.replies)

@@ -1,6 +1,6 @@
 -- F2 of document 01 with pivots of 1, its diagonals kept and not, the request (0, 0) and limit 3: what the laws of a reply ask is met, and what they then give.
 -- Assumes nothing.
-use Rattle.std.specs.Prelude.{◌≡◌, refl, true, false, List, [], ◌∷◌, map, ℕ, ◌<◌, pos, negsuc, take, Float}
+use Rattle.std.specs.Prelude.{◌≡◌, refl, true, false, List, [], ◌∷◌, map, ℕ, ◌<◌, pos, negsuc, take, Float, Ok, Result}
 use Rattle.std.proofs.Common.{sym, ap, ◌∙◌, lit≤, lit<}
 use Rattle.std.specs.Float.{binary64, fin}
 use Rattle.std.specs.Float.Ieee.{of_bits, of_int, ne, eq, le, add, sub, mul, div, neg, fits}
@@ -31,9 +31,6 @@ use Rattle.entries.specs.Entries.{float_table, pivot_table}
 use Rattle.diagnostics.specs.Diagnosis.{diagnosis}
 use Rattle.diagnostics.specs.declared.SelectedInverseDiagnostics.{SelectedInverseDiagnostics}
 use Rattle.diagnostics.specs.declared.SelectedInverseStatus.TheVariants.{Complete}
-use Rattle.diagnostics.specs.declared.Selected.{Selected}
-use Rattle.diagnostics.specs.declared.Selected.TheVariants.{Answered}
-use Rattle.diagnostics.specs.Selected.{selected_reply_of}
 use Rattle.selection.specs.Diagnosis.{diagnosis_of}
 use Rattle.selection.specs.RequestSteps.{request_steps}
 use Rattle.selection.specs.Selection.{Lent, lists, ResultLists, room_of, room_steps, selected_answer, selected_table, filling_of}
@@ -52,6 +49,8 @@ use Rattle.ldl_entries.specs.LdlReply.{ldl_passed, ldl_answers, ldl_answer, ldl_
 use Rattle.ldl_entries.specs.LdlSame.{pivots_same, families_same}
 use Rattle.ldl_entries.specs.DivOne.{div-one}
 use Rattle.ldl_entries.specs.LdlOnes.{OnesBeside, ones_same}
+use Rattle.refusal.specs.declared.Refusal.{Refusal}
+use Rattle.refusal.specs.Refusal.{reply_of}
 
 abbrev f2_pivots : List Float
 f2_pivots = whole 1 ∷ whole 1 ∷ []
@@ -92,7 +91,7 @@ unfolding any any_in sum_to picked select cells cell_count tabulate filled overw
     requested pivot_table
 bare_left = lists_passed (ldl_steps f2-bare (room_of f2_lent)) (filling_of (ldl_selection f2-bare)) f2_lent bare_is_passed refl refl refl refl
 
-replied : LdlEntries f2_ldl f2_lent (Answered (diagnosis 1 3 3 3 Complete)) f2_lists
+replied : LdlEntries f2_ldl f2_lent (Ok (diagnosis 1 3 3 3 Complete)) f2_lists
 replied = record {
   replies =
       ap (λ (d : SelectedInverseDiagnostics). answered d) (sym told)
@@ -100,7 +99,7 @@ replied = record {
   lists_are = left;
 }
 
-bare-replied : LdlEntries f2-bare f2_lent (Answered (diagnosis 1 3 3 3 Complete)) f2_lists
+bare-replied : LdlEntries f2-bare f2_lent (Ok (diagnosis 1 3 3 3 Complete)) f2_lists
 bare-replied = record {
   replies =
       ap (λ (d : SelectedInverseDiagnostics). answered d) (sym bare-told)
@@ -109,7 +108,7 @@ bare-replied = record {
 }
 
 -- `ldl_passed`: whatever the call replies is this diagnosis
-f2-reply : {reply : Selected} {after : Lent} → LdlEntries f2_ldl f2_lent reply after → selected_reply_of reply ≡ answered (diagnosis 1 3 3 3 Complete)
+f2-reply : {reply : Result SelectedInverseDiagnostics Refusal} {after : Lent} → LdlEntries f2_ldl f2_lent reply after → reply_of reply ≡ answered (diagnosis 1 3 3 3 Complete)
 f2-reply C = ldl_passed f2_ldl f2_lent C ldl_is_passed ∙ ap (λ (d : SelectedInverseDiagnostics). answered d) told
 
 -- `ldl_answers`, `ldl_answer`: only a call that passes answers, with its diagnosis
@@ -166,7 +165,7 @@ unfolding any any_in sum_to picked select cells cell_count tabulate filled overw
     requested pivot_table
 quarters_left = lists_passed (ldl_steps f2-quarters (room_of f2_lent)) (filling_of (ldl_selection f2-quarters)) f2_lent quarters_is_passed refl refl refl refl
 
-quarters-replied : LdlEntries f2-quarters f2_lent (Answered (diagnosis 1 3 3 3 Complete)) quarters_lists
+quarters-replied : LdlEntries f2-quarters f2_lent (Ok (diagnosis 1 3 3 3 Complete)) quarters_lists
 quarters-replied = record {
   replies =
       ap (λ (d : SelectedInverseDiagnostics). answered d) (sym quarters-told)

@@ -14,37 +14,32 @@ use factor_check::bounds::check_bounds;
 use factor_check::check_stored;
 use finite_check::any_not_finite;
 use kept_entries::unit_diagonals::check_pivot_diagonals;
-use refusal::{Checked, Refusal};
+use refusal::Refusal;
 use selected_checks::requests::check_requests;
 use selected_checks::{check_request_bound, check_room};
-use verdicts::first_of;
 
 // 4, not a pivot for each column; then 18, a pivot that is not finite.
-fn check_pivot_list(n: usize, pivots: &[f64]) -> Checked
+fn check_pivot_list(n: usize, pivots: &[f64]) -> Result<(), Refusal>
     ensures { reply_of result ≡ verdict (pivot_list_steps n pivots.now) }
 {
     if pivots.len() != n {
-        return Checked::Refused(Refusal::DimensionMismatch);
+        return Err(Refusal::DimensionMismatch);
     }
     if any_not_finite(pivots) {
-        return Checked::Refused(Refusal::NotFiniteEntry);
+        return Err(Refusal::NotFiniteEntry);
     }
-    Checked::Accepted
+    Ok(())
 }
 
 // 6: a pivot at most 0.0.
-fn check_pivots(n: usize, pivots: &[f64]) -> Checked
+fn check_pivots(n: usize, pivots: &[f64]) -> Result<(), Refusal>
     requires { n ≤ length pivots.now }
     ensures { reply_of result ≡ verdict (pivot_steps n pivots.now) }
 {
-    let mut c = 0;
-    while c < n {
-        if pivots[c] <= 0.0 {
-            return Checked::Refused(Refusal::NonPositiveDefinite);
-        }
-        c += 1;
+    if pivots[..n].iter().any(|pivot| *pivot <= 0.0) {
+        return Err(Refusal::NonPositiveDefinite);
     }
-    Checked::Accepted
+    Ok(())
 }
 
 // 23, 6 and 7, past the others.
@@ -59,15 +54,14 @@ fn check_ldl_fill(
     result_rows: usize,
     result_values: usize,
     scratch: usize,
-) -> Checked
+) -> Result<(), Refusal>
     requires { (n ≤ max_dimension) × Factor n starts.now rows.now (length values.now) × (n ≤ length pivots.now) }
     ensures { reply_of result ≡ verdict (ldl_fill_steps (factor_lists n starts.now rows.now values.now) pivots.now limit
         (room result_starts result_rows result_values scratch)) }
 {
-    let units = check_pivot_diagonals(n, starts, rows, values);
-    let lows = check_pivots(n, pivots);
-    let room = check_room(n, limit, result_starts, result_rows, result_values, scratch);
-    first_of(units, first_of(lows, room))
+    check_pivot_diagonals(n, starts, rows, values)?;
+    check_pivots(n, pivots)?;
+    check_room(n, limit, result_starts, result_rows, result_values, scratch)
 }
 
 // All of them.
@@ -85,39 +79,27 @@ pub fn check_ldl(
     result_rows: usize,
     result_values: usize,
     scratch: usize,
-) -> Checked
+) -> Result<(), Refusal>
     ensures { reply_of result ≡ verdict (ldl_steps
         (ldl_call n starts.now rows.now values.now pivots.now dimension request_rows.now
         request_columns.now limit)
         (room result_starts result_rows result_values scratch)) }
 {
-    let bounds = first_of(
-        check_bounds(n, rows.len()),
-        check_request_bound(request_rows.len()),
-    );
-    match bounds {
-        Checked::Refused(why) => Checked::Refused(why),
-        Checked::Accepted => match check_stored(n, starts, rows, values) {
-            Checked::Refused(why) => Checked::Refused(why),
-            Checked::Accepted => match check_pivot_list(n, pivots) {
-                Checked::Refused(why) => Checked::Refused(why),
-                Checked::Accepted => {
-                    let requests = check_requests(n, dimension, request_rows, request_columns);
-                    let fill = check_ldl_fill(
-                        n,
-                        starts,
-                        rows,
-                        values,
-                        pivots,
-                        limit,
-                        result_starts,
-                        result_rows,
-                        result_values,
-                        scratch,
-                    );
-                    first_of(requests, fill)
-                }
-            },
-        },
-    }
+    check_bounds(n, rows.len())?;
+    check_request_bound(request_rows.len())?;
+    check_stored(n, starts, rows, values)?;
+    check_pivot_list(n, pivots)?;
+    check_requests(n, dimension, request_rows, request_columns)?;
+    check_ldl_fill(
+        n,
+        starts,
+        rows,
+        values,
+        pivots,
+        limit,
+        result_starts,
+        result_rows,
+        result_values,
+        scratch,
+    )
 }

@@ -8,9 +8,9 @@ ghost use Rattle.selection.specs.LdlCall.{ldl_call};
 ghost use Rattle.ldl_entries.specs.LdlEntries.{LdlEntries};
 
 use checks::check_ldl;
-use diagnostics::Selected;
-use fill::forms::fill_form_entries;
-use refusal::{Checked, MAX_ENTRIES, Refusal};
+use diagnostics::SelectedInverseDiagnostics;
+use fill::fill_entries;
+use refusal::{MAX_ENTRIES, Refusal};
 use request_marks::requests::mark_requests;
 use selected_checks::default_limit;
 
@@ -29,14 +29,14 @@ pub fn selected_inverse_entries_ldl_with_limit(
     result_rows: &mut [u32],
     result_values: &mut [f64],
     scratch: &mut [u32],
-) -> Selected
+) -> Result<SelectedInverseDiagnostics, Refusal>
     ensures { LdlEntries
         (ldl_call n starts.now rows.now values.now pivots.now dimension request_rows.now
         request_columns.now limit)
         (lists result_starts.old result_rows.old result_values.old scratch.old) result
         (lists result_starts.new result_rows.new result_values.new scratch.new) }
 {
-    match check_ldl(
+    check_ldl(
         n,
         starts,
         rows,
@@ -50,27 +50,22 @@ pub fn selected_inverse_entries_ldl_with_limit(
         result_rows.len(),
         result_values.len(),
         scratch.len(),
-    ) {
-        Checked::Refused(why) => Selected::Refused(why),
-        Checked::Accepted => {
-            let requested_pairs = mark_requests(n, request_rows, request_columns, scratch);
-            let diagnosis = fill_form_entries(
-                n,
-                starts,
-                rows,
-                values,
-                true,
-                pivots,
-                requested_pairs,
-                limit,
-                result_starts,
-                result_rows,
-                result_values,
-                scratch,
-            );
-            Selected::Answered(diagnosis)
-        }
-    }
+    )?;
+    let requested_pairs = mark_requests(n, request_rows, request_columns, scratch);
+    let diagnosis = fill_entries(
+        n,
+        starts,
+        rows,
+        values,
+        Some(pivots),
+        requested_pairs,
+        limit,
+        result_starts,
+        result_rows,
+        result_values,
+        scratch,
+    );
+    Ok(diagnosis)
 }
 
 // The same with the default limit: 10 times the stored entries, dropped ones counted and missing diagonals not. Above the bound on entries there is no
@@ -88,7 +83,7 @@ pub fn selected_inverse_entries_ldl(
     result_rows: &mut [u32],
     result_values: &mut [f64],
     scratch: &mut [u32],
-) -> Selected
+) -> Result<SelectedInverseDiagnostics, Refusal>
     ensures { LdlEntries
         (ldl_call n starts.now rows.now values.now pivots.now dimension request_rows.now
         request_columns.now (default_limit rows.now))
@@ -96,7 +91,7 @@ pub fn selected_inverse_entries_ldl(
         (lists result_starts.new result_rows.new result_values.new scratch.new) }
 {
     if MAX_ENTRIES < rows.len() {
-        return Selected::Refused(Refusal::TooLarge);
+        return Err(Refusal::TooLarge);
     }
     selected_inverse_entries_ldl_with_limit(
         n,

@@ -46,11 +46,9 @@ pub fn count_and_least(values: &[f64]) -> CountAndLeast
     }
     let mut num_negative = 0;
     let mut min_value = f64::from_bits(0x7ff0_0000_0000_0000);
-    let mut i = 0;
-    while i < values.len() {
-        num_negative += negative_bit(values[i]);
-        min_value = min(min_value, values[i]);
-        i += 1;
+    for x in values {
+        num_negative += negative_bit(*x);
+        min_value = min(min_value, *x);
     }
     CountAndLeast {
         num_negative: num_negative,

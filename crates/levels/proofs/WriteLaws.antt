@@ -3,11 +3,12 @@
 use Prim.Native.Nat.{ℕ, zero, suc, ◌+◌, ◌-◌, ◌≤◌, ◌<◌}
 use native.Mathlib.Omega.{arith}
 use native.Mathlib.Nat.{add-zero}
+use Rattle.std.proofs.Math.Numerals.{add-one}
 use mathlib.Core.Path.{◌≡◌, refl, sym, ap, ap₂, subst, ◌∙◌}
 use mathlib.Core.List.{List, [], ◌∷◌, ◌++◌, map, append-nil}
 use lib.ListN.{length, set, length-set, length-append}
 use lib.Seq.{drop-set-lt}
-use Rattle.lists.specs.Overwrite.{overwrite, splice, splice_none, splice_more, splice_before, splice_first, splice-length}
+use Rattle.lists.specs.Overwrite.{overwrite, splice, splice_none, splice_more, splice_before, splice_first}
 use Rattle.levels.specs.Back.{back_row, back_column, levels_back, levels_back_none, levels_back_next, levels_back-length}
 use Rattle.levels.specs.Written.{rows_of, columns_of}
 
@@ -41,20 +42,6 @@ module _ (desc : ℕ → List ℕ) (W : ℕ → ℕ → ℕ) where
   pub whole_length : {whole : List (ℕ × ℕ)} {n r c k : ℕ} {rows₀ columns₀ rows columns : List ℕ} → Writing whole n r c k rows₀ columns₀ rows columns → k < length whole
   whole_length {whole} {n} {r} {c} {k} T =
       omega (arith, ap length T.back, length-append (levels_back desc W k r c) T.tail, levels_back-length desc W k r c)
-
-  -- both lists are as long as before
-  pub writing_rows : {whole : List (ℕ × ℕ)} {n r c k : ℕ} {rows₀ columns₀ rows columns : List ℕ} → Writing whole n r c k rows₀ columns₀ rows columns → length rows ≡ length rows₀
-  writing_rows {whole} {n} {r} {c} {k} {rows₀} T =
-      ap length T.rows_written
-      ∙ splice-length k (r ∷ rows_of T.tail) rows₀
-      (omega (arith, T.rows_room, ap length T.back, length-append (levels_back desc W k r c) T.tail, levels_back-length desc W k r c, map_long (λ p. p.0) T.tail))
-
-  pub writing_columns : {whole : List (ℕ × ℕ)} {n r c k : ℕ} {rows₀ columns₀ rows columns : List ℕ} → Writing whole n r c k rows₀ columns₀ rows columns
-      → length columns ≡ length columns₀
-  writing_columns {whole} {n} {r} {c} {k} {rows₀} {columns₀} T =
-      ap length T.columns_written
-      ∙ splice-length k (c ∷ columns_of T.tail) columns₀
-      (omega (arith, T.columns_room, ap length T.back, length-append (levels_back desc W k r c) T.tail, levels_back-length desc W k r c, map_long (λ p. p.1) T.tail))
 
   -- the last pair, over lists in which it is written
   pub writing_last : (n r c k : ℕ) (rows columns : List ℕ) → c ≤ r → r < n → k < length rows → k < length columns
@@ -93,21 +80,14 @@ module _ (desc : ℕ → List ℕ) (W : ℕ → ℕ → ℕ) where
 
   -- the same, with its place in other words
   pub writing_step : {whole : List (ℕ × ℕ)} {n r c m : ℕ} {rows₀ columns₀ rows columns : List ℕ} → Writing whole n r c m rows₀ columns₀ rows columns → 0 < m
-      → (a b : ℕ) → a ≡ back_row desc W m r c → b ≡ back_column desc W m r c → b ≤ a → a < n
+      → (a b : ℕ) → a ≡ back_row desc W (m - 1 + 1) r c → b ≡ back_column desc W (m - 1 + 1) r c → b ≤ a → a < n
       → Writing whole n a b (m - 1) rows₀ columns₀ (set rows (m - 1) a) (set columns (m - 1) b)
   writing_step {whole} {n} {r} {c} {m} {rows₀} {columns₀} {rows} {columns} T positive a b p q h l =
       let e : m ≡ suc (m - 1) = omega arith in
       writing_next (subst (λ (k : ℕ). Writing whole n r c k rows₀ columns₀ rows columns) e T) a b
-      (p ∙ ap (λ (k : ℕ). back_row desc W k r c) e)
-      (q ∙ ap (λ (k : ℕ). back_column desc W k r c) e)
+      (p ∙ ap (λ (k : ℕ). back_row desc W k r c) (add-one (m - 1)))
+      (q ∙ ap (λ (k : ℕ). back_column desc W k r c) (add-one (m - 1)))
       h l
-
-  -- room for the pair before
-  pub writing_row_room : {whole : List (ℕ × ℕ)} {n r c m : ℕ} {rows₀ columns₀ rows columns : List ℕ} → Writing whole n r c m rows₀ columns₀ rows columns → m < length rows
-  writing_row_room T = omega (arith, writing_rows T, whole_length T, T.rows_room)
-
-  pub writing_column_room : {whole : List (ℕ × ℕ)} {n r c m : ℕ} {rows₀ columns₀ rows columns : List ℕ} → Writing whole n r c m rows₀ columns₀ rows columns → m < length columns
-  writing_column_room T = omega (arith, writing_columns T, whole_length T, T.columns_room)
 
   -- all of them
   pub writing_all : {whole : List (ℕ × ℕ)} {n r c : ℕ} {rows₀ columns₀ rows columns : List ℕ} → Writing whole n r c 0 rows₀ columns₀ rows columns

@@ -5,7 +5,7 @@ use Rattle.std.proofs.Common.{arith, sym, ap, ◌∙◌, lt-ltb, le-ltb}
 use Rattle.std.proofs.Math.Decide.{dec_lt}
 use Rattle.lists.specs.Test.{any, any_in, any_next, any_in_next}
 use Rattle.refusal.specs.Bounds.{max_dimension}
-use Rattle.pairs.specs.Pair.{pair_total, ordered}
+use Rattle.pairs.specs.Pair.{pair_total}
 use Rattle.pairs.specs.Scratch.{packed, row_of, column_of}
 use Rattle.pairs.specs.ColumnOrder.{column_place, set_size}
 use Rattle.pairs.proofs.ColumnOrder.{set_size_most}

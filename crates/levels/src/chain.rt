@@ -9,7 +9,7 @@ ghost use Rattle.levels.specs.Back.{back_row, back_column, levels_back};
 ghost use Rattle.levels.specs.Written.{rows_of, columns_of, BackInput, WriteInput};
 
 use kept_entries::diagonal::first_from;
-use kept_entries::kept_below;
+use kept_entries::stored::kept_below;
 use pair_places::column_place;
 use words::at;
 
@@ -73,15 +73,13 @@ fn pair_before(
     ensures row_value { result.row ≡ back_row (pattern starts.now rows.now (nonzero values.now)) (level_word n scratch.now) level r c }
     ensures column_value { result.column ≡ back_column (pattern starts.now rows.now (nonzero values.now)) (level_word n scratch.now) level r c }
 {
-    let mut j = 0;
-    while j < c {
+    for j in 0..c {
         if leads(n, starts, rows, values, c, j, r, level, scratch) {
             return Pair { row: c, column: j };
         }
         if leads(n, starts, rows, values, r, j, c, level, scratch) {
             return Pair { row: r, column: j };
         }
-        j += 1;
     }
     if leads(n, starts, rows, values, c, c, r, level, scratch) {
         return Pair { row: c, column: c };
@@ -112,14 +110,13 @@ pub fn write_chain(
 {
     let mut row = r;
     let mut column = c;
-    let mut k = level - 1;
-    chain_rows[k] = row as u32;
-    chain_columns[k] = column as u32;
-    while 0 < k {
-        let before = pair_before(n, starts, rows, values, row, column, k, scratch);
+    let last = level - 1;
+    chain_rows[last] = row as u32;
+    chain_columns[last] = column as u32;
+    for k in (0..last).rev() {
+        let before = pair_before(n, starts, rows, values, row, column, k + 1, scratch);
         row = before.row;
         column = before.column;
-        k -= 1;
         chain_rows[k] = row as u32;
         chain_columns[k] = column as u32;
     }

@@ -9,7 +9,7 @@ ghost use Rattle.levels.specs.Levels.{level_queue, Raised};
 ghost use Rattle.levels.specs.Closing.{depends, word_depends, ClosePairInput, CloseEntryInput, CloseLevelInput, LevelPairsInput, LevelOne, MarkLevelsInput, AllLevels};
 
 use super::insert_level;
-use kept_entries::kept_below;
+use kept_entries::stored::kept_below;
 use pair_places::{PACKING, pair_total};
 use words::{at, clear};
 
@@ -26,8 +26,7 @@ pub fn mark_levels(
 {
     clear(scratch, pair_total(n));
     let mut count = 0;
-    let mut i = 0;
-    while i < request_rows.len() {
+    for i in 0..request_rows.len() {
         count = insert_level(
             n,
             at(request_rows, i),
@@ -36,7 +35,6 @@ pub fn mark_levels(
             count,
             scratch,
         );
-        i += 1;
     }
     count
 }
@@ -79,12 +77,11 @@ fn close_pair(
     ensures { Raised n level (depends (pattern starts.now rows.now (nonzero values.now)) r c)
         scratch.old count scratch.new result }
 {
+    let start = at(starts, c);
     let end = at(starts, c + 1);
     let mut total = count;
-    let mut p = at(starts, c);
-    while p < end {
+    for p in start..end {
         total = close_entry(n, rows, values, r, c, p, level, total, scratch);
-        p += 1;
     }
     total
 }
@@ -107,8 +104,7 @@ fn close_level(
 {
     let start = pair_total(n);
     let mut count = hi;
-    let mut j = lo;
-    while j < hi {
+    for j in lo..hi {
         let w = at(scratch, start + j);
         count = close_pair(
             n,
@@ -121,7 +117,6 @@ fn close_level(
             count,
             scratch,
         );
-        j += 1;
     }
     count
 }

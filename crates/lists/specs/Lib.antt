@@ -6,5 +6,6 @@ pub mod Sum
 pub mod Place
 pub mod Tabulate
 pub mod Overwrite
+pub mod Written
 pub mod Cells
 pub mod Rising

@@ -5,7 +5,7 @@ ghost use Rattle.lists.specs.Overwrite.{overwrite};
 ghost use Rattle.columns.specs.Kept.{f0};
 ghost use Rattle.result.specs.Lookup.{dimension, diagonal_of, mark_of, diagonals, coverage, WellFormed};
 
-use column_search::{Place, find_in_column};
+use column_search::find_in_column;
 
 // A diagonal, 0.0 where it is not covered, and its mark.
 #[derive(Clone, Copy)]
@@ -24,11 +24,11 @@ fn diagonal(starts: &[u32], rows: &[u32], values: &[f64], c: usize) -> MarkedDia
     let found = find_in_column(starts, rows, c, c);
     let place = found.place;
     match place {
-        Place::At(p) => MarkedDiagonal {
+        Some(p) => MarkedDiagonal {
             value: values[p],
             mark: 1,
         },
-        Place::Absent => MarkedDiagonal {
+        None => MarkedDiagonal {
             value: 0.0,
             mark: 0,
         },
@@ -49,11 +49,9 @@ pub fn write_diagonals(
     ensures marks_after { marks.new ≡ overwrite (coverage starts.now rows.now values.now) marks.old }
 {
     let n = starts.len() - 1;
-    let mut c = 0;
-    while c < n {
+    for c in 0..n {
         let d = diagonal(starts, rows, values, c);
         output[c] = d.value;
         marks[c] = d.mark;
-        c += 1;
     }
 }

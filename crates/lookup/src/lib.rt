@@ -11,13 +11,12 @@ ghost use Rattle.refusal.specs.Refusal.{reply_of};
 ghost use Rattle.result.specs.Counted.{lookup_looks};
 ghost use Rattle.result.specs.Lookup.{lookup};
 ghost use Rattle.lookup.specs.DiagonalList.{DiagonalsListed};
-ghost use Rattle.lookup.specs.Reply.{entry_reply};
 
 use column_search::pair_place::pair_place;
 use column_search::result_check::check_result;
 use diagonal_list::write_diagonals;
-use ordered::{CountedEntry, Entry, value_at};
-use refusal::{Checked, Refusal};
+use ordered::{CountedEntry, value_at};
+use refusal::Refusal;
 
 // The entry at a row and a column, exchanged if row < column, and how many places the column search looked at.
 pub fn get_counted(
@@ -27,20 +26,25 @@ pub fn get_counted(
     row: usize,
     col: usize,
 ) -> CountedEntry
-    ensures result_value { entry_reply result.entry ≡ lookup starts.now rows.now values.now row col }
+    ensures result_value { reply_of result.entry ≡ lookup starts.now rows.now values.now row col }
     ensures looks_value { result.looks ≡ lookup_looks starts.now rows.now (length values.now) row col }
 {
     let found = pair_place(starts, rows, values.len(), row, col);
-    let place = found.place;
     CountedEntry {
-        entry: value_at(values, place),
+        entry: value_at(values, found.place),
         looks: found.looks,
     }
 }
 
 // The entry alone.
-pub fn get(starts: &[u32], rows: &[u32], values: &[f64], row: usize, col: usize) -> Entry
-    ensures { entry_reply result ≡ lookup starts.now rows.now values.now row col }
+pub fn get(
+    starts: &[u32],
+    rows: &[u32],
+    values: &[f64],
+    row: usize,
+    col: usize,
+) -> Result<f64, Refusal>
+    ensures { reply_of result ≡ lookup starts.now rows.now values.now row col }
 {
     get_counted(starts, rows, values, row, col).entry
 }
@@ -52,21 +56,17 @@ pub fn diag(
     values: &[f64],
     output: &mut [f64],
     marks: &mut [u8],
-) -> Checked
+) -> Result<(), Refusal>
     ensures { DiagonalsListed starts.now rows.now values.now output.old marks.old
         (reply_of result) output.new marks.new }
 {
-    match check_result(starts, rows, values.len()) {
-        Checked::Refused(why) => Checked::Refused(why),
-        Checked::Accepted => {
-            if output.len() < starts.len() - 1 {
-                return Checked::Refused(Refusal::TooShort);
-            }
-            if marks.len() < starts.len() - 1 {
-                return Checked::Refused(Refusal::TooShort);
-            }
-            write_diagonals(starts, rows, values, output, marks);
-            Checked::Accepted
-        }
+    check_result(starts, rows, values.len())?;
+    if output.len() < starts.len() - 1 {
+        return Err(Refusal::TooShort);
     }
+    if marks.len() < starts.len() - 1 {
+        return Err(Refusal::TooShort);
+    }
+    write_diagonals(starts, rows, values, output, marks);
+    Ok(())
 }

@@ -1,10 +1,11 @@
 // The lookup in a selected-inverse result that is known to be well formed: it stays inside its lists and does not read a column for its order.
 ghost use Rattle.std.specs.Prelude.{◌≡◌};
 ghost use Rattle.result.specs.Halving.{lookup_within};
-ghost use Rattle.lookup.specs.Reply.{entry_reply};
+ghost use Rattle.refusal.specs.Refusal.{reply_of};
 
-use super::ordered::{Entry, value_at};
+use super::ordered::value_at;
 use column_search::within::pair_place_within;
+use refusal::Refusal;
 
 // The entry at a row and a column, exchanged if row < column: `get` in a well-formed result, by `within_lookup`.
 pub fn get_well_formed(
@@ -13,8 +14,8 @@ pub fn get_well_formed(
     values: &[f64],
     row: usize,
     col: usize,
-) -> Entry
-    ensures { entry_reply result ≡ lookup_within starts.now rows.now values.now row col }
+) -> Result<f64, Refusal>
+    ensures { reply_of result ≡ lookup_within starts.now rows.now values.now row col }
 {
     value_at(
         values,

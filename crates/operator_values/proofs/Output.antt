@@ -1,5 +1,5 @@
 -- Laws of specs/Output.antt.
-use Rattle.std.specs.Prelude.{ℕ, ◌≡◌, Bool, true, false, cond, List, Float}
+use Rattle.std.specs.Prelude.{ℕ, ◌≡◌, Bool, true, false, cond, List, Float, Ok, Err}
 use Rattle.std.proofs.Common.{sym, ap, ◌∙◌, le-leb}
 use Rattle.lists.specs.Overwrite.{overwrite, cleared}
 use Rattle.refusal.specs.Steps.{Step, answered, refused, verdict, first, Passed}
@@ -8,7 +8,6 @@ use Rattle.refusal.specs.Refusal.{refusal_number}
 use Rattle.refusal.specs.declared.Refusal.{Refusal}
 use Rattle.diagnostics.specs.declared.SelectedInverseDiagnostics.{SelectedInverseDiagnostics}
 use Rattle.diagnostics.specs.declared.SelectedInverseStatus.TheVariants.{Complete}
-use Rattle.diagnostics.specs.declared.Selected.TheVariants.{Answered, Refused}
 use Rattle.selection.specs.Selection.{Selection, Lent, lists, scratch_words, selected_complete, selected_answer, filling_of, ResultLists}
 use Rattle.selection.proofs.Selection.{lists_refused}
 use Rattle.selection.proofs.Status.{selected_complete_lem}
@@ -17,7 +16,7 @@ use Rattle.operator_values.specs.Output.{output_after, SelectedOutput}
 module _ (steps : List Step) (sel : Selection) (values : List Float) (lent : Lent) (output : List Float) where
   -- ---- refused
   pub output-refused : {why : Refusal} → verdict steps ≡ refused (refusal_number why)
-      → SelectedOutput steps sel values lent output (Refused why) lent output
+      → SelectedOutput steps sel values lent output (Err why) lent output
   output-refused e = record {
     replies = sym (first_refused steps _ (selected_answer sel) e);
     lists_are = lists_refused steps (filling_of sel) lent e;
@@ -45,10 +44,10 @@ module _ (steps : List Step) (sel : Selection) (values : List Float) (lent : Len
       left_is = rw clear L
 
       -- the set is beyond the limit
-      pub output-large : selected_complete sel ≡ false → SelectedOutput steps sel values lent output (Answered d) (lists rs rr rv s) output
+      pub output-large : selected_complete sel ≡ false → SelectedOutput steps sel values lent output (Ok d) (lists rs rr rv s) output
       output-large large = record { replies = reply; lists_are = left_is; output_is = sym (after_large large) }
 
       -- the set is within the limit, and the values were written
       pub output_within : selected_complete sel ≡ true → {out : List Float} → out ≡ overwrite values output
-          → SelectedOutput steps sel values lent output (Answered d) (lists rs rr rv s) out
+          → SelectedOutput steps sel values lent output (Ok d) (lists rs rr rv s) out
       output_within within written = record { replies = reply; lists_are = left_is; output_is = written ∙ sym (after_within within) }

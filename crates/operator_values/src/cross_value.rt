@@ -1,5 +1,5 @@
 // The value of a row of one operator and a row of another, from entries of the inverse that are read by position.
-ghost use Rattle.std.specs.Prelude.{◌≡◌, ◌+◌, ◌<◌, length};
+ghost use Rattle.std.specs.Prelude.{◌≡◌, ◌+◌, length};
 ghost use Rattle.std.specs.Float.{nan};
 ghost use Rattle.pairs.specs.Positions.{inverse_at};
 ghost use Rattle.columns.specs.Columns.{value};
@@ -35,12 +35,10 @@ fn add_terms(
     let positions = queue_start(n);
     let base = positions + column_shift(n, i);
     let mut sum = first;
-    let mut b = t;
-    while b < f {
+    for b in t..f {
         let y = b_weights[b];
         let position = pair_position(n, positions, base, i, at(b_columns, b), scratch);
         sum = sum + x * y * result_values[position];
-        b += 1;
     }
     sum
 }
@@ -64,8 +62,7 @@ pub fn cross_value(
         (inverse_at nan n scratch.now result_values.now) s e t f }
 {
     let mut sum = 0.0;
-    let mut a = s;
-    while a < e {
+    for a in s..e {
         sum = add_terms(
             n,
             a_columns,
@@ -79,7 +76,6 @@ pub fn cross_value(
             result_values,
             sum,
         );
-        a += 1;
     }
     sum
 }

@@ -32,8 +32,7 @@ pub fn operator_values(
         (inverse_at nan n scratch.now result_values.now)) output.old }
 {
     let last = operator_rows(row_starts);
-    let mut i = 0;
-    while i < last {
+    for i in 0..last {
         let s = at(row_starts, i);
         let e = at(row_starts, i + 1);
         output[i] = cross_value(
@@ -49,7 +48,6 @@ pub fn operator_values(
             scratch,
             result_values,
         );
-        i += 1;
     }
 }
 
@@ -113,8 +111,7 @@ pub fn row_pair_values(
         b_row_starts.now b_columns.now b_weights.now a_rows.now b_rows.now
         (inverse_at nan n scratch.now result_values.now)) output.old }
 {
-    let mut p = 0;
-    while p < a_rows.len() {
+    for p in 0..a_rows.len() {
         output[p] = pair_value(
             n,
             a_row_starts,
@@ -128,6 +125,5 @@ pub fn row_pair_values(
             scratch,
             result_values,
         );
-        p += 1;
     }
 }

@@ -1,7 +1,7 @@
 -- F2 of document 01 with the operator row of weight 1 at both cells: its variance 5 - 2 - 2 + 1 is the output 2, exactly. Of the factor with the rows 2 0 and
 -- 6 4 and the same row, the inverse reads back in sixteenths.
 -- Assumes nothing.
-use Rattle.std.specs.Prelude.{◌+◌, ◌≡◌, refl, false, [], ◌∷◌, get_or, pos, negsuc, ◌*ℤ◌, Float}
+use Rattle.std.specs.Prelude.{◌+◌, ◌≡◌, refl, false, [], ◌∷◌, get_or, pos, negsuc, ◌*ℤ◌, Float, Ok}
 use Rattle.std.proofs.Common.{lit<, lit≤}
 use Rattle.std.specs.Float.{fin, nan}
 use Rattle.std.specs.Float.Ieee.{of_bits, of_int, ne, le, add, sub, mul, div, neg}
@@ -30,7 +30,6 @@ use Rattle.closed_set.specs.ClosedSet.{reach, member, request}
 use Rattle.entries.specs.Entries.{float_table}
 use Rattle.diagnostics.specs.Diagnosis.{diagnosis}
 use Rattle.diagnostics.specs.declared.SelectedInverseStatus.TheVariants.{Complete}
-use Rattle.diagnostics.specs.declared.Selected.TheVariants.{Answered}
 use Rattle.selection.specs.Diagnosis.{diagnosis_of}
 use Rattle.selection.specs.Selection.{room_of, room_steps, selected_answer, filling_of}
 use Rattle.selection.proofs.Selection.{lists_passed}
@@ -39,11 +38,12 @@ use Rattle.exact_entries.specs.ExactEntries.{ExactCall}
 use Rattle.exact_entries.specs.Worked.{f2_lent, f2_lists}
 use Rattle.exact_entries.proofs.Worked.{f2_diagonals, f2_exact}
 use Rattle.exact_entries.specs.DyadicWorked.{sixteenths_values, sixteenths_lists, sixteenths_found, SixteenthsRead}
-use Rattle.exact_entries.proofs.DyadicWorked.{sixteenths_dyadic}
 use Rattle.request_marks.specs.OperatorRequests.{operator_requested}
 use Rattle.quadratic_form.specs.CrossValue.{add_terms, add_places}
 use Rattle.quadratic_form.specs.RowValue.{operator_values}
 use Rattle.quadratic_form.proofs.Examples.{f2_row_within}
+use Rattle.operator_variances_with_limit.specs.Transformed.{transformed_steps as limited_steps}
+use Rattle.operator_variances_with_limit.proofs.Worked as general
 use Rattle.operator_variances.specs.Transformed.{TransformedCall, transformed_call, transformed_selection, transformed_steps, TransformedDiagonal}
 use Rattle.operator_variances.proofs.Transformed.{transformed_accepted}
 use Rattle.operator_variances.specs.ExactVariances.{ExactRow, TransformedExact}
@@ -54,7 +54,7 @@ f2_row = transformed_call 2 f2_starts f2_rows f2_values 2 (0 ∷ 2 ∷ []) (0 �
 
 f2_row_passed : Passed (transformed_steps f2_row (room_of f2_lent) 1)
 unfolding any any_in of_int of_bits ne le first pair_total bit_words scratch_words bound_steps broken_steps starts_steps rows_steps column_steps finite_steps stored_steps operator_steps
-    diagonal_steps room_steps transformed_steps
+    diagonal_steps room_steps limited_steps
 f2_row_passed = refl
 
 -- the hypotheses of the exact case are met, of the call and of its row
@@ -68,9 +68,9 @@ unfolding of_int
 f2_row_exact = record { weights = columns₂ (λ p. Whole (value (whole 1 ∷ whole 1 ∷ []) (0 + p)) (pos 1)) refl refl; within = f2_row_within }
 
 -- the call is answered with three pairs, all of them requested, and leaves these lists
-f2_row_left : TransformedDiagonal f2_row f2_lent (whole 9 ∷ []) (Answered (diagnosis 3 3 3 30 Complete)) f2_lists (whole 2 ∷ [])
+f2_row_left : TransformedDiagonal f2_row f2_lent (whole 9 ∷ []) (Ok (diagnosis 3 3 3 30 Complete)) f2_lists (whole 2 ∷ [])
 unfolding any any_in sum_to picked select cells cell_count tabulate filled overwrite of_int of_bits ne le add sub mul div neg first after pair_total bit_words scratch_words
-    bound_steps broken_steps starts_steps rows_steps column_steps finite_steps stored_steps operator_steps diagonal_steps room_steps transformed_steps
+    bound_steps broken_steps starts_steps rows_steps column_steps finite_steps stored_steps operator_steps diagonal_steps room_steps limited_steps
     reach member factor_pairs diagnosis_of operator_pair operator_values add_terms add_places float_table
 f2_row_left = record {
   replies = refl;
@@ -94,22 +94,13 @@ abbrev row : TransformedCall
 row = transformed_call 2 f2_starts f2_rows sixteenths_values 2 (0 ∷ 2 ∷ []) (0 ∷ 1 ∷ []) (whole 1 ∷ whole 1 ∷ [])
 
 row_passed : Passed (transformed_steps row (room_of f2_lent) 1)
-unfolding any any_in of_int of_bits ne le first pair_total bit_words scratch_words bound_steps broken_steps starts_steps rows_steps column_steps finite_steps stored_steps operator_steps
-    diagonal_steps room_steps transformed_steps
-row_passed = refl
+row_passed = general.row_passed
 
 row_dyadic : DyadicCall (transformed_selection row) 4 sixteenths-diag sixteenths sixteenths-z
-row_dyadic = sixteenths_dyadic (operator_requested (0 ∷ 2 ∷ []) (0 ∷ 1 ∷ [])) 30 (room_of f2_lent) (transformed_accepted row (room_of f2_lent) 1 row_passed).accepted
+row_dyadic = general.row_dyadic
 
-row_left : TransformedDiagonal row f2_lent (whole 9 ∷ []) (Answered (diagnosis 3 3 3 30 Complete)) sixteenths_lists (fin false 1 (negsuc 0) ∷ [])
-unfolding any any_in sum_to picked select cells cell_count tabulate filled overwrite of_int of_bits ne le add sub mul div neg first after pair_total bit_words scratch_words
-    bound_steps broken_steps starts_steps rows_steps column_steps finite_steps stored_steps operator_steps diagonal_steps room_steps transformed_steps
-    reach member factor_pairs diagnosis_of operator_pair operator_values add_terms add_places float_table
-row_left = record {
-  replies = refl;
-  lists_are = lists_passed (transformed_steps row (room_of f2_lent) 1) (filling_of (transformed_selection row)) f2_lent row_passed refl refl refl refl;
-  output_is = refl;
-}
+row_left : TransformedDiagonal row f2_lent (whole 9 ∷ []) (Ok (diagnosis 3 3 3 30 Complete)) sixteenths_lists (fin false 1 (negsuc 0) ∷ [])
+row_left = general.row_left.selected
 
 -- `transformed_dyadic_reply`: the inverse over 16 is what reads back, so at (1, 0), which the row asks for, a number equal to -3 / 16
 row_reads : SixteenthsRead (transformed_selection row)
@@ -117,8 +108,7 @@ row_reads =
     (transformed_dyadic_reply row f2_lent (whole 9 ∷ []) row_left refl 4 sixteenths-diag sixteenths sixteenths-z row_dyadic sixteenths_matrix 16 sixteenths-inverse).1
 
 row_complete : (selected_answer (transformed_selection row)).status ≡ Complete
-unfolding any any_in sum_to picked select cell_count of_int of_bits ne reach member operator_pair
-row_complete = row_reads.complete.1 (lit≤ tt)
+row_complete = general.row_complete
 
 row_reads_below : (v : Float) × (sixteenths_found (transformed_selection row) 1 0 ≡ answered v) × Multiple 4 v (negsuc 2) × (negsuc 2 *ℤ pos 16 ≡ pos 16 *ℤ negsuc 2)
 unfolding any any_in sum_to picked select operator_pair

@@ -1,17 +1,14 @@
--- The variances of an operator's rows: what a call is handed, what it refuses in its order, what it answers and leaves.
+-- The variances of an operator's rows: what a call is handed, what it refuses in its order, what it answers and leaves. All is as of a call that gives the
+-- default limit.
 -- Assumes nothing.
-use Rattle.std.specs.Prelude.{ℕ, ◌≤◌, not, List, [], ◌∷◌, ◌++◌, eqb, length, Float}
-use Rattle.refusal.specs.Bounds.{output_steps}
+use Rattle.std.specs.Prelude.{ℕ, List, length, Float, Result}
 use Rattle.refusal.specs.Steps.{Step}
-use Rattle.refusal.specs.Groups.{grouped}
-use Rattle.columns.specs.Columns.{FactorLists, factor_lists, bound_steps}
-use Rattle.columns.specs.Stored.{stored_steps}
-use Rattle.columns.specs.Operator.{operator_rows, operator_bound_steps, operator_steps, OperatorRows}
-use Rattle.selection.specs.Selection.{Selection, selection, Lent, Room, room_of, default_limit, fill_steps, selected_table, Accepted}
-use Rattle.diagnostics.specs.declared.Selected.{Selected}
-use Rattle.request_marks.specs.OperatorRequests.{operator_requested}
-use Rattle.quadratic_form.specs.RowValue.{operator_values}
+use Rattle.columns.specs.Columns.{FactorLists, factor_lists}
+use Rattle.selection.specs.Selection.{Selection, Lent, Room, room_of, default_limit}
 use Rattle.operator_values.specs.Output.{SelectedOutput}
+use Rattle.refusal.specs.declared.Refusal.{Refusal}
+use Rattle.diagnostics.specs.declared.SelectedInverseDiagnostics.{SelectedInverseDiagnostics}
+use Rattle.operator_variances_with_limit.specs.Transformed as general
 
 -- what a call is handed to read: a factor and an operator of `ncols` columns, in factor order
 pub record TransformedCall : Type 0 where
@@ -31,43 +28,35 @@ transformed_call n starts rows values ncols row_starts columns weights = record 
   weights = weights;
 }
 
+-- the same call with the default limit
+abbrev pub with_default : TransformedCall → general.TransformedCall
+with_default x = record {
+  factor = x.factor;
+  ncols = x.ncols;
+  row_starts = x.row_starts;
+  columns = x.columns;
+  weights = x.weights;
+  limit = default_limit x.factor.rows;
+}
+
 module _ (x : TransformedCall) where
   -- the requests are all column pairs of each row, the limit is the default one
   abbrev pub transformed_selection : Selection
-  transformed_selection =
-      selection x.factor (operator_requested x.row_starts x.columns)
-      (default_limit x.factor.rows)
+  transformed_selection = general.transformed_selection (with_default x)
 
-  -- 4: the operator's columns are not n
-  abbrev pub column_count_steps : List Step
-  column_count_steps = (4, not (eqb x.ncols x.factor.n)) ∷ []
-
-  -- refusals 1 of the factor and of the operator; 2, 3, 18; 4; 9; 6, 7; 7 of an output of that length
-  abbrev pub transformed_groups : Room → ℕ → List (List Step)
-  transformed_groups lengths output =
-      (bound_steps x.factor.n (length x.factor.rows) ++ operator_bound_steps x.row_starts x.columns)
-      ∷ stored_steps x.factor
-      ∷ column_count_steps
-      ∷ operator_steps x.factor.n x.row_starts x.columns (length x.weights)
-      ∷ fill_steps x.factor (default_limit x.factor.rows) lengths
-      ∷ output_steps (operator_rows x.row_starts) output
-      ∷ []
-
-  unfoldable pub transformed_steps : Room → ℕ → List Step
-  transformed_steps lengths output = grouped (transformed_groups lengths output)
+  abbrev pub transformed_steps : Room → ℕ → List Step
+  transformed_steps = general.transformed_steps (with_default x)
 
   -- the rows' values
   abbrev pub transformed_values : List Float
-  transformed_values = operator_values x.row_starts x.columns x.weights (selected_table transformed_selection)
+  transformed_values = general.transformed_values (with_default x)
 
 -- the reply and the lists of a call; either status carries the diagnosis
-abbrev pub TransformedDiagonal : TransformedCall → Lent → List Float → Selected → Lent → List Float → Type 0
+abbrev pub TransformedDiagonal : TransformedCall → Lent → List Float → Result SelectedInverseDiagnostics Refusal → Lent → List Float → Type 0
 TransformedDiagonal x lent output = SelectedOutput (transformed_steps x (room_of lent) (length output)) (transformed_selection x) (transformed_values x) lent output
 
 -- ---- a call that passed
 
 -- what it has
-pub record AcceptedTransformed (x : TransformedCall) (lengths : Room) (output : ℕ) : Type 0 where
-  pub accepted : Accepted (transformed_selection x) lengths
-  pub operator : OperatorRows x.factor.n x.row_starts x.columns (length x.weights)
-  pub room : operator_rows x.row_starts ≤ output
+abbrev pub AcceptedTransformed : TransformedCall → Room → ℕ → Type 0
+AcceptedTransformed x = general.AcceptedTransformed (with_default x)

@@ -1,85 +1,16 @@
 // The variances of an operator's rows, after `selected_inverse_transformed_diag` of uncertainty.rs, the vector that its loop builds.
 #![tactic(auto)]
 
-ghost use Rattle.std.specs.Prelude.{◌≡◌, [], ◌∷◌, not, eqb};
-ghost use Rattle.refusal.specs.Steps.{verdict};
-ghost use Rattle.refusal.specs.Refusal.{reply_of};
-ghost use Rattle.selection.specs.Selection.{lists, room};
-ghost use Rattle.operator_variances.specs.Transformed.{transformed_call, transformed_steps, TransformedDiagonal};
+ghost use Rattle.selection.specs.Selection.{lists};
+ghost use Rattle.operator_variances.specs.Transformed.{transformed_call, TransformedDiagonal};
 
-use diagnostics::{Selected, SelectedInverseStatus};
-use factor_check::bounds::check_bounds;
-use factor_check::check_stored;
-use fill::fill_lists;
-use operator_check::{check_operator, check_operator_bounds, operator_rows};
-use operator_values::operator_values;
-use pair_places::scratch::clear_scratch;
-use refusal::{Checked, Refusal};
-use request_marks::operator::mark_operator_pairs;
-use selected_checks::{check_fill, default_limit};
-use verdicts::{check_output, first_of};
-
-// 4: the operator's columns are n.
-fn check_column_count(ncols: usize, n: usize) -> Checked
-    ensures { reply_of result ≡ verdict ((4, not (eqb ncols n)) ∷ []) }
-{
-    if ncols != n {
-        return Checked::Refused(Refusal::DimensionMismatch);
-    }
-    Checked::Accepted
-}
-
-// Refusals 1 to 7 and 18; the lists lent for writing are judged by their lengths.
-fn check_transformed(
-    n: usize,
-    starts: &[u32],
-    rows: &[u32],
-    values: &[f64],
-    ncols: usize,
-    row_starts: &[u32],
-    columns: &[u32],
-    weights: &[f64],
-    result_starts: usize,
-    result_rows: usize,
-    result_values: usize,
-    scratch: usize,
-    output: usize,
-) -> Checked
-    ensures { reply_of result ≡ verdict (transformed_steps
-        (transformed_call n starts.now rows.now values.now ncols row_starts.now columns.now weights.now)
-        (room result_starts result_rows result_values scratch) output) }
-{
-    let bounds = first_of(
-        check_bounds(n, rows.len()),
-        check_operator_bounds(row_starts, columns),
-    );
-    match bounds {
-        Checked::Refused(why) => Checked::Refused(why),
-        Checked::Accepted => match check_stored(n, starts, rows, values) {
-            Checked::Refused(why) => Checked::Refused(why),
-            Checked::Accepted => {
-                let count = check_column_count(ncols, n);
-                let operator = check_operator(n, row_starts, columns, weights.len());
-                let fill = check_fill(
-                    n,
-                    starts,
-                    rows,
-                    values,
-                    default_limit(rows.len()),
-                    result_starts,
-                    result_rows,
-                    result_values,
-                    scratch,
-                );
-                let last = first_of(fill, check_output(operator_rows(row_starts), output));
-                let later = first_of(operator, last);
-                first_of(count, later)
-            }
-        },
-    }
-}
+use diagnostics::SelectedInverseDiagnostics;
+use operator_variances_with_limit::selected_inverse_transformed_diag_with_limit;
+use refusal::{MAX_ENTRIES, Refusal};
+use selected_checks::default_limit;
 
 // The value of each row, if the closed set of all rows' pairs is within the default limit. The result lists are filled as by selected entries.
+// Above the bound on entries there is no limit to compute.
 pub fn selected_inverse_transformed_diag(
     n: usize,
     starts: &[u32],
@@ -94,13 +25,16 @@ pub fn selected_inverse_transformed_diag(
     result_values: &mut [f64],
     scratch: &mut [u32],
     output: &mut [f64],
-) -> Selected
+) -> Result<SelectedInverseDiagnostics, Refusal>
     ensures { TransformedDiagonal
         (transformed_call n starts.now rows.now values.now ncols row_starts.now columns.now weights.now)
         (lists result_starts.old result_rows.old result_values.old scratch.old) output.old result
         (lists result_starts.new result_rows.new result_values.new scratch.new) output.new }
 {
-    match check_transformed(
+    if MAX_ENTRIES < rows.len() {
+        return Err(Refusal::TooLarge);
+    }
+    selected_inverse_transformed_diag_with_limit(
         n,
         starts,
         rows,
@@ -109,48 +43,11 @@ pub fn selected_inverse_transformed_diag(
         row_starts,
         columns,
         weights,
-        result_starts.len(),
-        result_rows.len(),
-        result_values.len(),
-        scratch.len(),
-        output.len(),
-    ) {
-        Checked::Refused(why) => Selected::Refused(why),
-        Checked::Accepted => {
-            let requested_pairs = mark_operator_pairs(n, row_starts, columns, scratch);
-            let limit = default_limit(rows.len());
-            let diagnosis = fill_lists(
-                n,
-                starts,
-                rows,
-                values,
-                requested_pairs,
-                limit,
-                result_starts,
-                result_rows,
-                result_values,
-                scratch,
-            );
-            let status = diagnosis.status;
-            match status {
-                SelectedInverseStatus::ClosureTooLarge => {
-                    clear_scratch(n, scratch);
-                    return Selected::Answered(diagnosis);
-                }
-                SelectedInverseStatus::Complete => {
-                    operator_values(
-                        n,
-                        row_starts,
-                        columns,
-                        weights,
-                        scratch,
-                        result_values,
-                        output,
-                    );
-                    clear_scratch(n, scratch);
-                    Selected::Answered(diagnosis)
-                }
-            }
-        }
-    }
+        default_limit(rows.len()),
+        result_starts,
+        result_rows,
+        result_values,
+        scratch,
+        output,
+    )
 }

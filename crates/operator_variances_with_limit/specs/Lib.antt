@@ -1,4 +1,3 @@
 -- Operator variances: refusals, reply, lists and the exact case.
 pub mod Transformed
 pub mod ExactVariances
-pub mod Worked

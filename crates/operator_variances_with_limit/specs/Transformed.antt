@@ -1,6 +1,6 @@
 -- The variances of an operator's rows with a limit: what a call is handed, what it refuses in its order, what it answers and leaves.
 -- Assumes nothing.
-use Rattle.std.specs.Prelude.{ℕ, ◌≤◌, not, List, [], ◌∷◌, ◌++◌, eqb, length, Float}
+use Rattle.std.specs.Prelude.{ℕ, ◌≤◌, not, List, [], ◌∷◌, ◌++◌, eqb, length, Float, Result}
 use Rattle.std.proofs.Common.{ltb-false}
 use Rattle.refusal.specs.Bounds.{output_steps}
 use Rattle.refusal.specs.Steps.{Step, Passed}
@@ -14,11 +14,12 @@ use Rattle.columns.specs.Operator.{operator_rows, operator_bound_steps, operator
 use Rattle.columns.proofs.Operator.{operator_steps-sound}
 use Rattle.selection.specs.Selection.{Selection, selection, Lent, Room, room_of, fill_steps, selected_table, Accepted}
 use Rattle.selection.proofs.Call.{fill_accepted}
-use Rattle.diagnostics.specs.declared.Selected.{Selected}
 use Rattle.request_marks.specs.OperatorRequests.{operator_requested}
 use Rattle.request_marks.proofs.OperatorRequests.{operator_requested_ranged}
 use Rattle.quadratic_form.specs.RowValue.{operator_values}
 use Rattle.operator_values.specs.Output.{SelectedOutput}
+use Rattle.refusal.specs.declared.Refusal.{Refusal}
+use Rattle.diagnostics.specs.declared.SelectedInverseDiagnostics.{SelectedInverseDiagnostics}
 
 -- what a call is handed to read: a factor, an operator of `ncols` columns, in factor order, and a limit
 pub record TransformedCall : Type 0 where
@@ -68,7 +69,7 @@ module _ (x : TransformedCall) where
   transformed_values = operator_values x.row_starts x.columns x.weights (selected_table transformed_selection)
 
 -- the reply and the lists of a call; either status carries the diagnosis
-pub record TransformedDiagonal (x : TransformedCall) (lent : Lent) (output : List Float) (reply : Selected) (left : Lent) (out : List Float) : Type 0 where
+pub record TransformedDiagonal (x : TransformedCall) (lent : Lent) (output : List Float) (reply : Result SelectedInverseDiagnostics Refusal) (left : Lent) (out : List Float) : Type 0 where
   pub selected : SelectedOutput (transformed_steps x (room_of lent) (length output)) (transformed_selection x) (transformed_values x) lent output reply left out
 
 -- ---- a call that passed

@@ -1,82 +1,16 @@
 // The diagonal of the inverse in original order, after `selected_inverse_diag_with_diagnostics` of uncertainty.rs, before its finishing step.
 #![tactic(auto)]
 
-ghost use Rattle.std.specs.Prelude.{◌≡◌};
-ghost use Rattle.lists.specs.Overwrite.{overwrite};
-ghost use Rattle.refusal.specs.Steps.{verdict};
-ghost use Rattle.refusal.specs.Refusal.{reply_of};
-ghost use Rattle.selection.specs.Selection.{lists, room};
-ghost use Rattle.original_diagonal.specs.Original.{original_call, original_steps, OriginalDiagonal, WriteOriginalInput, first_entries};
+ghost use Rattle.selection.specs.Selection.{lists};
+ghost use Rattle.original_diagonal.specs.Original.{original_call, OriginalDiagonal};
 
-use diagnostics::{Selected, SelectedInverseStatus};
-use factor_check::check_factor;
-use fill::fill_entries;
-use permutation::order::check_order;
-use refusal::{Checked, Refusal};
-use request_marks::diagonals::mark_diagonals;
-use selected_checks::{check_fill, default_limit};
-use verdicts::{check_output, first_of};
-use words::at;
-
-// Refusals 1 to 7 and 18; the lists lent for writing are judged by their lengths.
-fn check_original(
-    n: usize,
-    starts: &[u32],
-    rows: &[u32],
-    values: &[f64],
-    orig_to_perm: &[u32],
-    result_starts: usize,
-    result_rows: usize,
-    result_values: usize,
-    scratch: usize,
-    output: usize,
-) -> Checked
-    ensures { reply_of result ≡ verdict (original_steps (original_call n starts.now rows.now values.now orig_to_perm.now)
-        (room result_starts result_rows result_values scratch) output) }
-{
-    match check_factor(n, starts, rows, values) {
-        Checked::Refused(why) => Checked::Refused(why),
-        Checked::Accepted => {
-            let order = check_order(n, orig_to_perm);
-            let fill = check_fill(
-                n,
-                starts,
-                rows,
-                values,
-                default_limit(rows.len()),
-                result_starts,
-                result_rows,
-                result_values,
-                scratch,
-            );
-            let later = first_of(fill, check_output(n, output));
-            first_of(order, later)
-        }
-    }
-}
-
-// Element i of the output is the first entry of column orig_to_perm[i], its diagonal.
-fn write_original(
-    n: usize,
-    orig_to_perm: &[u32],
-    result_starts: &[u32],
-    result_values: &[f64],
-    output: &mut [f64],
-)
-    requires { WriteOriginalInput n orig_to_perm.now result_starts.now result_values.now output.old }
-    ensures { output.new ≡ overwrite (first_entries n orig_to_perm.now result_starts.now result_values.now)
-        output.old }
-{
-    let mut i = 0;
-    while i < n {
-        let p = at(orig_to_perm, i);
-        let place = at(result_starts, p);
-        output[i] = result_values[place];
-        i += 1;
-    }
-}
+use diagnostics::SelectedInverseDiagnostics;
+use original_diagonal_with_limit::selected_inverse_diag_with_limit;
+use refusal::{MAX_ENTRIES, Refusal};
+use selected_checks::default_limit;
 
 // The diagonal in original order, if the closed set of all diagonals is within the default limit, else 8. The result lists are filled as by selected entries.
+// Above the bound on entries there is no limit to compute.
 pub fn selected_inverse_diag_with_diagnostics(
     n: usize,
     starts: &[u32],
@@ -88,48 +22,26 @@ pub fn selected_inverse_diag_with_diagnostics(
     result_values: &mut [f64],
     scratch: &mut [u32],
     output: &mut [f64],
-) -> Selected
+) -> Result<SelectedInverseDiagnostics, Refusal>
     ensures { OriginalDiagonal
         (original_call n starts.now rows.now values.now orig_to_perm.now)
         (lists result_starts.old result_rows.old result_values.old scratch.old) output.old result
         (lists result_starts.new result_rows.new result_values.new scratch.new) output.new }
 {
-    match check_original(
+    if MAX_ENTRIES < rows.len() {
+        return Err(Refusal::TooLarge);
+    }
+    selected_inverse_diag_with_limit(
         n,
         starts,
         rows,
         values,
         orig_to_perm,
-        result_starts.len(),
-        result_rows.len(),
-        result_values.len(),
-        scratch.len(),
-        output.len(),
-    ) {
-        Checked::Refused(why) => Selected::Refused(why),
-        Checked::Accepted => {
-            let requested_pairs = mark_diagonals(n, scratch);
-            let limit = default_limit(rows.len());
-            let diagnosis = fill_entries(
-                n,
-                starts,
-                rows,
-                values,
-                requested_pairs,
-                limit,
-                result_starts,
-                result_rows,
-                result_values,
-                scratch,
-            );
-            let status = diagnosis.status;
-            match status {
-                SelectedInverseStatus::ClosureTooLarge => Selected::Refused(Refusal::NotCovered),
-                SelectedInverseStatus::Complete => {
-                    write_original(n, orig_to_perm, result_starts, result_values, output);
-                    Selected::Answered(diagnosis)
-                }
-            }
-        }
-    }
+        default_limit(rows.len()),
+        result_starts,
+        result_rows,
+        result_values,
+        scratch,
+        output,
+    )
 }

@@ -29,11 +29,10 @@ use Rattle.diagnostics.specs.declared.SelectedInverseDiagnostics.{SelectedInvers
 use Rattle.selection.specs.Selection.{selected_pattern, Selection, Lent, room_of, selected_set, selected_size, selected_complete, selected_answer, selected_table, filling_of}
 use Rattle.selection.specs.Selection.{ResultLists}
 use Rattle.selection.proofs.Selection.{lists_refused, complete_starts, complete_values}
-use Rattle.diagnostics.specs.declared.Selected.TheVariants.{Answered, Refused}
 use Rattle.request_marks.proofs.DiagonalMarks.{diagonal_requested, diagonals_ranged}
-use Rattle.original_diagonal.specs.Original.{WriteOriginalInput, first_entries}
-use Rattle.original_diagonal_with_limit.specs.Original.{OriginalCall, original_selection, original_steps, factor_diagonal, OriginalDiagonal}
+use Rattle.original_diagonal_with_limit.specs.Original.{OriginalCall, original_selection, original_steps, factor_diagonal, OriginalDiagonal, WriteOriginalInput, first_entries}
 use Rattle.original_diagonal_with_limit.specs.Original.{AcceptedOriginal, original_inside}
+use Rattle.std.specs.Prelude.{Ok, Err}
 
 module _ (x : OriginalCall) (lent : Lent) (output : List Float) where
   abbrev steps : List Step
@@ -47,7 +46,7 @@ module _ (x : OriginalCall) (lent : Lent) (output : List Float) where
 
   -- ---- refused
   pub original_refused : {why : Refusal} → verdict steps ≡ refused (refusal_number why)
-      → OriginalDiagonal x lent output (Refused why) lent output
+      → OriginalDiagonal x lent output (Err why) lent output
   original_refused e = record {
     replies = sym (append-refused steps eight _ (selected_answer sel) e);
     lists_are = lists_refused steps (filling_of sel) lent e;
@@ -56,7 +55,7 @@ module _ (x : OriginalCall) (lent : Lent) (output : List Float) where
 
   module _ (passed : Passed steps) {left : Lent} (L : ResultLists steps (filling_of sel) lent left) where
     -- ---- the set is beyond the limit
-    pub original_large : selected_complete sel ≡ false → OriginalDiagonal x lent output (Refused NotCovered) left output
+    pub original_large : selected_complete sel ≡ false → OriginalDiagonal x lent output (Err NotCovered) left output
     original_large large = record {
       replies = sym (append_passed steps eight (selected_answer sel) passed ∙ first_hit 8 [] (selected_answer sel) (ap not large));
       lists_are = L;
@@ -138,7 +137,7 @@ module _ (x : OriginalCall) (lent : Lent) (output : List Float) where
           ∙ ap (tabulate (λ i. get_or (factor_diagonal x) (index x.perm i) nan)) (sym A.long)
 
       pub original_done : {d : SelectedInverseDiagnostics} {out : List Float} → d ≡ selected_answer sel → out ≡ overwrite (first_entries x.factor.n x.perm left.result_starts left.result_values) output
-          → OriginalDiagonal x lent output (Answered d) left out
+          → OriginalDiagonal x lent output (Ok d) left out
       original_done {d} {out} e w = record {
         replies = ap (λ (y : SelectedInverseDiagnostics). answered y) e ∙ sym (first_passed (steps ++ eight) (selected_answer sel) all);
         lists_are = L;

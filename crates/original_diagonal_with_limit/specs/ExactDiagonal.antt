@@ -1,6 +1,6 @@
 -- The exact case of the diagonal in original order with a limit, in whole numbers and beyond unit diagonals: output i is the exact variance of original cell i.
 -- Assumes nothing.
-use Rattle.std.specs.Prelude.{ℕ, ◌^◌, ◌≤◌, ◌<◌, ◌≡◌, not, List, [], ◌∷◌, ◌++◌, length, get_or, ℤ, pos, ◌*ℤ◌, Float}
+use Rattle.std.specs.Prelude.{ℕ, ◌^◌, ◌≤◌, ◌<◌, ◌≡◌, not, List, [], ◌∷◌, ◌++◌, length, get_or, ℤ, pos, ◌*ℤ◌, Float, Result}
 use Rattle.std.proofs.Common.{arith, sym, ap, subst, ◌∙◌, le-leb, leb-true}
 use Rattle.std.specs.Float.{nan}
 use Rattle.std.proofs.lemmas.Bool.{lt-leb, not-false}
@@ -20,8 +20,6 @@ use Rattle.factor_order.specs.Permutation.{index, reordered}
 use Rattle.factor_order.proofs.Laws.{reordered-length, reordered_at}
 use Rattle.diagnostics.specs.declared.SelectedInverseDiagnostics.{SelectedInverseDiagnostics}
 use Rattle.diagnostics.specs.declared.SelectedInverseStatus.TheVariants.{Complete}
-use Rattle.diagnostics.specs.declared.Selected.{Selected}
-use Rattle.diagnostics.specs.Selected.{selected_reply_of}
 use Rattle.selection.specs.Selection.{Lent, room_of, selected_size, selected_complete, selected_answer, selected_table, ResultLists, filling_of}
 use Rattle.selection.proofs.Status.{selected_complete_lem}
 use Rattle.exact_entries.specs.Recurrence.{InClosedSet}
@@ -32,6 +30,8 @@ use Rattle.exact_entries.proofs.ExactEntries.{exact_entries, exact_at}
 use Rattle.request_marks.proofs.DiagonalMarks.{diagonal_requested}
 use Rattle.original_diagonal_with_limit.specs.Original.{OriginalCall, original_selection, original_steps, covered_steps, factor_diagonal, original_after}
 use Rattle.original_diagonal_with_limit.specs.Original.{OriginalDiagonal, AcceptedOriginal, original_accepted, original_inside}
+use Rattle.refusal.specs.declared.Refusal.{Refusal}
+use Rattle.refusal.specs.Refusal.{reply_of}
 
 -- X is what reads back, and its diagonal in original order what the output holds
 pub record OriginalExact (x : OriginalCall) (left : Lent) (out : List Float) (X : Matrix) : Type 0 where
@@ -91,7 +91,7 @@ module _ (x : OriginalCall) (lent : Lent) (output : List Float) (passed : Passed
   }
 
 -- ---- of a reply
-module _ (x : OriginalCall) (lent : Lent) (output : List Float) {reply : Selected} {left : Lent} {out : List Float}
+module _ (x : OriginalCall) (lent : Lent) (output : List Float) {reply : Result SelectedInverseDiagnostics Refusal} {left : Lent} {out : List Float}
     (C : OriginalDiagonal x lent output reply left out) where
   abbrev checks : List Step
   checks = original_steps x (room_of lent) (length output)
@@ -101,19 +101,19 @@ module _ (x : OriginalCall) (lent : Lent) (output : List Float) {reply : Selecte
 
   module _ (passed : Passed checks) where
     -- past the checks, a set within the limit is answered with the diagnosis
-    pub within_reply : selected_size (original_selection x) ≤ x.limit → selected_reply_of reply ≡ answered (selected_answer (original_selection x))
+    pub within_reply : selected_size (original_selection x) ≤ x.limit → reply_of reply ≡ answered (selected_answer (original_selection x))
     within_reply h =
         C.replies
         ∙ first_passed (checks ++ eight) (selected_answer (original_selection x)) (passed_append checks eight passed (clear_passed eight (ap not (le-leb _ _ h), tt)))
 
     -- any other is refused with 8
-    pub beyond-reply : x.limit < selected_size (original_selection x) → selected_reply_of reply ≡ refused 8
+    pub beyond-reply : x.limit < selected_size (original_selection x) → reply_of reply ≡ refused 8
     beyond-reply h =
         C.replies
         ∙ append_passed checks eight (selected_answer (original_selection x)) passed
         ∙ first_hit 8 [] (selected_answer (original_selection x)) (ap not (lt-leb (selected_size (original_selection x)) x.limit h))
 
-  module _ {d : SelectedInverseDiagnostics} (answer : selected_reply_of reply ≡ answered d) where
+  module _ {d : SelectedInverseDiagnostics} (answer : reply_of reply ≡ answered d) where
     all : Passed (checks ++ eight)
     all = told_passed (checks ++ eight) (selected_answer (original_selection x)) (sym answer ∙ C.replies)
 

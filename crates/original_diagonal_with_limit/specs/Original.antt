@@ -1,6 +1,6 @@
 -- The diagonal of the inverse in original order with a limit: what a call is handed, what it refuses in its order, what it answers and leaves.
 -- Assumes nothing.
-use Rattle.std.specs.Prelude.{ℕ, ◌≤◌, ◌<◌, ◌≡◌, not, List, [], ◌∷◌, ◌++◌, eqb, length, Float}
+use Rattle.std.specs.Prelude.{ℕ, ◌≤◌, ◌<◌, ◌≡◌, not, List, [], ◌∷◌, ◌++◌, eqb, length, get_or, Float, Result}
 use Rattle.std.proofs.Common.{arith, ltb-false, eqb-true}
 use Rattle.std.specs.Float.{nan}
 use Rattle.std.proofs.lemmas.Bool.{not-false}
@@ -20,10 +20,10 @@ use Rattle.diagnostics.specs.declared.SelectedInverseDiagnostics.{SelectedInvers
 use Rattle.selection.specs.Selection.{Selection, selection, Lent, Room, room_of, fill_steps, selected_complete, selected_answer, selected_table, Accepted, filling_of}
 use Rattle.selection.specs.Selection.{ResultLists}
 use Rattle.selection.proofs.Call.{fill_accepted}
-use Rattle.diagnostics.specs.declared.Selected.{Selected}
-use Rattle.diagnostics.specs.Selected.{selected_reply_of}
 use Rattle.request_marks.specs.DiagonalMarks.{diagonal_pairs}
 use Rattle.request_marks.proofs.DiagonalMarks.{diagonals_ranged}
+use Rattle.refusal.specs.declared.Refusal.{Refusal}
+use Rattle.refusal.specs.Refusal.{reply_of}
 
 -- what a call is handed to read: a factor, a permutation, orig_to_perm, and a limit
 pub record OriginalCall : Type 0 where
@@ -70,10 +70,22 @@ module _ (x : OriginalCall) where
       after (covered_steps (room_of lent) (length output)) (overwrite (reordered nan x.perm factor_diagonal) output) output
 
 -- the reply and the lists of a call
-pub record OriginalDiagonal (x : OriginalCall) (lent : Lent) (output : List Float) (reply : Selected) (left : Lent) (out : List Float) : Type 0 where
-  pub replies : selected_reply_of reply ≡ original_reply x lent (length output)
+pub record OriginalDiagonal (x : OriginalCall) (lent : Lent) (output : List Float) (reply : Result SelectedInverseDiagnostics Refusal) (left : Lent) (out : List Float) : Type 0 where
+  pub replies : reply_of reply ≡ original_reply x lent (length output)
   pub lists_are : ResultLists (original_steps x (room_of lent) (length output)) (filling_of (original_selection x)) lent left
   pub output_is : out ≡ original_after x lent output
+
+-- ---- the first entry of each column, in original order
+
+-- what is read: a list of starts and one of values at those places
+pub record WriteOriginalInput (n : ℕ) (perm starts : List ℕ) (values output : List Float) : Type 0 where
+  pub long : length perm ≡ n
+  pub room : n ≤ length output
+  pub columns : (i : ℕ) → i < n → index perm i < length starts
+  pub places : (i : ℕ) → i < n → index starts (index perm i) < length values
+
+abbrev pub first_entries : ℕ → List ℕ → List ℕ → List Float → List Float
+first_entries n perm starts values = tabulate (λ i. get_or values (index starts (index perm i)) nan) n
 
 -- ---- a call that passed
 

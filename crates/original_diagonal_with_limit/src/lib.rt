@@ -1,4 +1,5 @@
-// The diagonal of the inverse in original order with a limit that the caller gives, else as crate original_diagonal has it.
+// The diagonal of the inverse in original order with a limit that the caller gives, else after `selected_inverse_diag_with_diagnostics` of uncertainty.rs, before its
+// finishing step.
 #![tactic(auto)]
 
 ghost use Rattle.std.specs.Prelude.{◌≡◌};
@@ -6,17 +7,16 @@ ghost use Rattle.lists.specs.Overwrite.{overwrite};
 ghost use Rattle.refusal.specs.Steps.{verdict};
 ghost use Rattle.refusal.specs.Refusal.{reply_of};
 ghost use Rattle.selection.specs.Selection.{lists, room};
-ghost use Rattle.original_diagonal.specs.Original.{WriteOriginalInput, first_entries};
-ghost use Rattle.original_diagonal_with_limit.specs.Original.{original_call, original_steps, OriginalDiagonal};
+ghost use Rattle.original_diagonal_with_limit.specs.Original.{original_call, original_steps, OriginalDiagonal, WriteOriginalInput, first_entries};
 
-use diagnostics::{Selected, SelectedInverseStatus};
+use diagnostics::{SelectedInverseDiagnostics, SelectedInverseStatus};
 use factor_check::check_factor;
 use fill::fill_entries;
 use permutation::order::check_order;
-use refusal::{Checked, Refusal};
+use refusal::Refusal;
 use request_marks::diagonals::mark_diagonals;
 use selected_checks::check_fill;
-use verdicts::{check_output, first_of};
+use verdicts::check_output;
 use words::at;
 
 // Refusals 1 to 7 and 18; the lists lent for writing are judged by their lengths.
@@ -32,29 +32,24 @@ fn check_original(
     result_values: usize,
     scratch: usize,
     output: usize,
-) -> Checked
+) -> Result<(), Refusal>
     ensures { reply_of result ≡ verdict (original_steps (original_call n starts.now rows.now values.now orig_to_perm.now limit)
         (room result_starts result_rows result_values scratch) output) }
 {
-    match check_factor(n, starts, rows, values) {
-        Checked::Refused(why) => Checked::Refused(why),
-        Checked::Accepted => {
-            let order = check_order(n, orig_to_perm);
-            let fill = check_fill(
-                n,
-                starts,
-                rows,
-                values,
-                limit,
-                result_starts,
-                result_rows,
-                result_values,
-                scratch,
-            );
-            let later = first_of(fill, check_output(n, output));
-            first_of(order, later)
-        }
-    }
+    check_factor(n, starts, rows, values)?;
+    check_order(n, orig_to_perm)?;
+    check_fill(
+        n,
+        starts,
+        rows,
+        values,
+        limit,
+        result_starts,
+        result_rows,
+        result_values,
+        scratch,
+    )?;
+    check_output(n, output)
 }
 
 // Element i of the output is the first entry of column orig_to_perm[i], its diagonal.
@@ -69,12 +64,10 @@ fn write_original(
     ensures { output.new ≡ overwrite (first_entries n orig_to_perm.now result_starts.now result_values.now)
         output.old }
 {
-    let mut i = 0;
-    while i < n {
+    for i in 0..n {
         let p = at(orig_to_perm, i);
         let place = at(result_starts, p);
         output[i] = result_values[place];
-        i += 1;
     }
 }
 
@@ -91,13 +84,13 @@ pub fn selected_inverse_diag_with_limit(
     result_values: &mut [f64],
     scratch: &mut [u32],
     output: &mut [f64],
-) -> Selected
+) -> Result<SelectedInverseDiagnostics, Refusal>
     ensures { OriginalDiagonal
         (original_call n starts.now rows.now values.now orig_to_perm.now limit)
         (lists result_starts.old result_rows.old result_values.old scratch.old) output.old result
         (lists result_starts.new result_rows.new result_values.new scratch.new) output.new }
 {
-    match check_original(
+    check_original(
         n,
         starts,
         rows,
@@ -109,30 +102,27 @@ pub fn selected_inverse_diag_with_limit(
         result_values.len(),
         scratch.len(),
         output.len(),
-    ) {
-        Checked::Refused(why) => Selected::Refused(why),
-        Checked::Accepted => {
-            let requested_pairs = mark_diagonals(n, scratch);
-            let diagnosis = fill_entries(
-                n,
-                starts,
-                rows,
-                values,
-                requested_pairs,
-                limit,
-                result_starts,
-                result_rows,
-                result_values,
-                scratch,
-            );
-            let status = diagnosis.status;
-            match status {
-                SelectedInverseStatus::ClosureTooLarge => Selected::Refused(Refusal::NotCovered),
-                SelectedInverseStatus::Complete => {
-                    write_original(n, orig_to_perm, result_starts, result_values, output);
-                    Selected::Answered(diagnosis)
-                }
-            }
+    )?;
+    let requested_pairs = mark_diagonals(n, scratch);
+    let diagnosis = fill_entries(
+        n,
+        starts,
+        rows,
+        values,
+        None,
+        requested_pairs,
+        limit,
+        result_starts,
+        result_rows,
+        result_values,
+        scratch,
+    );
+    let status = diagnosis.status;
+    match status {
+        SelectedInverseStatus::ClosureTooLarge => Err(Refusal::NotCovered),
+        SelectedInverseStatus::Complete => {
+            write_original(n, orig_to_perm, result_starts, result_values, output);
+            Ok(diagnosis)
         }
     }
 }

@@ -12,13 +12,12 @@ use Rattle.refusal.specs.Refusal.{refusal_number}
 use Rattle.refusal.specs.declared.Refusal.{Refusal}
 use Rattle.pairs.specs.Pair.{pair_count, pair_rows, pair_columns}
 use Rattle.pattern_lists.specs.ListedMarks.{pair_output_steps}
-use Rattle.pattern_lists.specs.declared.listed.PatternPairs.{PatternPairs}
-use Rattle.pattern_lists.specs.declared.listed.PatternPairs.TheVariants.{Refused}
 use Rattle.pattern_lists.specs.PatternLists.{scratch_step, PatternLists}
+use Rattle.std.specs.Prelude.{Err, Result}
 
 module _ (checks : List Step) (n : ℕ) (S : ℕ → ℕ → Bool) (scratch rows columns : List ℕ) where
   -- the input is refused: nothing is touched
-  pub lists_refused : (why : Refusal) → verdict checks ≡ refused (refusal_number why) → PatternLists checks n S (Refused why) scratch rows columns scratch rows columns
+  pub lists_refused : (why : Refusal) → verdict checks ≡ refused (refusal_number why) → PatternLists checks n S (Err why) scratch rows columns scratch rows columns
   lists_refused why e =
       let whole = append-refused checks (scratch_step n (length scratch) ∷ pair_output_steps (pair_count n S) (length rows) (length columns)) (refusal_number why) tt e in
       record {
@@ -29,7 +28,7 @@ module _ (checks : List Step) (n : ℕ) (S : ℕ → ℕ → Bool) (scratch rows
       }
 
   -- the input passes
-  pub lists_passed : {reply : PatternPairs} {scratch' rows' columns' : List ℕ} → Passed checks → PatternLists [] n S reply scratch rows columns scratch' rows' columns' → PatternLists checks n S reply scratch rows columns scratch' rows' columns'
+  pub lists_passed : {reply : Result ℕ Refusal} {scratch' rows' columns' : List ℕ} → Passed checks → PatternLists [] n S reply scratch rows columns scratch' rows' columns' → PatternLists checks n S reply scratch rows columns scratch' rows' columns'
   unfolding after
   lists_passed p L = record {
     replies = L.replies ∙ sym (append_passed checks _ (pair_count n S) p);

@@ -19,9 +19,9 @@ use Rattle.pairs.proofs.Pair.{pair_count_cong, pair_rows_cong, pair_columns_cong
 use Rattle.pairs.specs.Marks.{Added, marking}
 use Rattle.pairs.proofs.Marks.{marking_none, pair_marked}
 use Rattle.pattern_lists.specs.ListedMarks.{pair_output_steps, ListedMarks}
-use Rattle.pattern_lists.specs.declared.listed.PatternPairs.{PatternPairs}
-use Rattle.pattern_lists.specs.declared.listed.PatternPairs.TheVariants.{Refused}
 use Rattle.pattern_lists.specs.PatternLists.{pattern_words, scratch_step, PatternLists}
+use Rattle.std.specs.Prelude.{Err, Result}
+use Rattle.refusal.specs.declared.Refusal.{Refusal}
 
 -- all words cleared: no pair is marked
 pub cleared_zero : (s s' : List ℕ) → s' ≡ cleared (length s) s → (p : ℕ) → p < length s' → get_or s' p 0 ≡ 0
@@ -31,7 +31,7 @@ cleared_zero s s' e p l =
 
 -- marks cleared, the pairs of a set marked, and the marked pairs listed: the pairs of the set are listed
 module _ (n : ℕ) (S T : ℕ → ℕ → Bool) (agree : (r c : ℕ) → c ≤ r → r < n → T r c ≡ S r c) (marks rows columns : List ℕ) (all : length marks ≡ mark_words n) where
-  pub listed_set : {reply : PatternPairs} {clean marked left rows' columns' : List ℕ} → clean ≡ cleared (length marks) marks → Added T clean marked
+  pub listed_set : {reply : Result ℕ Refusal} {clean marked left rows' columns' : List ℕ} → clean ≡ cleared (length marks) marks → Added T clean marked
       → ListedMarks n (marking marked) reply marked rows columns left rows' columns' → ListedMarks n S reply marks rows columns left rows' columns'
   listed_set {reply} {clean} {marked} {left} {rows'} {columns'} c A L =
       let long : length clean ≡ length marks = ap length c ∙ filled-length (λ _. 0) (length marks) marks (omega arith) in
@@ -66,7 +66,7 @@ cleared_front m s h =
 
 module _ (n : ℕ) (S : ℕ → ℕ → Bool) (scratch rows columns : List ℕ) where
   -- 7: the scratch is below the marks' words
-  pub scratch_short : length scratch < pattern_words n → PatternLists [] n S (Refused TooShort) scratch rows columns scratch rows columns
+  pub scratch_short : length scratch < pattern_words n → PatternLists [] n S (Err TooShort) scratch rows columns scratch rows columns
   scratch_short h =
       let t = lt-ltb (length scratch) (pattern_words n) h in
       let whole = first_hit 7 (pair_output_steps (pair_count n S) (length rows) (length columns)) tt t in
@@ -78,7 +78,7 @@ module _ (n : ℕ) (S : ℕ → ℕ → Bool) (scratch rows columns : List ℕ) 
       }
 
   -- the marks are the scratch's first words
-  pub scratch_part : {reply : PatternPairs} {part left scratch' rows' columns' : List ℕ} → pattern_words n ≤ length scratch → part ≡ take (pattern_words n) scratch → scratch' ≡ left ++ drop (pattern_words n) scratch
+  pub scratch_part : {reply : Result ℕ Refusal} {part left scratch' rows' columns' : List ℕ} → pattern_words n ≤ length scratch → part ≡ take (pattern_words n) scratch → scratch' ≡ left ++ drop (pattern_words n) scratch
       → ListedMarks n S reply part rows columns left rows' columns' → PatternLists [] n S reply scratch rows columns scratch' rows' columns'
   unfolding after
   scratch_part {reply} {part} h p q L =

@@ -7,7 +7,6 @@ use Rattle.std.proofs.lemmas.Bool.{lt-leb}
 use Rattle.lists.specs.Test.{any, any_in, any_none, any_next, any-hit, any_found, any_in_none, any_in_next, any_in-hit, any_in_found, and_left, and_right, and_both, same_truth}
 use Rattle.refusal.specs.Bounds.{max_dimension}
 use Rattle.pairs.specs.Scratch.{mark_words}
-use Rattle.pairs.specs.Pair.{ordered}
 use Rattle.pairs.proofs.Pair.{ordered_is, is_ordered}
 use Rattle.pairs.specs.Marks.{Added, single}
 use Rattle.pairs.proofs.Marks.{pair_marked, added_none, added_also, added_agree}

@@ -16,21 +16,23 @@ ghost use Rattle.columns.specs.OperatorPair.{operator_pair};
 ghost use Rattle.pattern_lists.specs.PatternLists.{PatternLists};
 ghost use Rattle.pattern_lists.specs.PatternCalls.{operator_checks};
 
-use listed::PatternPairs;
 use listing::{factor_lists, operator_lists};
-use refusal::{Checked, MAX_DIMENSION, Refusal};
+use refusal::{MAX_DIMENSION, Refusal};
 
 // 1 and 9 of an operator of `ncols` columns.
-fn check_operator(ncols: usize, row_starts: &[u32], columns: &[u32], weights: usize) -> Checked
+fn check_operator(
+    ncols: usize,
+    row_starts: &[u32],
+    columns: &[u32],
+    weights: usize,
+) -> Result<(), Refusal>
     ensures { reply_of result ≡ verdict (operator_checks ncols row_starts.now columns.now weights) }
 {
     if MAX_DIMENSION < ncols {
-        return Checked::Refused(Refusal::TooLarge);
+        return Err(Refusal::TooLarge);
     }
-    match operator_check::check_operator_bounds(row_starts, columns) {
-        Checked::Refused(why) => Checked::Refused(why),
-        Checked::Accepted => operator_check::check_operator(ncols, row_starts, columns, weights),
-    }
+    operator_check::check_operator_bounds(row_starts, columns)?;
+    operator_check::check_operator(ncols, row_starts, columns, weights)
 }
 
 // The pairs of a factor's kept entries, ascending by row then column.
@@ -42,23 +44,13 @@ pub fn from_cholesky_factor(
     scratch: &mut [u32],
     pair_rows: &mut [u32],
     pair_columns: &mut [u32],
-) -> PatternPairs
+) -> Result<usize, Refusal>
     ensures { PatternLists (factor_steps (factor_lists n starts.now rows.now values.now)) n
         (kept_pair starts.now rows.now (nonzero values.now)) result
         scratch.old pair_rows.old pair_columns.old scratch.new pair_rows.new pair_columns.new }
 {
-    match factor_check::check_factor(n, starts, rows, values) {
-        Checked::Refused(why) => PatternPairs::Refused(why),
-        Checked::Accepted => factor_lists(
-            n,
-            starts,
-            rows,
-            values,
-            scratch,
-            pair_rows,
-            pair_columns,
-        ),
-    }
+    factor_check::check_factor(n, starts, rows, values)?;
+    factor_lists(n, starts, rows, values, scratch, pair_rows, pair_columns)
 }
 
 // The pairs of columns of each row of an operator, ascending by row then column.
@@ -70,20 +62,11 @@ pub fn from_transformed_operator(
     scratch: &mut [u32],
     pair_rows: &mut [u32],
     pair_columns: &mut [u32],
-) -> PatternPairs
+) -> Result<usize, Refusal>
     ensures { PatternLists (operator_checks ncols row_starts.now columns.now (length weights.now)) ncols
         (operator_pair row_starts.now columns.now) result
         scratch.old pair_rows.old pair_columns.old scratch.new pair_rows.new pair_columns.new }
 {
-    match check_operator(ncols, row_starts, columns, weights.len()) {
-        Checked::Refused(why) => PatternPairs::Refused(why),
-        Checked::Accepted => operator_lists(
-            ncols,
-            row_starts,
-            columns,
-            scratch,
-            pair_rows,
-            pair_columns,
-        ),
-    }
+    check_operator(ncols, row_starts, columns, weights.len())?;
+    operator_lists(ncols, row_starts, columns, scratch, pair_rows, pair_columns)
 }

@@ -10,33 +10,26 @@ use pair_places::pair_total;
 use refusal::Refusal;
 use words::clear;
 
-// How many pairs are listed, or why none is.
-#[derive(Clone, Copy)]
-pub enum PatternPairs {
-    Listed(usize),
-    Refused(Refusal),
-}
-
 // Lists the marked pairs if there is room for them, and clears the marks.
 pub fn list_marked(
     n: usize,
     marks: &mut [u32],
     rows: &mut [u32],
     columns: &mut [u32],
-) -> PatternPairs
+) -> Result<usize, Refusal>
     requires { (n ≤ max_dimension) × (length marks.old ≡ mark_words n) }
     ensures { ListedMarks n (marking marks.old) result marks.old rows.old columns.old marks.new rows.new columns.new }
 {
     let count = count_marks(marks, pair_total(n));
     if rows.len() < count {
         clear(marks, marks.len());
-        return PatternPairs::Refused(Refusal::TooShort);
+        return Err(Refusal::TooShort);
     }
     if columns.len() < count {
         clear(marks, marks.len()); // also when an output is short
-        return PatternPairs::Refused(Refusal::TooShort);
+        return Err(Refusal::TooShort);
     }
     let listed = list_pairs(n, marks, rows, columns);
     clear(marks, marks.len()); // the marks end 0
-    PatternPairs::Listed(listed)
+    Ok(listed)
 }

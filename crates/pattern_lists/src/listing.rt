@@ -9,7 +9,7 @@ ghost use Rattle.columns.specs.OperatorPair.{operator_pair};
 ghost use Rattle.pattern_lists.specs.ListedMarks.{ListedMarks};
 ghost use Rattle.pattern_lists.specs.PatternLists.{PatternLists};
 
-use super::listed::{PatternPairs, list_marked};
+use super::listed::list_marked;
 use super::marking::{mark_factor, mark_operator};
 use pair_places::scratch::mark_words;
 use refusal::Refusal;
@@ -24,7 +24,7 @@ fn list_factor(
     marks: &mut [u32],
     pair_rows: &mut [u32],
     pair_columns: &mut [u32],
-) -> PatternPairs
+) -> Result<usize, Refusal>
     requires factor { Factor n starts.now rows.now (length values.now) }
     requires n_le_max_dimension { (n ≤ max_dimension) × (length marks.old ≡ mark_words n) }
     ensures { ListedMarks n (kept_pair starts.now rows.now (nonzero values.now)) result
@@ -43,7 +43,7 @@ fn list_operator(
     marks: &mut [u32],
     pair_rows: &mut [u32],
     pair_columns: &mut [u32],
-) -> PatternPairs
+) -> Result<usize, Refusal>
     requires operator_rows { OperatorRows n row_starts.now columns.now (length columns.now) }
     requires n_le_max_dimension { (n ≤ max_dimension) × (length marks.old ≡ mark_words n) }
     ensures { ListedMarks n (operator_pair row_starts.now columns.now) result
@@ -63,7 +63,7 @@ pub fn factor_lists(
     scratch: &mut [u32],
     pair_rows: &mut [u32],
     pair_columns: &mut [u32],
-) -> PatternPairs
+) -> Result<usize, Refusal>
     requires factor { Factor n starts.now rows.now (length values.now) }
     requires n_le_max_dimension { n ≤ max_dimension }
     ensures { PatternLists [] n (kept_pair starts.now rows.now (nonzero values.now)) result
@@ -71,7 +71,7 @@ pub fn factor_lists(
 {
     let words = mark_words(n);
     if scratch.len() < words {
-        return PatternPairs::Refused(Refusal::TooShort);
+        return Err(Refusal::TooShort);
     }
     list_factor(
         n,
@@ -92,7 +92,7 @@ pub fn operator_lists(
     scratch: &mut [u32],
     pair_rows: &mut [u32],
     pair_columns: &mut [u32],
-) -> PatternPairs
+) -> Result<usize, Refusal>
     requires operator_rows { OperatorRows n row_starts.now columns.now (length columns.now) }
     requires n_le_max_dimension { n ≤ max_dimension }
     ensures { PatternLists [] n (operator_pair row_starts.now columns.now) result
@@ -100,7 +100,7 @@ pub fn operator_lists(
 {
     let words = mark_words(n);
     if scratch.len() < words {
-        return PatternPairs::Refused(Refusal::TooShort);
+        return Err(Refusal::TooShort);
     }
     list_operator(
         n,

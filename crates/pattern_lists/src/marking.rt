@@ -32,10 +32,8 @@ fn mark_column(c: usize, rows: &[u32], values: &[f64], s: usize, e: usize, marks
     requires { MarkColumnInput c rows.now (length values.now) s e marks.old }
     ensures { Added (column_set rows.now (nonzero values.now) c s e) marks.old marks.new }
 {
-    let mut p = s;
-    while p < e {
+    for p in s..e {
         mark_entry(c, rows, values, p, marks);
-        p += 1;
     }
 }
 
@@ -45,10 +43,8 @@ pub fn mark_factor(n: usize, starts: &[u32], rows: &[u32], values: &[f64], marks
     requires n_le_max_dimension { (n ≤ max_dimension) × (length marks.old ≡ mark_words n) }
     ensures { Added (columns_set starts.now rows.now (nonzero values.now) n) marks.old marks.new }
 {
-    let mut c = 0;
-    while c < n {
+    for c in 0..n {
         mark_column(c, rows, values, at(starts, c), at(starts, c + 1), marks);
-        c += 1;
     }
 }
 
@@ -70,10 +66,8 @@ fn mark_terms(columns: &[u32], s: usize, a: usize, marks: &mut [u32])
     ensures { Added (terms_set columns.now s a) marks.old marks.new }
 {
     let x = at(columns, a);
-    let mut b = s;
-    while b <= a {
+    for b in s..a + 1 {
         mark_ordered(x, at(columns, b), marks);
-        b += 1;
     }
 }
 
@@ -82,10 +76,8 @@ fn mark_row(columns: &[u32], s: usize, e: usize, marks: &mut [u32])
     requires { MarkTermsInput columns.now s e marks.old }
     ensures { Added (row_set columns.now s e) marks.old marks.new }
 {
-    let mut a = s;
-    while a < e {
+    for a in s..e {
         mark_terms(columns, s, a, marks);
-        a += 1;
     }
 }
 
@@ -96,9 +88,7 @@ pub fn mark_operator(n: usize, row_starts: &[u32], columns: &[u32], marks: &mut 
     ensures { Added (rows_set row_starts.now columns.now (operator_rows row_starts.now)) marks.old marks.new }
 {
     let last = operator_check::operator_rows(row_starts);
-    let mut i = 0;
-    while i < last {
+    for i in 0..last {
         mark_row(columns, at(row_starts, i), at(row_starts, i + 1), marks);
-        i += 1;
     }
 }

@@ -57,12 +57,7 @@ fn repeat_row(r: usize, s: usize, e: usize, rows: &mut [u32])
     requires { (r ≤ max_dimension) × (s ≤ e) × (e ≤ length rows.old) }
     ensures { rows.new ≡ splice s (tabulate (λ _. r) (e - s)) rows.old }
 {
-    let row = r as u32;
-    let mut k = s;
-    while k < e {
-        rows[k] = row;
-        k += 1;
-    }
+    rows[s..e].fill(r as u32);
 }
 
 // A word, not before that of `place`, up to which the words from there on are 0: w as before where it is such a word.
@@ -119,12 +114,10 @@ pub fn list_pairs(n: usize, marks: &[u32], rows: &mut [u32], columns: &mut [u32]
     let mut count = 0;
     let mut place = 0;
     let mut w = 0;
-    let mut r = 0;
-    while r < n {
+    for r in 0..n {
         w = marked_word(place, w, marks);
         count = list_row(r, place, w, count, marks, rows, columns);
         place += r + 1;
-        r += 1;
     }
     count
 }

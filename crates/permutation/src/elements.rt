@@ -5,7 +5,7 @@ ghost use Rattle.refusal.specs.Steps.{verdict, each};
 ghost use Rattle.refusal.specs.Refusal.{reply_of};
 ghost use Rattle.factor_order.specs.Permutation.{index, element_steps};
 
-use refusal::{Checked, MAX_DIMENSION, Refusal};
+use refusal::{MAX_DIMENSION, Refusal};
 use words::at;
 
 // Whether the other list is compared and does not lead from p back to i.
@@ -20,27 +20,29 @@ fn disagrees(compared: bool, perm_to_orig: &[u32], p: usize, i: usize) -> bool
 }
 
 // Element by element, the first fault: 10, 11 and, where the other list is compared, 12. What was seen is in a local array.
-pub fn check_elements(orig_to_perm: &[u32], perm_to_orig: &[u32], compared: bool) -> Checked
+pub fn check_elements(
+    orig_to_perm: &[u32],
+    perm_to_orig: &[u32],
+    compared: bool,
+) -> Result<(), Refusal>
     requires orig_to_perm_len_bound { length orig_to_perm.now ≤ max_dimension }
     requires orig_to_perm_in_bounds { compared ≡ true → length orig_to_perm.now ≤ length perm_to_orig.now }
     ensures { reply_of result ≡ verdict (each (element_steps compared orig_to_perm.now perm_to_orig.now) (length orig_to_perm.now)) }
 {
     let n = orig_to_perm.len();
     let mut seen = [false; MAX_DIMENSION];
-    let mut i = 0;
-    while i < n {
-        let p = at(orig_to_perm, i);
+    for (i, place) in orig_to_perm.iter().enumerate() {
+        let p = *place as usize;
         if n <= p {
-            return Checked::Refused(Refusal::IndexTooLarge);
+            return Err(Refusal::IndexTooLarge);
         }
         if seen[p] {
-            return Checked::Refused(Refusal::DuplicateEntry);
+            return Err(Refusal::DuplicateEntry);
         }
         if disagrees(compared, perm_to_orig, p, i) {
-            return Checked::Refused(Refusal::NotInverse);
+            return Err(Refusal::NotInverse);
         }
         seen[p] = true;
-        i += 1;
     }
-    Checked::Accepted
+    Ok(())
 }

@@ -4,19 +4,14 @@ ghost use Rattle.lists.specs.Overwrite.{overwrite};
 ghost use Rattle.refusal.specs.Bounds.{max_dimension};
 ghost use Rattle.factor_order.specs.Permutation.{inverse_of, Permutation};
 
-use words::at;
-
 // Stores each original index at its place.
 pub fn invert(orig_to_perm: &[u32], perm_to_orig: &mut [u32])
     requires permutation { Permutation orig_to_perm.now }
     requires orig_to_perm_len_bound { (length orig_to_perm.now ≤ max_dimension) × (length orig_to_perm.now ≤ length perm_to_orig.old) }
     ensures { perm_to_orig.new ≡ overwrite (inverse_of orig_to_perm.now) perm_to_orig.old }
 {
-    let count = orig_to_perm.len();
-    let mut i = 0;
-    while i < count {
-        let p = at(orig_to_perm, i);
+    for (i, place) in orig_to_perm.iter().enumerate() {
+        let p = *place as usize;
         perm_to_orig[p] = i as u32;
-        i += 1;
     }
 }

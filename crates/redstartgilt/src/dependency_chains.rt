@@ -1,9 +1,9 @@
 // The chain to a pair of the closed set.
-ghost use Rattle.dependency_chain.specs.Reply.{chain_reply};
 ghost use Rattle.dependency_chain.specs.Chain.{chain_call, ChainListed};
 ghost use Rattle.c_replies.specs.Numbers.{pair_numbers, Shows};
+ghost use Rattle.refusal.specs.Refusal.{reply_of};
 
-use c_replies::{PairNumbers, chain_numbers};
+use c_replies::PairNumbers;
 use dependency_chain::dependency_chain;
 
 // The chain from a requested pair to a pair of the closed set.
@@ -22,12 +22,12 @@ pub extern "C" fn redstartgilt_dependency_chain(
     chain_rows: &mut [u32],
     chain_columns: &mut [u32],
 ) -> PairNumbers
-    ensures { Shows (λ d. pair_numbers (chain_reply d)) (λ d. ChainListed
+    ensures { Shows (λ d. pair_numbers (reply_of d)) (λ d. ChainListed
         (chain_call n starts.now rows.now values.now dimension request_rows.now request_columns.now row column)
-        scratch.old chain_rows.old chain_columns.old (chain_reply d)
+        scratch.old chain_rows.old chain_columns.old (reply_of d)
         scratch.new chain_rows.new chain_columns.new) result }
 {
-    chain_numbers(dependency_chain(
+    PairNumbers::from(dependency_chain(
         n,
         starts,
         rows,

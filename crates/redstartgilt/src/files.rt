@@ -1,9 +1,10 @@
 // Request files.
-ghost use Rattle.requests_reader.specs.Reader.{read_reply, RequestsRead};
-ghost use Rattle.requests_writer.specs.Writer.{written_reply, RequestsWritten};
+ghost use Rattle.requests_reader.specs.Reader.{RequestsRead};
+ghost use Rattle.requests_writer.specs.Writer.{RequestsWritten};
 ghost use Rattle.c_replies.specs.Numbers.{requests_numbers, bytes_numbers, Shows};
+ghost use Rattle.refusal.specs.Refusal.{reply_of};
 
-use c_replies::{BytesNumbers, RequestsNumbers, bytes_numbers, requests_numbers};
+use c_replies::{BytesNumbers, RequestsNumbers};
 
 // Requests from a Matrix Market file.
 #[unsafe(no_mangle)]
@@ -12,10 +13,10 @@ pub extern "C" fn redstartgilt_read_requests(
     rows: &mut [u32],
     columns: &mut [u32],
 ) -> RequestsNumbers
-    ensures { Shows (λ d. requests_numbers (read_reply d)) (λ d. RequestsRead
+    ensures { Shows (λ d. requests_numbers (reply_of d)) (λ d. RequestsRead
         text.now rows.old columns.old d rows.new columns.new) result }
 {
-    requests_numbers(requests_reader::read_requests(text, rows, columns))
+    RequestsNumbers::from(requests_reader::read_requests(text, rows, columns))
 }
 
 // Requests as a Matrix Market file.
@@ -27,8 +28,8 @@ pub extern "C" fn redstartgilt_write_requests(
     output: &mut [u8],
     scratch: &mut [u32],
 ) -> BytesNumbers
-    ensures { Shows (λ d. bytes_numbers (written_reply d)) (λ d. RequestsWritten dimension
+    ensures { Shows (λ d. bytes_numbers (reply_of d)) (λ d. RequestsWritten dimension
         rows.now columns.now output.old scratch.old d output.new scratch.new) result }
 {
-    bytes_numbers(requests_writer::write_requests(dimension, rows, columns, output, scratch))
+    BytesNumbers::from(requests_writer::write_requests(dimension, rows, columns, output, scratch))
 }

@@ -1,11 +1,11 @@
 // Selected entries of a factor given as L, D, L transposed.
 ghost use Rattle.selection.specs.Selection.{lists, default_limit};
 ghost use Rattle.selection.specs.LdlCall.{ldl_call};
-ghost use Rattle.diagnostics.specs.Selected.{selected_reply_of};
 ghost use Rattle.ldl_entries.specs.LdlEntries.{LdlEntries};
 ghost use Rattle.c_replies.specs.Numbers.{selected_numbers, Shows};
+ghost use Rattle.refusal.specs.Refusal.{reply_of};
 
-use c_replies::{SelectedNumbers, selected_numbers};
+use c_replies::SelectedNumbers;
 
 // Selected entries of L.D.Lᵀ with a limit.
 #[unsafe(no_mangle)]
@@ -24,13 +24,13 @@ pub extern "C" fn redstartgilt_selected_inverse_entries_ldl_with_limit(
     result_values: &mut [f64],
     scratch: &mut [u32],
 ) -> SelectedNumbers
-    ensures { Shows (λ d. selected_numbers (selected_reply_of d)) (λ d. LdlEntries
+    ensures { Shows (λ d. selected_numbers (reply_of d)) (λ d. LdlEntries
         (ldl_call n starts.now rows.now values.now pivots.now dimension request_rows.now
         request_columns.now limit)
         (lists result_starts.old result_rows.old result_values.old scratch.old) d
         (lists result_starts.new result_rows.new result_values.new scratch.new)) result }
 {
-    selected_numbers(ldl_entries::selected_inverse_entries_ldl_with_limit(
+    SelectedNumbers::from(ldl_entries::selected_inverse_entries_ldl_with_limit(
         n,
         starts,
         rows,
@@ -63,13 +63,13 @@ pub extern "C" fn redstartgilt_selected_inverse_entries_ldl(
     result_values: &mut [f64],
     scratch: &mut [u32],
 ) -> SelectedNumbers
-    ensures { Shows (λ d. selected_numbers (selected_reply_of d)) (λ d. LdlEntries
+    ensures { Shows (λ d. selected_numbers (reply_of d)) (λ d. LdlEntries
         (ldl_call n starts.now rows.now values.now pivots.now dimension request_rows.now
         request_columns.now (default_limit rows.now))
         (lists result_starts.old result_rows.old result_values.old scratch.old) d
         (lists result_starts.new result_rows.new result_values.new scratch.new)) result }
 {
-    selected_numbers(ldl_entries::selected_inverse_entries_ldl(
+    SelectedNumbers::from(ldl_entries::selected_inverse_entries_ldl(
         n,
         starts,
         rows,

@@ -6,10 +6,10 @@ ghost use Rattle.columns.specs.Kept.{nonzero, kept_pair};
 ghost use Rattle.columns.specs.OperatorPair.{operator_pair};
 ghost use Rattle.pattern_lists.specs.PatternLists.{PatternLists};
 ghost use Rattle.pattern_lists.specs.PatternCalls.{operator_checks};
-ghost use Rattle.pattern_lists.specs.ListedMarks.{list_reply};
 ghost use Rattle.c_replies.specs.Numbers.{pair_numbers, Shows};
+ghost use Rattle.refusal.specs.Refusal.{reply_of};
 
-use c_replies::{PairNumbers, pair_numbers};
+use c_replies::PairNumbers;
 
 // The pattern of a factor.
 #[unsafe(no_mangle)]
@@ -22,11 +22,11 @@ pub extern "C" fn redstartgilt_from_cholesky_factor(
     pair_rows: &mut [u32],
     pair_columns: &mut [u32],
 ) -> PairNumbers
-    ensures { Shows (λ d. pair_numbers (list_reply d)) (λ d. PatternLists (factor_steps (factor_lists n starts.now rows.now values.now)) n
+    ensures { Shows (λ d. pair_numbers (reply_of d)) (λ d. PatternLists (factor_steps (factor_lists n starts.now rows.now values.now)) n
         (kept_pair starts.now rows.now (nonzero values.now)) d
         scratch.old pair_rows.old pair_columns.old scratch.new pair_rows.new pair_columns.new) result }
 {
-    pair_numbers(pattern_lists::from_cholesky_factor(
+    PairNumbers::from(pattern_lists::from_cholesky_factor(
         n,
         starts,
         rows,
@@ -48,11 +48,11 @@ pub extern "C" fn redstartgilt_from_transformed_operator(
     pair_rows: &mut [u32],
     pair_columns: &mut [u32],
 ) -> PairNumbers
-    ensures { Shows (λ d. pair_numbers (list_reply d)) (λ d. PatternLists (operator_checks ncols row_starts.now columns.now (length weights.now)) ncols
+    ensures { Shows (λ d. pair_numbers (reply_of d)) (λ d. PatternLists (operator_checks ncols row_starts.now columns.now (length weights.now)) ncols
         (operator_pair row_starts.now columns.now) d
         scratch.old pair_rows.old pair_columns.old scratch.new pair_rows.new pair_columns.new) result }
 {
-    pair_numbers(pattern_lists::from_transformed_operator(
+    PairNumbers::from(pattern_lists::from_transformed_operator(
         ncols,
         row_starts,
         columns,

@@ -9,7 +9,7 @@ ghost use Rattle.lookup.specs.DiagonalList.{DiagonalsListed};
 ghost use Rattle.verdicts.specs.Number.{checked_number, reply_number};
 ghost use Rattle.c_replies.specs.Numbers.{entry_numbers, counted_numbers, Shows};
 
-use c_replies::{CountedNumbers, EntryNumbers, counted_numbers, entry_numbers};
+use c_replies::{CountedNumbers, EntryNumbers};
 use column_search::result_check::check_result;
 use lookup::well_formed::get_well_formed;
 use verdicts::checked_number;
@@ -25,7 +25,7 @@ pub extern "C" fn redstartgilt_get(
 ) -> EntryNumbers
     ensures { result ≡ entry_numbers (lookup starts.now rows.now values.now row column) }
 {
-    entry_numbers(lookup::get(starts, rows, values, row, column))
+    EntryNumbers::from(lookup::get(starts, rows, values, row, column))
 }
 
 // The same, and how many places the column search looked at.
@@ -40,7 +40,7 @@ pub extern "C" fn redstartgilt_get_counted(
     ensures { result ≡ counted_numbers (lookup starts.now rows.now values.now row column)
         (lookup_looks starts.now rows.now (length values.now) row column) }
 {
-    counted_numbers(lookup::get_counted(starts, rows, values, row, column))
+    CountedNumbers::from(lookup::get_counted(starts, rows, values, row, column))
 }
 
 // Whether a result is well formed.
@@ -62,7 +62,7 @@ pub extern "C" fn redstartgilt_get_well_formed(
 ) -> EntryNumbers
     ensures { result ≡ entry_numbers (lookup_within starts.now rows.now values.now row column) }
 {
-    entry_numbers(get_well_formed(starts, rows, values, row, column))
+    EntryNumbers::from(get_well_formed(starts, rows, values, row, column))
 }
 
 // The diagonal list of a result, and the marks of the diagonals that it covers.

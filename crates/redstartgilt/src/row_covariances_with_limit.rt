@@ -1,11 +1,10 @@
 // The covariances of row pairs of two operators, with a limit that the caller gives.
 ghost use Rattle.selection.specs.Selection.{lists};
-ghost use Rattle.diagnostics.specs.Selected.{selected_reply_of};
-ghost use Rattle.covariances.specs.Covariances.{operator};
-ghost use Rattle.covariances_with_limit.specs.Covariances.{covariance_call, Covariances};
+ghost use Rattle.covariances_with_limit.specs.Covariances.{operator, covariance_call, Covariances};
 ghost use Rattle.c_replies.specs.Numbers.{selected_numbers, Shows};
+ghost use Rattle.refusal.specs.Refusal.{reply_of};
 
-use c_replies::{SelectedNumbers, selected_numbers};
+use c_replies::SelectedNumbers;
 
 // The covariances, with a limit.
 #[unsafe(no_mangle)]
@@ -31,7 +30,7 @@ pub extern "C" fn redstartgilt_selected_inverse_transformed_covariances_with_lim
     scratch: &mut [u32],
     output: &mut [f64],
 ) -> SelectedNumbers
-    ensures { Shows (λ d. selected_numbers (selected_reply_of d)) (λ d. Covariances
+    ensures { Shows (λ d. selected_numbers (reply_of d)) (λ d. Covariances
         (covariance_call n starts.now rows.now values.now
         (operator a_ncols a_row_starts.now a_columns.now a_weights.now)
         (operator b_ncols b_row_starts.now b_columns.now b_weights.now)
@@ -39,7 +38,7 @@ pub extern "C" fn redstartgilt_selected_inverse_transformed_covariances_with_lim
         (lists result_starts.old result_rows.old result_values.old scratch.old) output.old d
         (lists result_starts.new result_rows.new result_values.new scratch.new) output.new) result }
 {
-    selected_numbers(
+    SelectedNumbers::from(
         covariances_with_limit::selected_inverse_transformed_covariances_with_limit(
             n,
             starts,

@@ -1,14 +1,14 @@
 // Calls that fill result lists.
 ghost use Rattle.selection.specs.Selection.{lists, default_limit};
 ghost use Rattle.selection.specs.Call.{call};
-ghost use Rattle.diagnostics.specs.Selected.{selected_reply_of};
 ghost use Rattle.selected.specs.Selected.{SelectedEntries};
 ghost use Rattle.original_diagonal.specs.Original.{original_call, OriginalDiagonal};
 ghost use Rattle.operator_variances.specs.Transformed.{transformed_call, TransformedDiagonal};
 ghost use Rattle.covariances.specs.Covariances.{operator, covariance_call, Covariances};
 ghost use Rattle.c_replies.specs.Numbers.{selected_numbers, Shows};
+ghost use Rattle.refusal.specs.Refusal.{reply_of};
 
-use c_replies::{SelectedNumbers, selected_numbers};
+use c_replies::SelectedNumbers;
 
 // Selected entries with a limit.
 #[unsafe(no_mangle)]
@@ -26,12 +26,12 @@ pub extern "C" fn redstartgilt_selected_inverse_entries_with_limit(
     result_values: &mut [f64],
     scratch: &mut [u32],
 ) -> SelectedNumbers
-    ensures { Shows (λ d. selected_numbers (selected_reply_of d)) (λ d. SelectedEntries
+    ensures { Shows (λ d. selected_numbers (reply_of d)) (λ d. SelectedEntries
         (call n starts.now rows.now values.now dimension request_rows.now request_columns.now limit)
         (lists result_starts.old result_rows.old result_values.old scratch.old) d
         (lists result_starts.new result_rows.new result_values.new scratch.new)) result }
 {
-    selected_numbers(selected::selected_inverse_entries_with_limit(
+    SelectedNumbers::from(selected::selected_inverse_entries_with_limit(
         n,
         starts,
         rows,
@@ -62,12 +62,12 @@ pub extern "C" fn redstartgilt_selected_inverse_entries(
     result_values: &mut [f64],
     scratch: &mut [u32],
 ) -> SelectedNumbers
-    ensures { Shows (λ d. selected_numbers (selected_reply_of d)) (λ d. SelectedEntries
+    ensures { Shows (λ d. selected_numbers (reply_of d)) (λ d. SelectedEntries
         (call n starts.now rows.now values.now dimension request_rows.now request_columns.now (default_limit rows.now))
         (lists result_starts.old result_rows.old result_values.old scratch.old) d
         (lists result_starts.new result_rows.new result_values.new scratch.new)) result }
 {
-    selected_numbers(selected::selected_inverse_entries(
+    SelectedNumbers::from(selected::selected_inverse_entries(
         n,
         starts,
         rows,
@@ -96,12 +96,12 @@ pub extern "C" fn redstartgilt_selected_inverse_diag_with_diagnostics(
     scratch: &mut [u32],
     output: &mut [f64],
 ) -> SelectedNumbers
-    ensures { Shows (λ d. selected_numbers (selected_reply_of d)) (λ d. OriginalDiagonal
+    ensures { Shows (λ d. selected_numbers (reply_of d)) (λ d. OriginalDiagonal
         (original_call n starts.now rows.now values.now orig_to_perm.now)
         (lists result_starts.old result_rows.old result_values.old scratch.old) output.old d
         (lists result_starts.new result_rows.new result_values.new scratch.new) output.new) result }
 {
-    selected_numbers(original_diagonal::selected_inverse_diag_with_diagnostics(
+    SelectedNumbers::from(original_diagonal::selected_inverse_diag_with_diagnostics(
         n,
         starts,
         rows,
@@ -132,12 +132,12 @@ pub extern "C" fn redstartgilt_selected_inverse_transformed_diag(
     scratch: &mut [u32],
     output: &mut [f64],
 ) -> SelectedNumbers
-    ensures { Shows (λ d. selected_numbers (selected_reply_of d)) (λ d. TransformedDiagonal
+    ensures { Shows (λ d. selected_numbers (reply_of d)) (λ d. TransformedDiagonal
         (transformed_call n starts.now rows.now values.now ncols row_starts.now columns.now weights.now)
         (lists result_starts.old result_rows.old result_values.old scratch.old) output.old d
         (lists result_starts.new result_rows.new result_values.new scratch.new) output.new) result }
 {
-    selected_numbers(operator_variances::selected_inverse_transformed_diag(
+    SelectedNumbers::from(operator_variances::selected_inverse_transformed_diag(
         n,
         starts,
         rows,
@@ -177,7 +177,7 @@ pub extern "C" fn redstartgilt_selected_inverse_transformed_covariances(
     scratch: &mut [u32],
     output: &mut [f64],
 ) -> SelectedNumbers
-    ensures { Shows (λ d. selected_numbers (selected_reply_of d)) (λ d. Covariances
+    ensures { Shows (λ d. selected_numbers (reply_of d)) (λ d. Covariances
         (covariance_call n starts.now rows.now values.now
         (operator a_ncols a_row_starts.now a_columns.now a_weights.now)
         (operator b_ncols b_row_starts.now b_columns.now b_weights.now)
@@ -185,7 +185,7 @@ pub extern "C" fn redstartgilt_selected_inverse_transformed_covariances(
         (lists result_starts.old result_rows.old result_values.old scratch.old) output.old d
         (lists result_starts.new result_rows.new result_values.new scratch.new) output.new) result }
 {
-    selected_numbers(covariances::selected_inverse_transformed_covariances(
+    SelectedNumbers::from(covariances::selected_inverse_transformed_covariances(
         n,
         starts,
         rows,

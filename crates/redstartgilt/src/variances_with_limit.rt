@@ -1,11 +1,11 @@
 // The diagonal in original order, and the variances of an operator's rows, with a limit that the caller gives.
 ghost use Rattle.selection.specs.Selection.{lists};
-ghost use Rattle.diagnostics.specs.Selected.{selected_reply_of};
 ghost use Rattle.original_diagonal_with_limit.specs.Original.{original_call, OriginalDiagonal};
 ghost use Rattle.operator_variances_with_limit.specs.Transformed.{transformed_call, TransformedDiagonal};
 ghost use Rattle.c_replies.specs.Numbers.{selected_numbers, Shows};
+ghost use Rattle.refusal.specs.Refusal.{reply_of};
 
-use c_replies::{SelectedNumbers, selected_numbers};
+use c_replies::SelectedNumbers;
 
 // The diagonal in original order, with a limit.
 #[unsafe(no_mangle)]
@@ -22,12 +22,12 @@ pub extern "C" fn redstartgilt_selected_inverse_diag_with_limit(
     scratch: &mut [u32],
     output: &mut [f64],
 ) -> SelectedNumbers
-    ensures { Shows (λ d. selected_numbers (selected_reply_of d)) (λ d. OriginalDiagonal
+    ensures { Shows (λ d. selected_numbers (reply_of d)) (λ d. OriginalDiagonal
         (original_call n starts.now rows.now values.now orig_to_perm.now limit)
         (lists result_starts.old result_rows.old result_values.old scratch.old) output.old d
         (lists result_starts.new result_rows.new result_values.new scratch.new) output.new) result }
 {
-    selected_numbers(
+    SelectedNumbers::from(
         original_diagonal_with_limit::selected_inverse_diag_with_limit(
             n,
             starts,
@@ -62,12 +62,12 @@ pub extern "C" fn redstartgilt_selected_inverse_transformed_diag_with_limit(
     scratch: &mut [u32],
     output: &mut [f64],
 ) -> SelectedNumbers
-    ensures { Shows (λ d. selected_numbers (selected_reply_of d)) (λ d. TransformedDiagonal
+    ensures { Shows (λ d. selected_numbers (reply_of d)) (λ d. TransformedDiagonal
         (transformed_call n starts.now rows.now values.now ncols row_starts.now columns.now weights.now limit)
         (lists result_starts.old result_rows.old result_values.old scratch.old) output.old d
         (lists result_starts.new result_rows.new result_values.new scratch.new) output.new) result }
 {
-    selected_numbers(
+    SelectedNumbers::from(
         operator_variances_with_limit::selected_inverse_transformed_diag_with_limit(
             n,
             starts,

@@ -7,7 +7,7 @@ ghost use Rattle.track_variances.specs.Track.{VariancesAlong};
 ghost use Rattle.verdicts.specs.Number.{checked_number};
 ghost use Rattle.c_replies.specs.Numbers.{bounds_numbers, Shows};
 
-use c_replies::{BoundsNumbers, bounds_numbers};
+use c_replies::BoundsNumbers;
 use verdicts::checked_number;
 
 // The low and the high bound on the variance of a row whose weights are known within ranges.
@@ -24,7 +24,9 @@ pub extern "C" fn redstartgilt_variance_bounds_whole(
         (range_steps starts.now rows.now values.now columns.now lows.now highs.now)
         (range_bounds starts.now rows.now values.now columns.now lows.now highs.now)) }
 {
-    bounds_numbers(weight_ranges::variance_bounds_whole(starts, rows, values, columns, lows, highs))
+    BoundsNumbers::from(weight_ranges::variance_bounds_whole(
+        starts, rows, values, columns, lows, highs,
+    ))
 }
 
 // The variance of each run of consecutive cells along a track.

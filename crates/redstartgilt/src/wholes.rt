@@ -4,12 +4,12 @@ ghost use Rattle.refusal.specs.Steps.{verdict};
 ghost use Rattle.columns.specs.Columns.{bound_steps, column_steps};
 ghost use Rattle.result.specs.Lookup.{lookup_of};
 ghost use Rattle.selection.specs.Selection.{default_limit};
-ghost use Rattle.diagnostics.specs.Selected.{selected_reply_of};
 ghost use Rattle.whole_selection.specs.Call.{whole_call, whole_lent, WholeEntries};
 ghost use Rattle.verdicts.specs.Number.{reply_number};
 ghost use Rattle.c_replies.specs.Numbers.{selected_numbers, whole_entry_numbers, Shows};
+ghost use Rattle.refusal.specs.Refusal.{reply_of};
 
-use c_replies::{SelectedNumbers, WholeEntryNumbers, selected_numbers, whole_entry_numbers};
+use c_replies::{SelectedNumbers, WholeEntryNumbers};
 use lookup::whole::get_whole;
 use verdicts::checked_number;
 use whole_entries::checks::check_whole_factor;
@@ -31,12 +31,12 @@ pub extern "C" fn redstartgilt_selected_inverse_entries_whole_with_limit(
     scratch: &mut [u32],
     work: &mut [i64],
 ) -> SelectedNumbers
-    ensures { Shows (λ d. selected_numbers (selected_reply_of d)) (λ d. WholeEntries
+    ensures { Shows (λ d. selected_numbers (reply_of d)) (λ d. WholeEntries
         (whole_call n starts.now rows.now values.now dimension request_rows.now request_columns.now limit)
         (whole_lent result_starts.old result_rows.old result_values.old scratch.old work.old) d
         (whole_lent result_starts.new result_rows.new result_values.new scratch.new work.new)) result }
 {
-    selected_numbers(whole_entries::selected_inverse_entries_whole_with_limit(
+    SelectedNumbers::from(whole_entries::selected_inverse_entries_whole_with_limit(
         n,
         starts,
         rows,
@@ -69,13 +69,13 @@ pub extern "C" fn redstartgilt_selected_inverse_entries_whole(
     scratch: &mut [u32],
     work: &mut [i64],
 ) -> SelectedNumbers
-    ensures { Shows (λ d. selected_numbers (selected_reply_of d)) (λ d. WholeEntries
+    ensures { Shows (λ d. selected_numbers (reply_of d)) (λ d. WholeEntries
         (whole_call n starts.now rows.now values.now dimension request_rows.now request_columns.now
         (default_limit rows.now))
         (whole_lent result_starts.old result_rows.old result_values.old scratch.old work.old) d
         (whole_lent result_starts.new result_rows.new result_values.new scratch.new work.new)) result }
 {
-    selected_numbers(whole_entries::selected_inverse_entries_whole(
+    SelectedNumbers::from(whole_entries::selected_inverse_entries_whole(
         n,
         starts,
         rows,
@@ -116,5 +116,5 @@ pub extern "C" fn redstartgilt_get_whole(
 ) -> WholeEntryNumbers
     ensures { result ≡ whole_entry_numbers (lookup_of (pos 0) starts.now rows.now values.now row column) }
 {
-    whole_entry_numbers(get_whole(starts, rows, values, row, column))
+    WholeEntryNumbers::from(get_whole(starts, rows, values, row, column))
 }

@@ -1,4 +1,5 @@
 pub mod FirstOf
 pub mod Groups
+pub mod Returned
 pub mod Steps
 pub mod Told

@@ -1,11 +1,9 @@
--- The documents' number of each refusal, and a check's answer as a reply.
+-- The documents' number of each refusal, and a call's answer as a reply.
 -- Assumes nothing.
-use Rattle.std.specs.Prelude.{ℕ}
+use Rattle.std.specs.Prelude.{ℕ, Result, Ok, Err}
 use Rattle.refusal.specs.Steps.{Reply, refused, answered}
 use Rattle.refusal.specs.declared.Refusal.{Refusal}
 use Rattle.refusal.specs.declared.Refusal.TheVariants.{TooLarge, BrokenStarts, BrokenRows, DimensionMismatch, RequestOutOfRange, NonPositiveDefinite, TooShort, NotCovered, BrokenOperator, IndexTooLarge, DuplicateEntry, NotInverse, NotFinite, BadScale, OtherHeader, MalformedFile, FileIndexOutside, NotFiniteEntry, DiagonalNotOne, NumberTooLarge, BadWeights, BadWidth, PivotDiagonalNotOne, NoRequests}
-use Rattle.refusal.specs.declared.Checked.{Checked}
-use Rattle.refusal.specs.declared.Checked.TheVariants.{Accepted, Refused}
 
 -- the documents' number of a refusal
 abbrev pub refusal_number : Refusal → ℕ
@@ -34,7 +32,7 @@ refusal_number BadWidth = 22
 refusal_number PivotDiagonalNotOne = 23
 refusal_number NoRequests = 24
 
--- the reply of a check: accepted, or a refusal's number
-abbrev pub reply_of : Checked → Reply (Unit {0})
-reply_of Accepted = answered tt
-reply_of (Refused r) = refused (refusal_number r)
+-- the reply of a call: its answer, or its refusal's number
+abbrev pub reply_of : {A : Type 0} → Result A Refusal → Reply A
+reply_of (Ok a) = answered a
+reply_of (Err r) = refused (refusal_number r)

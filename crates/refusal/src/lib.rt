@@ -1,4 +1,4 @@
-// The refusals of documents 01 and 02, and the answer of a call that has nothing else to say.
+// The refusals of documents 01 and 02: the errors of every call.
 #![tactic(auto)]
 
 // Why a call is refused; `refusal_number` of specs/Refusal.antt gives the documents' number of each.
@@ -28,13 +28,6 @@ pub enum Refusal {
     BadWidth,
     PivotDiagonalNotOne,
     NoRequests,
-}
-
-// Accepted, or why not.
-#[derive(Clone, Copy)]
-pub enum Checked {
-    Accepted,
-    Refused(Refusal),
 }
 
 // The bounds of refusal 1: on a dimension, and on stored entries, requests and terms.

@@ -1,50 +1,50 @@
 // The cases of a text, one after another.
-ghost use Rattle.std.specs.Prelude.{◌≤◌, length, IfOk};
+ghost use Rattle.std.specs.Prelude.{◌<◌, ◌≤◌, length, IfOk, MatchOption, ⊤};
 
-use super::floors::of_floors;
-use super::permutations::of_permutations;
-use answer_text::{put, put_part};
-use case_text::{begins, skip_blanks, skip_to, skip_word};
-use replay_entries::of_entries;
-use replay_files::of_files;
-use replay_lookups::of_lookups;
-use replay_patterns::of_patterns;
-use replay_variances::of_variances;
-use replay_whole::of_whole;
-use replay_whole_results::of_whole_results;
+use super::floors::{least_value, stabilization};
+use super::permutations::{application, inversion, marked_application, validation};
+use answer_text::put;
+use case_text::{skip_blanks, skip_to, skip_word};
+use replay_entries::{entries, ldl};
+use replay_files::{reading, writing};
+use replay_lookups::searches::searches;
+use replay_lookups::{diagonals, lookups};
+use replay_patterns::chain_cases::chains;
+use replay_patterns::{factor_pattern, operator_pattern};
+use replay_variances::{covariances, operator_variances, original_diagonal};
+use replay_whole::{whole_entries, whole_lookups};
+use replay_whole_results::{bounds, track};
 use std::io;
 use std::io::Write;
 
-// The call of the kind that is named at `name`, and its answer.
-fn call(out: &mut impl Write, text: &[u8], name: usize) -> io::Result<()> {
-    if of_entries(out, text, name)? {
-        return Ok(());
+// The call of the kind that the line names, and its answer.
+fn call(out: &mut impl Write, text: &[u8], line: &[u8]) -> io::Result<()> {
+    match line {
+        b"entries\n" => entries(out, text),
+        b"ldl\n" => ldl(out, text),
+        b"wentries\n" => whole_entries(out, text),
+        b"wget\n" => whole_lookups(out, text),
+        b"bounds\n" => bounds(out, text),
+        b"track\n" => track(out, text),
+        b"diagorig\n" => original_diagonal(out, text),
+        b"opvar\n" => operator_variances(out, text),
+        b"covar\n" => covariances(out, text),
+        b"get\n" => lookups(out, text),
+        b"diag\n" => diagonals(out, text),
+        b"search\n" => searches(out, text),
+        b"patfactor\n" => factor_pattern(out, text),
+        b"patoperator\n" => operator_pattern(out, text),
+        b"chain\n" => chains(out, text),
+        b"permvalidate\n" => validation(out, text),
+        b"permfrom\n" => inversion(out, text),
+        b"permapply\n" => application(out, text),
+        b"permmarked\n" => marked_application(out, text),
+        b"floor\n" => stabilization(out, text),
+        b"least\n" => least_value(out, text),
+        b"mmread\n" => reading(out, text),
+        b"mmwrite\n" => writing(out, text),
+        _ => put(out, b"unknown kind\n"),
     }
-    if of_whole(out, text, name)? {
-        return Ok(());
-    }
-    if of_whole_results(out, text, name)? {
-        return Ok(());
-    }
-    if of_variances(out, text, name)? {
-        return Ok(());
-    }
-    if of_lookups(out, text, name)? {
-        return Ok(());
-    }
-    if of_patterns(out, text, name)? {
-        return Ok(());
-    }
-    if of_permutations(out, text, name)? {
-        return Ok(());
-    }
-    if of_floors(out, text, name)? {
-        return Ok(());
-    }
-    if of_files(out, text, name)? {
-        return Ok(());
-    }
-    put(out, b"unknown kind\n")
 }
 
 // A case: its first line as it stands, the answer, and its last line.
@@ -52,27 +52,24 @@ fn case(out: &mut impl Write, text: &[u8]) -> io::Result<()> {
     let name = skip_to(text, 0, b"case ");
     let kind = skip_blanks(text, skip_word(text, name));
     put(out, b"case ")?;
-    put_part(out, text, name, skip_word(text, kind))?;
+    if let Some(head) = text.get(name..skip_word(text, kind)) {
+        put(out, head)?;
+    }
     put(out, b"\n")?;
-    call(out, text, kind)?;
+    let line = text.get(kind..skip_to(text, kind, b"\n")).unwrap_or(&[]);
+    call(out, text, line)?;
     put(out, b"end\n")
 }
 
-// The place after the case at p; p itself where the text does not have its end.
-fn past_case(text: &[u8], p: usize) -> usize
+// The place after the case at p, if the text has its end.
+fn past_case(text: &[u8], p: usize) -> Option<usize>
     requires { p ≤ length text.now }
-    ensures lower_bound { p ≤ result }
-    ensures upper_bound { result ≤ length text.now }
+    ensures { MatchOption result ⊤ (λ past. (p < past) × (past ≤ length text.now)) }
 {
-    let next = skip_to(text, p, b"\nend\n");
-    if p + 5 <= next {
-        if next <= text.len() {
-            if begins(text, next - 5, b"\nend\n") {
-                return next;
-            }
-        }
-    }
-    p
+    let last = text[p..]
+        .windows(5)
+        .position(|part| part == b"\nend\n".as_slice())?;
+    Some(p + last + 5)
 }
 
 // All cases that are whole in the text; the reply is the place after them.
@@ -80,12 +77,9 @@ pub fn replay(out: &mut impl Write, text: &[u8]) -> io::Result<usize>
     ensures { IfOk result (λ past. past ≤ length text.now) }
 {
     let mut p = 0;
-    loop {
-        let next = past_case(text, p);
-        if next <= p {
-            return Ok(p);
-        }
-        case(out, &text[p..next])?;
-        p = next;
+    while let Some(past) = past_case(text, p) {
+        case(out, &text[p..past])?;
+        p = past;
     }
+    Ok(p)
 }

@@ -19,8 +19,11 @@ fn floor_of(text: &[u8]) -> VarianceFloor {
     VarianceFloor::Zero
 }
 
-fn stabilize(out: &mut impl Write, text: &[u8], output: &mut [f64]) -> io::Result<()> {
+// Kind floor; where the case lends no output, one of 7777.
+pub fn stabilization(out: &mut impl Write, text: &[u8]) -> io::Result<()> {
     let mut values = [0.0; ROOM];
+    let mut output = [7777.0; ROOM];
+    let output = lent_output(text, &mut output);
     put_stabilized(
         out,
         stabilize_variances(input(text, &mut values), floor_of(text), output),
@@ -28,26 +31,9 @@ fn stabilize(out: &mut impl Write, text: &[u8], output: &mut [f64]) -> io::Resul
     put_output(out, output)
 }
 
-fn stabilization(out: &mut impl Write, text: &[u8]) -> io::Result<()> {
-    let mut output = [7777.0; ROOM];
-    stabilize(out, text, lent_output(text, &mut output))
-}
-
-fn least_value(out: &mut impl Write, text: &[u8]) -> io::Result<()> {
+// Kind least.
+pub fn least_value(out: &mut impl Write, text: &[u8]) -> io::Result<()> {
     let mut values = [0.0; ROOM];
     let answer = count_and_least(input(text, &mut values));
     put_least(out, answer.num_negative, answer.min_value)
-}
-
-// The case, if the kind that is named at `name` is one of these.
-pub fn of_floors(out: &mut impl Write, text: &[u8], name: usize) -> io::Result<bool> {
-    if begins(text, name, b"floor\n") {
-        stabilization(out, text)?;
-        return Ok(true);
-    }
-    if begins(text, name, b"least\n") {
-        least_value(out, text)?;
-        return Ok(true);
-    }
-    Ok(false)
 }

@@ -33,12 +33,8 @@ fn keep(window: &mut [u8], from: usize, held: usize) -> usize
     requires held_in_bounds { held ≤ length window.old }
     ensures { result ≤ length window.new }
 {
-    let mut i = 0;
-    while i < held - from {
-        window[i] = window[from + i];
-        i += 1;
-    }
-    i
+    window.copy_within(from..held, 0);
+    held - from
 }
 
 // Makes the calls of the cases that are whole; the reply is how many bytes are held behind them.
@@ -54,14 +50,12 @@ fn play(out: &mut impl Write, window: &mut [u8], held: usize) -> io::Result<usiz
 // The bound on the windows, which no text reaches, is there to show that they end.
 fn play_all(input: &mut impl Read, out: &mut impl Write, window: &mut [u8]) -> io::Result<usize> {
     let mut held = 0;
-    let mut windows = 0usize;
-    while windows < 18446744073709551615 {
+    for _ in 0..u64::MAX {
         let filled = fill(input, window, held)?;
         if filled == held {
             return Ok(held);
         }
         held = play(out, window, filled)?;
-        windows += 1;
     }
     Ok(held)
 }

@@ -1,69 +1,28 @@
 // Lookups of the pairs of a case.
-use answer_text::answers::put_entry;
-use answer_text::{put, put_count};
 use case_lists::{columns_of, rows_of};
 use case_text::skip_to;
-use lookup::get;
 use std::io;
 use std::io::Write;
-use words::at;
 
-// What the lookup of each pair finds.
-fn put_gets(
-    out: &mut impl Write,
-    starts: &[u32],
-    rows: &[u32],
-    values: &[f64],
-    pair_rows: &[u32],
-    pair_columns: &[u32],
-) -> io::Result<()> {
-    let mut i = 0;
-    while i < pair_rows.len() {
-        if i < pair_columns.len() {
-            put_entry(
-                out,
-                get(starts, rows, values, at(pair_rows, i), at(pair_columns, i)),
-            )?;
-        }
-        i += 1;
-    }
-    Ok(())
-}
-
-// The line of what the lookups find.
-fn put_found(
-    out: &mut impl Write,
-    starts: &[u32],
-    rows: &[u32],
-    values: &[f64],
-    pair_rows: &[u32],
-    pair_columns: &[u32],
-) -> io::Result<()> {
-    put(out, b"gets ")?;
-    put_count(out, pair_rows.len())?;
-    put_gets(out, starts, rows, values, pair_rows, pair_columns)?;
-    put(out, b"\n")
-}
-
-// The lookups of the pairs, if the case has any.
-pub fn gets(
-    out: &mut impl Write,
+// The line of what `put_found` finds and writes at each pair, if the case has any.
+pub fn gets<W: Write, F: Fn(&mut W, usize, usize) -> io::Result<()>>(
+    out: &mut W,
     text: &[u8],
-    starts: &[u32],
-    rows: &[u32],
-    values: &[f64],
-) -> io::Result<()> {
+    put_found: F,
+) -> io::Result<()>
+    requires { F.IsAlwaysCallable put_found }
+{
     let mut pair_rows = [0u32; 64];
     let mut pair_columns = [0u32; 64];
     if skip_to(text, 0, b"\nprows ") < text.len() {
-        put_found(
-            out,
-            starts,
-            rows,
-            values,
-            rows_of(text, b'p', &mut pair_rows),
-            columns_of(text, b'p', &mut pair_columns),
-        )?;
+        let rows = rows_of(text, b'p', &mut pair_rows);
+        let columns = columns_of(text, b'p', &mut pair_columns);
+        let count = rows.len();
+        write!(out, "gets {count}")?;
+        for (row, column) in rows.iter().zip(columns) {
+            put_found(out, *row as usize, *column as usize)?;
+        }
+        writeln!(out)?;
     }
     Ok(())
 }

@@ -4,21 +4,18 @@ ghost use Rattle.columns.specs.Columns.{start};
 ghost use Rattle.columns.specs.Factor.{Column};
 
 use answer_text::answers::{put_checked, put_ok};
-use answer_text::{put, put_count};
-use case_lists::{ROOM, rows, words_of};
+use case_lists::{ROOM, list_of, rows};
+use case_text::items::Words;
+use column_search::find_in_column;
 use column_search::result_check::check_column;
-use column_search::{Place, find_in_column};
-use refusal::Checked;
 use std::io;
 use std::io::Write;
-use words::at;
 
 // Where the row stands, none where it is absent.
-fn put_place(out: &mut impl Write, place: Place) -> io::Result<()> {
-    put(out, b" ")?;
+fn put_place(out: &mut impl Write, place: Option<usize>) -> io::Result<()> {
     match place {
-        Place::At(p) => put_count(out, p),
-        Place::Absent => put(out, b"none"),
+        Some(p) => write!(out, " {p}"),
+        None => write!(out, " none"),
     }
 }
 
@@ -27,16 +24,14 @@ fn put_places(out: &mut impl Write, starts: &[u32], rows: &[u32], sought: &[u32]
     requires in_bounds { 1 < length starts.now }
     requires column { Column rows.now (length rows.now) (start starts.now 0) (start starts.now 1) }
 {
-    put(out, b"places ")?;
-    put_count(out, sought.len())?;
-    let mut i = 0;
-    while i < sought.len() {
-        let found = find_in_column(starts, rows, at(sought, i), 0);
+    let count = sought.len();
+    write!(out, "places {count}")?;
+    for row in sought {
+        let found = find_in_column(starts, rows, *row as usize, 0);
         let place = found.place;
         put_place(out, place)?;
-        i += 1;
     }
-    put(out, b"\n")
+    writeln!(out)
 }
 
 // How many places each search looks at.
@@ -44,16 +39,14 @@ fn put_looks(out: &mut impl Write, starts: &[u32], rows: &[u32], sought: &[u32])
     requires in_bounds { 1 < length starts.now }
     requires column { Column rows.now (length rows.now) (start starts.now 0) (start starts.now 1) }
 {
-    put(out, b"looks ")?;
-    put_count(out, sought.len())?;
-    let mut i = 0;
-    while i < sought.len() {
-        let found = find_in_column(starts, rows, at(sought, i), 0);
-        put(out, b" ")?;
-        put_count(out, found.looks)?;
-        i += 1;
+    let count = sought.len();
+    write!(out, "looks {count}")?;
+    for row in sought {
+        let found = find_in_column(starts, rows, *row as usize, 0);
+        let looks = found.looks;
+        write!(out, " {looks}")?;
     }
-    put(out, b"\n")
+    writeln!(out)
 }
 
 // The searches, if the rows ascend.
@@ -66,8 +59,8 @@ fn put_searches(
     requires { 1 < length starts.now }
 {
     match check_column(starts, rows, rows.len(), 0) {
-        Checked::Refused(why) => put_checked(out, Checked::Refused(why)),
-        Checked::Accepted => {
+        Err(why) => put_checked(out, Err(why)),
+        Ok(()) => {
             put_ok(out)?;
             put_places(out, starts, rows, sought)?;
             put_looks(out, starts, rows, sought)
@@ -75,16 +68,9 @@ fn put_searches(
     }
 }
 
-// The largest word where x is above it.
-fn narrow(x: usize) -> u32 {
-    if x < 4294967295 {
-        return x as u32;
-    }
-    4294967295
-}
-
+// The searches in a column of these rows.
 fn searched(out: &mut impl Write, rows: &[u32], sought: &[u32]) -> io::Result<()> {
-    let starts = [0, narrow(rows.len())];
+    let starts = [0, u32::try_from(rows.len()).unwrap_or(u32::MAX)];
     put_searches(out, &starts, rows, sought)
 }
 
@@ -95,6 +81,6 @@ pub fn searches(out: &mut impl Write, text: &[u8]) -> io::Result<()> {
     searched(
         out,
         rows(text, &mut column),
-        words_of(text, b"\nsought ", &mut sought),
+        list_of::<Words>(text, b"\nsought ", &mut sought),
     )
 }

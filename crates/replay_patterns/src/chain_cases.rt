@@ -1,8 +1,9 @@
 // Chains from a requested pair to a pair of the closed set.
 use answer_text::answers::{put_chain, put_chain_pairs};
-use case_lists::lent::{lent_scratch, lent_words};
+use case_lists::lent::{lent_list, lent_scratch};
 use case_lists::{ROOM, columns_of, dimension, request_dimension, rows, rows_of, starts, values};
 use case_text::fields::number_field;
+use case_text::items::Words;
 use dependency_chain::dependency_chain;
 use std::io;
 use std::io::Write;
@@ -48,27 +49,14 @@ fn call(
     )
 }
 
-fn answered(
-    out: &mut impl Write,
-    text: &[u8],
-    scratch: &mut [u32],
-    chain_rows: &mut [u32],
-    chain_columns: &mut [u32],
-) -> io::Result<()> {
-    call(out, text, scratch, chain_rows, chain_columns)?;
-    put_chain_pairs(out, scratch, chain_rows, chain_columns)
-}
-
 // The chain to the pair of the case; where the case lends no lists, lists of 7777.
 pub fn chains(out: &mut impl Write, text: &[u8]) -> io::Result<()> {
     let mut scratch = [7777u32; 67072];
     let mut chain_rows = [7777u32; 33024];
     let mut chain_columns = [7777u32; 33024];
-    answered(
-        out,
-        text,
-        lent_scratch(text, &mut scratch),
-        lent_words(text, b"\nlcrows ", &mut chain_rows),
-        lent_words(text, b"\nlccols ", &mut chain_columns),
-    )
+    let scratch = lent_scratch(text, &mut scratch);
+    let chain_rows = lent_list::<Words>(text, b"\nlcrows ", &mut chain_rows);
+    let chain_columns = lent_list::<Words>(text, b"\nlccols ", &mut chain_columns);
+    call(out, text, scratch, chain_rows, chain_columns)?;
+    put_chain_pairs(out, scratch, chain_rows, chain_columns)
 }

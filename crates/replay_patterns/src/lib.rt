@@ -1,27 +1,20 @@
 // Cases of pattern lists, of a factor or of an operator, and of chains.
 #![tactic(auto)]
 
-mod chain_cases;
+pub mod chain_cases;
 
 use answer_text::answers::{put_listed, put_pairs};
-use case_lists::lent::{lent_scratch, lent_words};
+use case_lists::lent::{lent_list, lent_scratch};
 use case_lists::{
     ROOM, columns_of, dimension, operator_dimension, row_starts_of, rows, starts, values,
     weights_of,
 };
-use case_text::begins;
-use chain_cases::chains;
+use case_text::items::Words;
 use pattern_lists::{from_cholesky_factor, from_transformed_operator};
 use std::io;
 use std::io::Write;
 
-#[derive(Clone, Copy)]
-enum Of {
-    Factor,
-    Operator,
-}
-
-fn factor_pattern(
+fn call_factor_pattern(
     out: &mut impl Write,
     text: &[u8],
     scratch: &mut [u32],
@@ -45,7 +38,7 @@ fn factor_pattern(
     )
 }
 
-fn operator_pattern(
+fn call_operator_pattern(
     out: &mut impl Write,
     text: &[u8],
     scratch: &mut [u32],
@@ -69,61 +62,29 @@ fn operator_pattern(
     )
 }
 
-// The call and its reply.
-fn call(
-    out: &mut impl Write,
-    text: &[u8],
-    of: Of,
-    scratch: &mut [u32],
-    pair_rows: &mut [u32],
-    pair_columns: &mut [u32],
-) -> io::Result<()> {
-    match of {
-        Of::Factor => factor_pattern(out, text, scratch, pair_rows, pair_columns),
-        Of::Operator => operator_pattern(out, text, scratch, pair_rows, pair_columns),
-    }
-}
-
-fn answered(
-    out: &mut impl Write,
-    text: &[u8],
-    of: Of,
-    scratch: &mut [u32],
-    pair_rows: &mut [u32],
-    pair_columns: &mut [u32],
-) -> io::Result<()> {
-    call(out, text, of, scratch, pair_rows, pair_columns)?;
-    put_pairs(out, scratch, pair_rows, pair_columns)
-}
-
-// Where the case lends no lists, lists of 7777.
-fn patterns(out: &mut impl Write, text: &[u8], of: Of) -> io::Result<()> {
+// A case that fills pattern lists by its call; where it lends none, lists of 7777.
+fn filling<
+    W: Write,
+    C: FnOnce(&mut W, &[u8], &mut [u32], &mut [u32], &mut [u32]) -> io::Result<()>,
+>(out: &mut W, text: &[u8], call: C) -> io::Result<()>
+    requires { C.IsAlwaysCallable call }
+{
     let mut scratch = [7777u32; 33024];
     let mut pair_rows = [7777u32; 33024];
     let mut pair_columns = [7777u32; 33024];
-    answered(
-        out,
-        text,
-        of,
-        lent_scratch(text, &mut scratch),
-        lent_words(text, b"\nlprows ", &mut pair_rows),
-        lent_words(text, b"\nlpcols ", &mut pair_columns),
-    )
+    let scratch = lent_scratch(text, &mut scratch);
+    let pair_rows = lent_list::<Words>(text, b"\nlprows ", &mut pair_rows);
+    let pair_columns = lent_list::<Words>(text, b"\nlpcols ", &mut pair_columns);
+    call(out, text, scratch, pair_rows, pair_columns)?;
+    put_pairs(out, scratch, pair_rows, pair_columns)
 }
 
-// The case, if the kind that is named at `name` is one of these.
-pub fn of_patterns(out: &mut impl Write, text: &[u8], name: usize) -> io::Result<bool> {
-    if begins(text, name, b"patfactor\n") {
-        patterns(out, text, Of::Factor)?;
-        return Ok(true);
-    }
-    if begins(text, name, b"patoperator\n") {
-        patterns(out, text, Of::Operator)?;
-        return Ok(true);
-    }
-    if begins(text, name, b"chain\n") {
-        chains(out, text)?;
-        return Ok(true);
-    }
-    Ok(false)
+// Kind patfactor.
+pub fn factor_pattern(out: &mut impl Write, text: &[u8]) -> io::Result<()> {
+    filling(out, text, call_factor_pattern)
+}
+
+// Kind patoperator.
+pub fn operator_pattern(out: &mut impl Write, text: &[u8]) -> io::Result<()> {
+    filling(out, text, call_operator_pattern)
 }

@@ -7,7 +7,6 @@ use case_lists::{
     ROOM, columns_of, dimension, operator_dimension, permutation, row_starts_of, rows, rows_of,
     starts, values, weights_of,
 };
-use case_text::begins;
 use case_text::fields::number_field;
 use covariances::selected_inverse_transformed_covariances;
 use operator_variances::selected_inverse_transformed_diag;
@@ -15,14 +14,7 @@ use original_diagonal::selected_inverse_diag_with_diagnostics;
 use std::io;
 use std::io::Write;
 
-#[derive(Clone, Copy)]
-enum Kind {
-    OriginalDiagonal,
-    OperatorVariances,
-    Covariances,
-}
-
-fn original_diagonal(
+fn call_original_diagonal(
     out: &mut impl Write,
     text: &[u8],
     result_starts: &mut [u32],
@@ -53,7 +45,7 @@ fn original_diagonal(
     Ok(())
 }
 
-fn operator_variances(
+fn call_operator_variances(
     out: &mut impl Write,
     text: &[u8],
     result_starts: &mut [u32],
@@ -97,7 +89,7 @@ fn bncols(text: &[u8]) -> usize {
     number_field(text, b"\nbncols ")
 }
 
-fn covariances(
+fn call_covariances(
     out: &mut impl Write,
     text: &[u8],
     result_starts: &mut [u32],
@@ -144,104 +136,47 @@ fn covariances(
     Ok(())
 }
 
-// The call of the kind and its reply.
-fn call(
-    out: &mut impl Write,
-    text: &[u8],
-    kind: Kind,
-    result_starts: &mut [u32],
-    result_rows: &mut [u32],
-    result_values: &mut [f64],
-    scratch: &mut [u32],
-    output: &mut [f64],
-) -> io::Result<()> {
-    match kind {
-        Kind::OriginalDiagonal => original_diagonal(
-            out,
-            text,
-            result_starts,
-            result_rows,
-            result_values,
-            scratch,
-            output,
-        ),
-        Kind::OperatorVariances => operator_variances(
-            out,
-            text,
-            result_starts,
-            result_rows,
-            result_values,
-            scratch,
-            output,
-        ),
-        Kind::Covariances => covariances(
-            out,
-            text,
-            result_starts,
-            result_rows,
-            result_values,
-            scratch,
-            output,
-        ),
-    }
-}
-
-fn answered(
-    out: &mut impl Write,
-    text: &[u8],
-    kind: Kind,
-    result_starts: &mut [u32],
-    result_rows: &mut [u32],
-    result_values: &mut [f64],
-    scratch: &mut [u32],
-    output: &mut [f64],
-) -> io::Result<()> {
-    call(
-        out,
-        text,
-        kind,
-        result_starts,
-        result_rows,
-        result_values,
-        scratch,
-        output,
-    )?;
-    put_result(out, result_starts, result_rows, result_values, scratch)?;
-    put_output(out, output)
-}
-
-// A case of the kind; where it lends no lists, lists of 7777.
-fn of_kind(out: &mut impl Write, text: &[u8], kind: Kind) -> io::Result<()> {
+// A case that fills result lists and an output by its call; where it lends none, lists of 7777.
+fn filling<
+    W: Write,
+    C: FnOnce(
+        &mut W,
+        &[u8],
+        &mut [u32],
+        &mut [u32],
+        &mut [f64],
+        &mut [u32],
+        &mut [f64],
+    ) -> io::Result<()>,
+>(out: &mut W, text: &[u8], call: C) -> io::Result<()>
+    requires { C.IsAlwaysCallable call }
+{
     let mut result_starts = [7777u32; 4608];
     let mut result_rows = [7777u32; 33024];
     let mut result_values = [7777.0; 33024];
     let mut scratch = [7777u32; 67072];
     let mut output = [7777.0; 4608];
-    answered(
-        out,
-        text,
-        kind,
-        lent_starts(text, &mut result_starts),
-        lent_rows(text, &mut result_rows),
-        lent_result_values(text, &mut result_values),
-        lent_scratch(text, &mut scratch),
-        lent_output(text, &mut output),
-    )
+    let starts = lent_starts(text, &mut result_starts);
+    let rows = lent_rows(text, &mut result_rows);
+    let values = lent_result_values(text, &mut result_values);
+    let scratch = lent_scratch(text, &mut scratch);
+    let output = lent_output(text, &mut output);
+    call(out, text, starts, rows, values, scratch, output)?;
+    put_result(out, starts, rows, values, scratch)?;
+    put_output(out, output)
 }
 
-// The case, if the kind that is named at `name` is one of these.
-pub fn of_variances(out: &mut impl Write, text: &[u8], name: usize) -> io::Result<bool> {
-    if begins(text, name, b"diagorig\n") {
-        of_kind(out, text, Kind::OriginalDiagonal)?;
-        return Ok(true);
-    }
-    if begins(text, name, b"opvar\n") {
-        of_kind(out, text, Kind::OperatorVariances)?;
-        return Ok(true);
-    }
-    if begins(text, name, b"covar\n") {
-        of_kind(out, text, Kind::Covariances)?;
-        return Ok(true);
-    }
-    Ok(false)
+// Kind diagorig.
+pub fn original_diagonal(out: &mut impl Write, text: &[u8]) -> io::Result<()> {
+    filling(out, text, call_original_diagonal)
+}
+
+// Kind opvar.
+pub fn operator_variances(out: &mut impl Write, text: &[u8]) -> io::Result<()> {
+    filling(out, text, call_operator_variances)
+}
+
+// Kind covar.
+pub fn covariances(out: &mut impl Write, text: &[u8]) -> io::Result<()> {
+    filling(out, text, call_covariances)
 }

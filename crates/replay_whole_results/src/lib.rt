@@ -4,14 +4,13 @@
 use answer_text::answers::{put_bounds, put_checked, put_whole_output};
 use case_lists::lent::lent_whole_output;
 use case_lists::{ROOM, cells, columns, highs, lows, rows, starts, whole_values, width};
-use case_text::begins;
 use std::io;
 use std::io::Write;
 use track_variances::track_variances_whole;
 use weight_ranges::variance_bounds_whole;
 
 // Kind bounds.
-fn bounds(out: &mut impl Write, text: &[u8]) -> io::Result<()> {
+pub fn bounds(out: &mut impl Write, text: &[u8]) -> io::Result<()> {
     let mut result_starts = [0u32; ROOM];
     let mut result_rows = [0u32; ROOM];
     let mut result_values = [0i64; ROOM];
@@ -31,11 +30,14 @@ fn bounds(out: &mut impl Write, text: &[u8]) -> io::Result<()> {
     )
 }
 
-fn variances(out: &mut impl Write, text: &[u8], output: &mut [i64]) -> io::Result<()> {
+// Kind track; where the case lends no output, one of 7777.
+pub fn track(out: &mut impl Write, text: &[u8]) -> io::Result<()> {
     let mut result_starts = [0u32; ROOM];
     let mut result_rows = [0u32; ROOM];
     let mut result_values = [0i64; ROOM];
     let mut track = [0u32; ROOM];
+    let mut output = [7777i64; ROOM];
+    let output = lent_whole_output(text, &mut output);
     put_checked(
         out,
         track_variances_whole(
@@ -48,23 +50,4 @@ fn variances(out: &mut impl Write, text: &[u8], output: &mut [i64]) -> io::Resul
         ),
     )?;
     put_whole_output(out, output)
-}
-
-// Kind track; where the case lends no output, one of 7777.
-fn along(out: &mut impl Write, text: &[u8]) -> io::Result<()> {
-    let mut output = [7777i64; ROOM];
-    variances(out, text, lent_whole_output(text, &mut output))
-}
-
-// The case, if the kind that is named at `name` is one of these.
-pub fn of_whole_results(out: &mut impl Write, text: &[u8], name: usize) -> io::Result<bool> {
-    if begins(text, name, b"bounds\n") {
-        bounds(out, text)?;
-        return Ok(true);
-    }
-    if begins(text, name, b"track\n") {
-        along(out, text)?;
-        return Ok(true);
-    }
-    Ok(false)
 }

@@ -2,7 +2,6 @@
 use Rattle.std.specs.Prelude.{ℕ, ◌<◌, ◌≡◌, refl, true, ◌&&◌, eqb, ltb}
 use Rattle.std.proofs.Common.{arith, ap₂, eqb-true, eq-eqb, ltb-true, lt-ltb}
 use Rattle.lists.specs.Test.{and_left, and_right}
-use Rattle.pairs.specs.Pair.{ordered}
 use Rattle.closed_set.specs.ClosedSet.{Ranged}
 use Rattle.request_marks.specs.DiagonalMarks.{diagonal_pairs}
 

@@ -24,10 +24,8 @@ fn mark_with(
     ensures { AlsoMarked n (with_columns x columns.now t f) scratch.old scratch.new result }
 {
     let mut count = first;
-    let mut b = t;
-    while b < f {
+    for b in t..f {
         count = insert_closure_pair(n, x, at(columns, b), count, scratch);
-        b += 1;
     }
     count
 }
@@ -49,10 +47,8 @@ fn mark_rows(
     ensures { AlsoMarked n (cross_set a_columns.now b_columns.now s e t f) scratch.old scratch.new result }
 {
     let mut count = first;
-    let mut a = s;
-    while a < e {
+    for a in s..e {
         count = mark_with(n, at(a_columns, a), b_columns, t, f, count, scratch);
-        a += 1;
     }
     count
 }
@@ -99,8 +95,7 @@ pub fn mark_cross_pairs(
 {
     clear_pairs(n, scratch);
     let mut count = 0;
-    let mut p = 0;
-    while p < a_rows.len() {
+    for p in 0..a_rows.len() {
         count = mark_row_pair(
             n,
             a_row_starts,
@@ -112,7 +107,6 @@ pub fn mark_cross_pairs(
             count,
             scratch,
         );
-        p += 1;
     }
     count
 }

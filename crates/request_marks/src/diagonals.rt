@@ -11,10 +11,8 @@ pub fn mark_diagonals(n: usize, scratch: &mut [u32]) -> usize
 {
     clear_pairs(n, scratch);
     let mut count = 0;
-    let mut i = 0;
-    while i < n {
+    for i in 0..n {
         count = insert_closure_pair(n, i, i, count, scratch);
-        i += 1;
     }
     count
 }

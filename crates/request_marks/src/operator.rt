@@ -23,10 +23,8 @@ fn mark_terms(
 {
     let x = at(columns, a);
     let mut count = first;
-    let mut b = s;
-    while b <= a {
+    for b in s..a + 1 {
         count = insert_closure_pair(n, x, at(columns, b), count, scratch);
-        b += 1;
     }
     count
 }
@@ -44,10 +42,8 @@ fn mark_row(
     ensures { AlsoMarked n (row_set columns.now s e) scratch.old scratch.new result }
 {
     let mut count = first;
-    let mut a = s;
-    while a < e {
+    for a in s..e {
         count = mark_terms(n, columns, s, a, count, scratch);
-        a += 1;
     }
     count
 }
@@ -66,8 +62,7 @@ pub fn mark_operator_pairs(
     clear_pairs(n, scratch);
     let last = operator_rows(row_starts);
     let mut count = 0;
-    let mut i = 0;
-    while i < last {
+    for i in 0..last {
         count = mark_row(
             n,
             columns,
@@ -76,7 +71,6 @@ pub fn mark_operator_pairs(
             count,
             scratch,
         );
-        i += 1;
     }
     count
 }

@@ -19,8 +19,7 @@ pub fn mark_requests(
 {
     clear_pairs(n, scratch);
     let mut count = 0;
-    let mut i = 0;
-    while i < request_rows.len() {
+    for i in 0..request_rows.len() {
         count = insert_closure_pair(
             n,
             at(request_rows, i),
@@ -28,7 +27,6 @@ pub fn mark_requests(
             count,
             scratch,
         );
-        i += 1;
     }
     count
 }

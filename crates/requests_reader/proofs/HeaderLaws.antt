@@ -2,16 +2,19 @@
 -- Assumes nothing.
 use Prim.Native.Nat.{ℕ, ◌+◌, ◌≤◌, ◌<◌}
 use native.Mathlib.Omega.{arith}
-use mathlib.Core.Path.{◌≡◌, refl, sym, ap, ap₂, ◌∙◌}
+use mathlib.Core.Path.{◌≡◌, refl, sym, ap, ap₂, subst, ◌∙◌}
 use mathlib.Core.Bool.{Bool, true, false, cond, ◌||◌, false≢true}
 use mathlib.Core.List.{List, [], ◌∷◌}
 use lib.Dec.{eqb}
 use lib.ListN.{length, get_or, drop, drop_of_length-le}
 use borrow.Author.Tests.{eqb-true, eq-eqb, ne_eqb}
+use Rattle.std.specs.Option.{MatchOption}
+use Rattle.std.specs.Result.{MatchResult, result_ok}
+use Rattle.std.proofs.Common.{Result, Ok, Err}
 use Rattle.lists.specs.Test.{or_left}
 use Rattle.matrix_market.specs.Text.{split, lines, fields, empty}
 use Rattle.matrix_market.specs.File.{same_bytes, comment, skipped, from_size}
-use Rattle.file_lines.specs.Scan.{line_of, rest_of}
+use Rattle.file_lines.specs.Scan.{line_of, rest_of, unblank}
 use Rattle.file_lines.specs.Places.{EndAt}
 use Rattle.file_lines.proofs.ScanLaws.{unblank_line, lines_next, drop_next, rest_none, rest_end, rest_more, head_byte, head_byte_end, head_byte_is}
 use Rattle.file_lines.proofs.FieldLaws.{fields-empty}
@@ -68,28 +71,21 @@ module _ (b : ℕ) (t : List ℕ) where
   comment_first = comment-of (eqb b 10) refl
 
 -- ---- behind a line
-pub record SkipLineLoop (text : List ℕ) (p i : ℕ) : Type 0 where
-  pub left : rest_of (drop i text) ≡ rest_of (drop p text)
-  pub above : p ≤ i
-  pub within : i ≤ length text
+abbrev pub SkipLineLoop : List ℕ → ℕ → ℕ → Type 0
+SkipLineLoop text p i = rest_of (drop i text) ≡ rest_of (drop p text)
 
-module _ (text : List ℕ) (p : ℕ) where
-  pub skip_line_start : p ≤ length text → SkipLineLoop text p p
-  skip_line_start h = record { left = refl; above = omega arith; within = h }
+module _ (text : List ℕ) (p i : ℕ) (s : SkipLineLoop text p i) where
+  pub skip_line_more : i < length text → (get_or text i 0 ≡ 10 → ⊥) → SkipLineLoop text p (i + 1)
+  skip_line_more l h = sym (ap rest_of (drop_next text i l) ∙ rest_more _ _ h) ∙ s
 
-  module _ (i : ℕ) (s : SkipLineLoop text p i) where
-    pub skip_line_more : i < length text → (get_or text i 0 ≡ 10 → ⊥) → SkipLineLoop text p (i + 1)
-    skip_line_more l h =
-        record { left = sym (ap rest_of (drop_next text i l) ∙ rest_more _ _ h) ∙ s.left; above = omega (arith, s.above); within = omega arith }
+  pub skip_line_stop : p ≤ i → i < length text → get_or text i 0 ≡ 10 → RestAt text p (i + 1)
+  skip_line_stop a l h =
+      record { left = sym (ap rest_of (drop_next text i l) ∙ rest_end _ _ h) ∙ s; past_it = λ _. omega arith; within = omega arith }
 
-    pub skip_line_stop : i < length text → get_or text i 0 ≡ 10 → RestAt text p (i + 1)
-    skip_line_stop l h =
-        record { left = sym (ap rest_of (drop_next text i l) ∙ rest_end _ _ h) ∙ s.left; past_it = λ _. omega (arith, s.above); within = omega arith }
-
-    pub skip_line_end : length text ≤ i → RestAt text p i
-    skip_line_end h =
-        let none : drop i text ≡ [] = drop_of_length-le text h in
-        record { left = none ∙ sym (ap rest_of none ∙ rest_none) ∙ s.left; past_it = λ l. omega arith; within = s.within }
+  pub skip_line_end : length text ≤ i → RestAt text p (length text)
+  skip_line_end h =
+      let none : drop i text ≡ [] = drop_of_length-le text h in
+      record { left = drop_of_length-le text (omega arith) ∙ sym (ap rest_of none ∙ rest_none) ∙ s; past_it = λ l. l; within = omega arith }
 
 -- ---- a comment or a blank line
 module _ (text : List ℕ) (p : ℕ) (l : p < length text) where
@@ -105,16 +101,16 @@ module _ (text : List ℕ) (p : ℕ) (l : p < length text) where
         within = s.within;
       }
 
-  pub over_other : (ended : Bool) (next : ℕ) → (get_or text p 0 ≡ 37 → ⊥) → EndAt text p ended next → OverAt text p ended next
-  over_other ended next h e =
-      record {
-        found =
-            e.found ∙ ap empty (sym (unblank_line (drop p text))) ∙ sym (fields-empty (line_of (drop p text)))
-            ∙ ap (λ (b : Bool). b || empty (fields (line_of (drop p text)))) (sym (first_byte ∙ ne_eqb _ _ h));
-        left = e.left;
-        past_it = λ q. e.past_it q l;
-        within = e.within;
-      }
+  over_is : (ended : Bool) → (get_or text p 0 ≡ 37 → ⊥) → ended ≡ empty (line_of (unblank (drop p text))) → ended ≡ skipped (line_of (drop p text))
+  over_is ended h e =
+      e ∙ ap empty (sym (unblank_line (drop p text))) ∙ sym (fields-empty (line_of (drop p text)))
+      ∙ ap (λ (b : Bool). b || empty (fields (line_of (drop p text)))) (sym (first_byte ∙ ne_eqb _ _ h))
+
+  pub over_end : (get_or text p 0 ≡ 37 → ⊥) → (end : Result ℕ ℕ) → MatchResult end (EndAt text p true) (EndAt text p false)
+      → MatchOption (result_ok end) (OverAt text p false 0) (OverAt text p true)
+  over_end h (Ok next) e = record { found = over_is true h e.found; left = e.left; past_it = λ q. e.past_it q l; within = e.within }
+  over_end h (Err at) e =
+      record { found = over_is false h e.found; left = λ q. absurd (false≢true q); past_it = λ q. absurd (false≢true q); within = omega arith }
 
 -- ---- the size line's place
 pub record SkipCommentsLoop (text : List ℕ) (p i : ℕ) : Type 0 where
@@ -126,24 +122,24 @@ module _ (text : List ℕ) (p : ℕ) where
   skip_comments_start h = record { left = refl; within = h }
 
   module _ (i : ℕ) (s : SkipCommentsLoop text p i) where
-    module _ (l : i < length text) (over : Bool) (next : ℕ) (o : OverAt text i over next) where
-      here : skipped (line_of (get_or text i 0 ∷ drop (i + 1) text)) ≡ over
-      here = ap (λ (t : List ℕ). skipped (line_of t)) (sym (drop_next text i l)) ∙ sym o.found
+    module _ (l : i < length text) where
+      here : (over : Bool) → over ≡ skipped (line_of (drop i text)) → skipped (line_of (get_or text i 0 ∷ drop (i + 1) text)) ≡ over
+      here over o = ap (λ (t : List ℕ). skipped (line_of t)) (sym (drop_next text i l)) ∙ sym o
 
-      pub skip_comments_more : over ≡ true → SkipCommentsLoop text p next
-      skip_comments_more h =
+      pub skip_comments_more : (next : ℕ) → OverAt text i true next → SkipCommentsLoop text p next
+      skip_comments_more next o =
           record {
             left =
-                ap (λ (t : List ℕ). from_size (lines t)) (o.left h ∙ ap rest_of (drop_next text i l)) ∙ sym (from_size_more _ _ (here ∙ h))
+                ap (λ (t : List ℕ). from_size (lines t)) (o.left refl ∙ ap rest_of (drop_next text i l)) ∙ sym (from_size_more _ _ (here true o.found))
                 ∙ ap (λ (t : List ℕ). from_size (lines t)) (sym (drop_next text i l)) ∙ s.left;
             within = o.within;
           }
 
-      pub skip_comments_stop : over ≡ false → SizeAt text p i
-      skip_comments_stop h =
+      pub skip_comments_stop : OverAt text i false 0 → SizeAt text p i
+      skip_comments_stop o =
           record {
             left =
-                ap lines (drop_next text i l) ∙ sym (from_size_stop _ _ (here ∙ h))
+                ap lines (drop_next text i l) ∙ sym (from_size_stop _ _ (here false o.found))
                 ∙ ap (λ (t : List ℕ). from_size (lines t)) (sym (drop_next text i l)) ∙ s.left;
             within = s.within;
           }
@@ -158,21 +154,20 @@ pub record FirstLineLoop (text label : List ℕ) (i : ℕ) : Type 0 where
   pub is : same_bytes (line_of (drop i text)) (drop i label) ≡ same_bytes (line_of text) label
   pub left : rest_of (drop i text) ≡ rest_of text
   pub within : i ≤ length text
-  pub inside : i ≤ length label
 
 module _ (text label : List ℕ) where
   pub first_line_start : FirstLineLoop text label 0
-  first_line_start = record { is = refl; left = refl; within = omega arith; inside = omega arith }
+  first_line_start = record { is = refl; left = refl; within = omega arith }
 
-  differs : (i : ℕ) → same_bytes (line_of text) label ≡ false → LabelAt text label false 0
-  differs i h = record { is = sym h; left = λ e. absurd (false≢true e); within = omega arith }
+  differs : same_bytes (line_of text) label ≡ false → LabelAt text label false 0
+  differs h = record { is = sym h; left = λ e. absurd (false≢true e); within = omega arith }
 
   module _ (i : ℕ) (s : FirstLineLoop text label i) where
     module _ (l : i < length label) where
       pub first_line_short : length text ≤ i → LabelAt text label false 0
       first_line_short h =
           let none : drop i text ≡ [] = drop_of_length-le text h in
-          differs i
+          differs
           (sym s.is ∙ ap (same_bytes (line_of (drop i text))) (drop_next label i l) ∙ same_bytes_short (drop i text) _ _ (ap head_byte none ∙ head_byte_end))
 
       module _ (k : i < length text) where
@@ -180,10 +175,10 @@ module _ (text label : List ℕ) where
         both = ap₂ (λ (t u : List ℕ). same_bytes (line_of t) u) (drop_next text i k) (drop_next label i l)
 
         pub first_line_ended : get_or text i 0 ≡ 10 → LabelAt text label false 0
-        first_line_ended h = differs i (sym s.is ∙ both ∙ same_bytes_short _ _ _ (head_byte_is _ _ ∙ h))
+        first_line_ended h = differs (sym s.is ∙ both ∙ same_bytes_short _ _ _ (head_byte_is _ _ ∙ h))
 
         pub first_line_other : (get_or text i 0 ≡ get_or label i 0 → ⊥) → LabelAt text label false 0
-        first_line_other h = differs i (sym s.is ∙ both ∙ same_bytes_other _ _ _ _ h)
+        first_line_other h = differs (sym s.is ∙ both ∙ same_bytes_other _ _ _ _ h)
 
         pub first_line_more : (get_or text i 0 ≡ 10 → ⊥) → get_or text i 0 ≡ get_or label i 0 → FirstLineLoop text label (i + 1)
         first_line_more n h =
@@ -191,33 +186,38 @@ module _ (text label : List ℕ) where
               is = sym (both ∙ same_bytes_more _ _ _ _ n h) ∙ s.is;
               left = sym (ap rest_of (drop_next text i k) ∙ rest_more _ _ n) ∙ s.left;
               within = omega arith;
-              inside = omega arith;
             }
 
-    module _ (l : length label ≤ i) where
-      done : same_bytes (line_of text) label ≡ eqb (head_byte (drop i text)) 10
-      done = sym s.is ∙ ap (same_bytes (line_of (drop i text))) (drop_of_length-le label l) ∙ same_bytes_end (drop i text)
+    -- all of the label
+    pub first_line_whole : length label ≤ i → i ≤ length label → FirstLineLoop text label (length label)
+    first_line_whole l h = let e : i ≡ length label = omega arith in subst (FirstLineLoop text label) e s
 
-      pub first_line_end : length text ≤ i → LabelAt text label true i
-      first_line_end h =
-          let none : drop i text ≡ [] = drop_of_length-le text h in
+  module _ (s : FirstLineLoop text label (length label)) where
+    done : same_bytes (line_of text) label ≡ eqb (head_byte (drop (length label) text)) 10
+    done =
+        sym s.is ∙ ap (same_bytes (line_of (drop (length label) text))) (drop_of_length-le label (omega arith))
+        ∙ same_bytes_end (drop (length label) text)
+
+    pub first_line_end : length text ≤ length label → LabelAt text label true (length label)
+    first_line_end h =
+        let none : drop (length label) text ≡ [] = drop_of_length-le text h in
+        record {
+          is = sym (done ∙ eq-eqb _ _ (ap head_byte none ∙ head_byte_end));
+          left = λ _. none ∙ sym (ap rest_of none ∙ rest_none) ∙ s.left;
+          within = s.within;
+        }
+
+    module _ (k : length label < length text) where
+      byte : head_byte (drop (length label) text) ≡ get_or text (length label) 0
+      byte = ap head_byte (drop_next text (length label) k) ∙ head_byte_is _ _
+
+      pub first_line_same : get_or text (length label) 0 ≡ 10 → LabelAt text label true (length label + 1)
+      first_line_same h =
           record {
-            is = sym (done ∙ eq-eqb _ _ (ap head_byte none ∙ head_byte_end));
-            left = λ _. none ∙ sym (ap rest_of none ∙ rest_none) ∙ s.left;
-            within = s.within;
+            is = sym (done ∙ eq-eqb _ _ (byte ∙ h));
+            left = λ _. sym (ap rest_of (drop_next text (length label) k) ∙ rest_end _ _ h) ∙ s.left;
+            within = omega arith;
           }
 
-      module _ (k : i < length text) where
-        byte : head_byte (drop i text) ≡ get_or text i 0
-        byte = ap head_byte (drop_next text i k) ∙ head_byte_is _ _
-
-        pub first_line_same : get_or text i 0 ≡ 10 → LabelAt text label true (i + 1)
-        first_line_same h =
-            record {
-              is = sym (done ∙ eq-eqb _ _ (byte ∙ h));
-              left = λ _. sym (ap rest_of (drop_next text i k) ∙ rest_end _ _ h) ∙ s.left;
-              within = omega arith;
-            }
-
-        pub first_line_long : (get_or text i 0 ≡ 10 → ⊥) → LabelAt text label false 0
-        first_line_long h = differs i (done ∙ ne_eqb _ _ (λ e. h (sym byte ∙ e)))
+      pub first_line_long : (get_or text (length label) 0 ≡ 10 → ⊥) → LabelAt text label false 0
+      first_line_long h = differs (done ∙ ne_eqb _ _ (λ e. h (sym byte ∙ e)))

@@ -1,5 +1,5 @@
 -- Laws of specs/ReadLists.antt.
-use Rattle.std.specs.Prelude.{ℕ, ◌≤◌, ◌<◌, ◌≡◌, refl, List, [], ◌∷◌, length, get_or}
+use Rattle.std.specs.Prelude.{ℕ, ◌≤◌, ◌<◌, ◌≡◌, refl, List, [], ◌∷◌, length, get_or, Ok, Err}
 use Rattle.std.proofs.Common.{arith, ap, ◌∙◌}
 use Rattle.lists.specs.Overwrite.{overwrite, overwrite-length, overwrite_at}
 use Rattle.refusal.specs.Steps.{Step, Passed, after}
@@ -11,10 +11,9 @@ use Rattle.matrix_market.specs.Examples.{told, sample}
 use Rattle.matrix_market.specs.AcceptedFile.{AcceptedFile}
 use Rattle.matrix_market.proofs.AcceptedFile.{file_accepted}
 use Rattle.requests_reader.specs.Reader.{RequestsRead}
-use Rattle.requests_reader.specs.declared.ReadRequests.TheVariants.{Read, Refused}
 use Rattle.requests_reader.specs.ReadLists.{ReadLists}
 
-module _ (text rows₀ columns₀ rows columns : List ℕ) (n count : ℕ) (r : RequestsRead text rows₀ columns₀ (Read n count) rows columns) where
+module _ (text rows₀ columns₀ rows columns : List ℕ) (n count : ℕ) (r : RequestsRead text rows₀ columns₀ (Ok (n, count)) rows columns) where
   abbrev steps : List Step
   steps = file_steps text (length rows₀) (length columns₀)
 
@@ -75,7 +74,7 @@ fives = 5 ∷ 5 ∷ 5 ∷ 5 ∷ 5 ∷ []
 abbrev fours : List ℕ
 fours = 4 ∷ 4 ∷ 4 ∷ 4 ∷ []
 
-sample_read : RequestsRead sample fives fours (Read 3 4) (0 ∷ 2 ∷ 1 ∷ 2 ∷ 5 ∷ []) (0 ∷ 1 ∷ 1 ∷ 1 ∷ [])
+sample_read : RequestsRead sample fives fours (Ok (3, 4)) (0 ∷ 2 ∷ 1 ∷ 2 ∷ 5 ∷ []) (0 ∷ 1 ∷ 1 ∷ 1 ∷ [])
 unfolding told sample after overwrite
 sample_read = record { replies = refl; rows_are = refl; columns_are = refl }
 
@@ -83,6 +82,6 @@ sample-request : ReadLists 3 4 (0 ∷ 2 ∷ 1 ∷ 2 ∷ 5 ∷ []) (0 ∷ 1 ∷ 1
 sample-request = read_accepted sample fives fours (0 ∷ 2 ∷ 1 ∷ 2 ∷ 5 ∷ []) (0 ∷ 1 ∷ 1 ∷ 1 ∷ []) 3 4 sample_read
 
 -- a list of 3 places is refused, and both are left
-sample_short : RequestsRead sample fives (4 ∷ 4 ∷ 4 ∷ []) (Refused TooShort) fives (4 ∷ 4 ∷ 4 ∷ [])
+sample_short : RequestsRead sample fives (4 ∷ 4 ∷ 4 ∷ []) (Err TooShort) fives (4 ∷ 4 ∷ 4 ∷ [])
 unfolding told sample after
 sample_short = record { replies = refl; rows_are = refl; columns_are = refl }

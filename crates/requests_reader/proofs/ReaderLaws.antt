@@ -2,7 +2,7 @@
 -- Assumes nothing.
 use Prim.Native.Nat.{ℕ, ◌≤◌, ◌<◌}
 use native.Mathlib.Omega.{arith}
-use mathlib.Core.Path.{◌≡◌, sym, ap, ap₂, ◌∙◌}
+use mathlib.Core.Path.{◌≡◌, refl, sym, ap, ap₂, ◌∙◌}
 use mathlib.Core.Bool.{Bool, true, false, not}
 use mathlib.Core.List.{List, ◌++◌}
 use lib.ListN.{length, drop}
@@ -23,9 +23,11 @@ use Rattle.file_lines.specs.Places.{fields_at}
 use Rattle.file_lines.proofs.ScanLaws.{first_line_is, later_lines_are}
 use Rattle.requests_reader.specs.HeaderLines.{LabelAt, SizeAt, SizeRead}
 use Rattle.requests_reader.specs.EntryLines.{entries_from, Scanned, StoreEntriesInput, RequestsStored}
-use Rattle.requests_reader.specs.Reader.{read_reply, RequestsRead}
-use Rattle.requests_reader.specs.declared.ReadRequests.{ReadRequests}
+use Rattle.requests_reader.specs.Reader.{RequestsRead}
 use Rattle.requests_reader.proofs.EntryLaws.{entries_of}
+use Rattle.std.specs.Prelude.{Result}
+use Rattle.refusal.specs.declared.Refusal.{Refusal}
+use Rattle.refusal.specs.Refusal.{reply_of}
 
 -- ---- how far the file is read
 -- the first line is the header, and the size line stands at p
@@ -52,37 +54,38 @@ pub record EntriesPassed (text : List ℕ) (n count p seen : ℕ) : Type 0 where
   pub right : seen ≡ count
   pub inside : some (outside_entry n) (entries_from text p) ≡ false
 
-module _ (text : List ℕ) (found : Bool) (start p : ℕ) (h : LabelAt text header found start) (f : found ≡ true) (s : SizeAt text start p) where
+module _ (text : List ℕ) (start p : ℕ) (h : LabelAt text header true start) (s : SizeAt text start p) where
   body_is : body text ≡ lines (drop p text)
   unfolding body
-  body_is = sym (s.left ∙ ap (λ (t : List ℕ). from_size (lines t)) (h.left f) ∙ ap from_size (sym (later_lines_are text)))
+  body_is = sym (s.left ∙ ap (λ (t : List ℕ). from_size (lines t)) (h.left refl) ∙ ap from_size (sym (later_lines_are text)))
 
-  pub header_passed : HeaderPassed text p
+  header_passed : HeaderPassed text p
   unfolding size_fields entries
   header_passed =
       record {
-        headed = ap (λ (l : List ℕ). not (same_bytes l header)) (first_line_is text) ∙ ap not (sym h.is ∙ f);
+        headed = ap (λ (l : List ℕ). not (same_bytes l header)) (first_line_is text) ∙ ap not (sym h.is);
         size_is = ap fields (ap first_line body_is ∙ first_line_is (drop p text));
         entries_are = ap line_entries (ap later_lines body_is ∙ later_lines_are (drop p text));
       }
 
-pub size_passed : (text : List ℕ) (at : ℕ) (accepted : Bool) (n count p : ℕ) → HeaderPassed text at → SizeRead text at accepted n count p → accepted ≡ true
+pub size_passed : (text : List ℕ) (start at n count p : ℕ) → LabelAt text header true start → SizeAt text start at → SizeRead text at true n count p
     → SizePassed text n count p
-size_passed text at accepted n count p h z a =
+size_passed text start at n count p l s z =
+    let h = header_passed text start at l s in
     record {
       headed = h.headed;
-      sized = ap (λ (l : List (List ℕ)). verdict (file_size_steps l)) h.size_is ∙ z.passes a;
-      n_is = ap (number 0) h.size_is ∙ z.n_is a;
-      count_is = ap (number 2) h.size_is ∙ z.count_is a;
-      entries_are = h.entries_are ∙ ap entries_of (sym (z.left a));
+      sized = ap (λ (l : List (List ℕ)). verdict (file_size_steps l)) h.size_is ∙ z.passes refl;
+      n_is = ap (number 0) h.size_is ∙ z.n_is refl;
+      count_is = ap (number 2) h.size_is ∙ z.count_is refl;
+      entries_are = h.entries_are ∙ ap entries_of (sym (z.left refl));
       small = z.small;
       within = z.within;
     }
 
-module _ (text : List ℕ) (n count p : ℕ) (formed : Bool) (seen : ℕ) (outside : Bool) (z : SizePassed text n count p)
-    (c : Scanned n text p formed seen outside) (f : formed ≡ true) where
-  pub entries_passed : seen ≡ count → outside ≡ false → EntriesPassed text n count p seen
-  entries_passed q o = record { size = z; formed = c.is ∙ ap not f; counted = c.counted f; right = q; inside = c.found f ∙ o }
+pub entries_passed : (text : List ℕ) (n count p seen : ℕ) (outside : Bool) → SizePassed text n count p → Scanned n text p true seen outside
+    → seen ≡ count → outside ≡ false → EntriesPassed text n count p seen
+entries_passed text n count p seen outside z c q o =
+    record { size = z; formed = c.is; counted = c.counted refl; right = q; inside = c.found refl ∙ o }
 
 pub can_store : (text : List ℕ) (n count p seen : ℕ) → EntriesPassed text n count p seen → StoreEntriesInput text p seen
 can_store text n count p seen e =
@@ -102,7 +105,7 @@ module _ (text rows₀ columns₀ : List ℕ) where
 
   -- what a refusal's return has to show
   abbrev Refuses : ℕ → Type 0
-  Refuses k = (r : ReadRequests) → read_reply r ≡ refused k → RequestsRead text rows₀ columns₀ r rows₀ columns₀
+  Refuses k = (r : Result (ℕ × ℕ) Refusal) → reply_of r ≡ refused k → RequestsRead text rows₀ columns₀ r rows₀ columns₀
 
   -- a refusal leaves both lists
   refuses : (k : ℕ) → verdict steps ≡ refused k → Refuses k
@@ -113,17 +116,17 @@ module _ (text rows₀ columns₀ : List ℕ) where
         columns_are = sym (after_refused _ k _ columns₀ h);
       }
 
-  pub header_other : (found : Bool) (start : ℕ) → LabelAt text header found start → found ≡ false → Refuses 15
+  pub header_other : LabelAt text header false 0 → Refuses 15
   unfolding file_steps
-  header_other found start h f =
-      refuses 15 (first_hit 15 _ tt (ap (λ (l : List ℕ). not (same_bytes l header)) (first_line_is text) ∙ ap not (sym h.is ∙ f)))
+  header_other h = refuses 15 (first_hit 15 _ tt (ap (λ (l : List ℕ). not (same_bytes l header)) (first_line_is text) ∙ ap not (sym h.is)))
 
-  pub size_refused : (at : ℕ) (accepted : Bool) (n count p : ℕ) → HeaderPassed text at → SizeRead text at accepted n count p → accepted ≡ false → Refuses 16
+  pub size_refused : (start at : ℕ) → LabelAt text header true start → SizeAt text start at → SizeRead text at false 0 0 0 → Refuses 16
   unfolding file_steps
-  size_refused at accepted n count p h z a =
+  size_refused start at l s z =
+      let h = header_passed text start at l s in
       refuses 16
       (first_skip 15 _ tt h.headed
-      (append-refused (file_size_steps (size_fields text)) _ 16 tt (ap (λ (l : List (List ℕ)). verdict (file_size_steps l)) h.size_is ∙ z.refuses a)))
+      (append-refused (file_size_steps (size_fields text)) _ 16 tt (ap (λ (l : List (List ℕ)). verdict (file_size_steps l)) h.size_is ∙ z.refuses refl)))
 
   -- the steps of the entries and the lists' room, which decide where 15 and the size line pass
   abbrev later_steps : ℕ → ℕ → List (List (List ℕ)) → List Step
@@ -139,25 +142,26 @@ module _ (text rows₀ columns₀ : List ℕ) where
       ∙ ap₂ (λ (k : ℕ) (es : List (List (List ℕ))). verdict (later_steps n k es)) z.count_is z.entries_are
       ∙ e)
 
-  module _ (n count p : ℕ) (formed : Bool) (seen : ℕ) (outside : Bool) (z : SizePassed text n count p) (c : Scanned n text p formed seen outside) where
-    pub entry_malformed : formed ≡ false → Refuses 16
+  module _ (n count p : ℕ) (z : SizePassed text n count p) where
+    pub entry_malformed : Scanned n text p false 0 false → Refuses 16
     unfolding file_entry_steps
-    entry_malformed f = refuses 16 (later_decide n count p z _ (first_hit 16 _ tt (c.is ∙ ap not f)))
+    entry_malformed c = refuses 16 (later_decide n count p z _ (first_hit 16 _ tt c.is))
 
-    pub count_wrong : formed ≡ true → (seen ≡ count → ⊥) → Refuses 16
-    unfolding file_entry_steps
-    count_wrong f q =
-        refuses 16
-        (later_decide n count p z _
-        (first_skip 16 _ tt (c.is ∙ ap not f) (first_hit 16 _ tt (ap not (ne_eqb _ _ (λ w. q (sym (c.counted f) ∙ w)))))))
+    module _ (seen : ℕ) (outside : Bool) (c : Scanned n text p true seen outside) where
+      pub count_wrong : (seen ≡ count → ⊥) → Refuses 16
+      unfolding file_entry_steps
+      count_wrong q =
+          refuses 16
+          (later_decide n count p z _
+          (first_skip 16 _ tt c.is (first_hit 16 _ tt (ap not (ne_eqb _ _ (λ w. q (sym (c.counted refl) ∙ w)))))))
 
-    pub index-outside : formed ≡ true → seen ≡ count → outside ≡ true → Refuses 17
-    unfolding file_entry_steps
-    index-outside f q o =
-        refuses 17
-        (later_decide n count p z _
-        (first_skip 16 _ tt (c.is ∙ ap not f)
-        (first_skip 16 _ tt (ap not (eq-eqb _ _ (c.counted f ∙ q))) (first_hit 17 _ tt (c.found f ∙ o)))))
+      pub index-outside : seen ≡ count → outside ≡ true → Refuses 17
+      unfolding file_entry_steps
+      index-outside q o =
+          refuses 17
+          (later_decide n count p z _
+          (first_skip 16 _ tt c.is
+          (first_skip 16 _ tt (ap not (eq-eqb _ _ (c.counted refl ∙ q))) (first_hit 17 _ tt (c.found refl ∙ o)))))
 
   module _ (n count p seen requests : ℕ) (e : EntriesPassed text n count p seen) (t : requests ≡ request_count n seen) where
     requests_are : length (stand_for n (entries_from text p)) ≡ requests
@@ -187,7 +191,7 @@ module _ (text rows₀ columns₀ : List ℕ) where
         requests_told : stand_for n (entries_from text p) ≡ file_requests text
         requests_told = ap₂ stand_for (sym e.size.n_is) (sym e.size.entries_are)
 
-        pub all_read : (r : ReadRequests) (rows columns : List ℕ) → read_reply r ≡ answered (n, requests) → RequestsStored (stand_for n (entries_from text p)) rows₀ columns₀ rows columns
+        pub all_read : (r : Result (ℕ × ℕ) Refusal) (rows columns : List ℕ) → reply_of r ≡ answered (n, requests) → RequestsStored (stand_for n (entries_from text p)) rows₀ columns₀ rows columns
             → RequestsRead text rows₀ columns₀ r rows columns
         all_read r rows columns q w =
             record {

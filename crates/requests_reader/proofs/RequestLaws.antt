@@ -28,7 +28,6 @@ pub record DiagonalLoop (n k : ℕ) (rows₀ columns₀ rows columns : List ℕ)
   pub columns_are : columns ≡ filled (λ i. i) k columns₀
   pub rows_long : length rows ≡ length rows₀
   pub columns_long : length columns ≡ length columns₀
-  pub most : k ≤ n
 
 tabulate-map : {A B : Type 0} (g : A → B) (f : ℕ → A) (n : ℕ) → map g (tabulate f n) ≡ tabulate (λ i. g (f i)) n
 unfolding tabulate
@@ -43,7 +42,6 @@ module _ (n : ℕ) (rows₀ columns₀ : List ℕ) where
         columns_are = filled_none (λ i. i) columns₀;
         rows_long = refl;
         columns_long = refl;
-        most = omega arith;
       }
 
   module _ (k : ℕ) (rows columns : List ℕ) (D : DiagonalLoop n k rows₀ columns₀ rows columns) where
@@ -54,13 +52,12 @@ module _ (n : ℕ) (rows₀ columns₀ : List ℕ) where
           columns_are = ap (λ (s : List ℕ). set s k k) D.columns_are ∙ filled_more (λ i. i) columns₀ k (omega arith);
           rows_long = length-set rows k k ∙ D.rows_long;
           columns_long = length-set columns k k ∙ D.columns_long;
-          most = omega arith;
         }
 
-    pub diagonal_end : n ≤ k → RequestsStored (every_diagonal n) rows₀ columns₀ rows columns
+    pub diagonal_end : n ≤ k → k ≤ n → RequestsStored (every_diagonal n) rows₀ columns₀ rows columns
     unfolding filled
-    diagonal_end h =
-        let e : k ≡ n = omega (arith, D.most) in
+    diagonal_end h m =
+        let e : k ≡ n = omega arith in
         let r : request_rows (every_diagonal n) ≡ tabulate (λ i. i) n = tabulate-map (λ (p : ℕ × ℕ). p.0) diagonal_pair n in
         let c : request_columns (every_diagonal n) ≡ tabulate (λ i. i) n = tabulate-map (λ (p : ℕ × ℕ). p.1) diagonal_pair n in
         record {

@@ -1,7 +1,7 @@
 // Reading requests from a Matrix Market file.
 #![tactic(auto)]
 
-ghost use Rattle.std.specs.Prelude.{◌≤◌, ◌≡◌, false, length};
+ghost use Rattle.std.specs.Prelude.{◌≤◌, true, false, length, MatchOption};
 ghost use Rattle.requests_reader.specs.HeaderLines.{SizeRead};
 ghost use Rattle.requests_reader.specs.Reader.{RequestsRead};
 
@@ -15,90 +15,68 @@ pub mod entries;
 pub mod front;
 pub mod requests;
 
-// The dimension and the number of requests, or why the file is refused.
-#[derive(Clone, Copy)]
-pub enum ReadRequests {
-    Read(usize, usize),
-    Refused(Refusal),
-}
-
-// Whether a size line is accepted; then the dimension, the entry count and the place behind it.
+// What an accepted size line tells: the dimension, the entry count and the place behind it.
 #[derive(Clone, Copy)]
 struct Size {
-    accepted: bool,
     n: usize,
     count: usize,
     next: usize,
 }
 
-// The size line at p.
-fn read_size(text: &[u8], p: usize) -> Size
+// The size line at p, if it is accepted.
+fn read_size(text: &[u8], p: usize) -> Option<Size>
     requires { p ≤ length text.now }
-    ensures { SizeRead text.now p result.accepted result.n result.count result.next }
+    ensures { MatchOption result (SizeRead text.now p false 0 0 0) (λ s. SizeRead text.now p true s.n s.count s.next) }
 {
-    let line = read_triple(text, p);
-    if !line.formed {
-        return not_a_size();
-    }
+    let line = read_triple(text, p)?;
     if line.first > MAX_DIMENSION {
-        return not_a_size();
+        return None;
     }
     if line.first != line.second {
-        return not_a_size();
+        return None;
     }
     if line.third > MAX_ENTRIES {
-        return not_a_size();
+        return None;
     }
-    Size {
-        accepted: true,
+    Some(Size {
         n: line.first,
         count: line.third,
         next: line.next,
-    }
-}
-
-// No size line, or one that is refused.
-fn not_a_size() -> Size
-    ensures { (result.accepted ≡ false) × (result.n ≡ 0) × (result.next ≡ 0) }
-{
-    Size {
-        accepted: false,
-        n: 0,
-        count: 0,
-        next: 0,
-    }
+    })
 }
 
 // Reads the file's requests to the front of the two lists, in file order, repeats kept; a file without entries stands for every diagonal pair.
-pub fn read_requests(text: &[u8], rows: &mut [u32], columns: &mut [u32]) -> ReadRequests
+pub fn read_requests(
+    text: &[u8],
+    rows: &mut [u32],
+    columns: &mut [u32],
+) -> Result<(usize, usize), Refusal>
     ensures { RequestsRead text.now rows.old columns.old result rows.new columns.new }
 {
-    let head = first_line_is(text, b"%%MatrixMarket matrix coordinate pattern symmetric");
-    if !head.ended {
-        return ReadRequests::Refused(Refusal::OtherHeader);
-    }
-    let at = skip_comments(text, head.next);
-    let size = read_size(text, at);
-    if !size.accepted {
-        return ReadRequests::Refused(Refusal::MalformedFile);
-    }
-    let scan = scan_entries(text, size.next, size.n);
-    if !scan.formed {
-        return ReadRequests::Refused(Refusal::MalformedFile);
-    }
+    let header = b"%%MatrixMarket matrix coordinate pattern symmetric";
+    let Some(start) = first_line_is(text, header) else {
+        return Err(Refusal::OtherHeader);
+    };
+    let at = skip_comments(text, start);
+    let Some(size) = read_size(text, at) else {
+        return Err(Refusal::MalformedFile);
+    };
+    let Some(scan) = scan_entries(text, size.next, size.n) else {
+        return Err(Refusal::MalformedFile);
+    };
     if scan.count != size.count {
-        return ReadRequests::Refused(Refusal::MalformedFile);
+        return Err(Refusal::MalformedFile);
     }
     if scan.outside {
-        return ReadRequests::Refused(Refusal::FileIndexOutside);
+        return Err(Refusal::FileIndexOutside);
     }
     let requests = request_count(size.n, scan.count);
     if rows.len() < requests {
-        return ReadRequests::Refused(Refusal::TooShort);
+        return Err(Refusal::TooShort);
     }
     if columns.len() < requests {
-        return ReadRequests::Refused(Refusal::TooShort);
+        return Err(Refusal::TooShort);
     }
     store_requests(text, size.next, size.n, scan.count, rows, columns);
-    ReadRequests::Read(size.n, requests)
+    Ok((size.n, requests))
 }

@@ -21,11 +21,9 @@ fn store_diagonals(n: usize, rows: &mut [u32], columns: &mut [u32])
     requires { (n ≤ max_dimension) × (n ≤ length rows.old) × (n ≤ length columns.old) }
     ensures { RequestsStored (every_diagonal n) rows.old columns.old rows.new columns.new }
 {
-    let mut k = 0;
-    while k < n {
+    for k in 0..n {
         rows[k] = k as u32;
         columns[k] = k as u32;
-        k += 1;
     }
 }
 

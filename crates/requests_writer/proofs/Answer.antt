@@ -1,6 +1,6 @@
 -- What a call that answers leaves in front of its output: the file of the requests' set. Equal sets of one dimension give equal bytes, and the reader gives back
 -- the set. Assumes nothing.
-use Rattle.std.specs.Prelude.{ℕ, ◌≤◌, ◌<◌, ◌≡◌, List, length, take}
+use Rattle.std.specs.Prelude.{ℕ, ◌≤◌, ◌<◌, ◌≡◌, List, length, take, Result}
 use Rattle.std.proofs.Common.{sym, ap, ap₂, subst, ◌∙◌}
 use Rattle.lists.specs.Overwrite.{overwrite_front}
 use Rattle.refusal.specs.Steps.{answered, Passed}
@@ -10,17 +10,18 @@ use Rattle.pairs.specs.ColumnOrder.{set_size}
 use Rattle.closed_set.specs.Requests.{requested}
 use Rattle.matrix_market.specs.File.{file_steps, file_answer, file_rows, file_columns}
 use Rattle.matrix_market.proofs.FileOf.{file_cong}
-use Rattle.requests_writer.specs.declared.WrittenRequests.{WrittenRequests}
-use Rattle.requests_writer.specs.Writer.{write_checks, mark_steps, write_steps, requests_file, written_reply, RequestsWritten}
+use Rattle.requests_writer.specs.Writer.{write_checks, mark_steps, write_steps, requests_file, RequestsWritten}
 use Rattle.requests_writer.proofs.RoundTrip.{written_passes, written_answer, written_requested}
+use Rattle.refusal.specs.declared.Refusal.{Refusal}
+use Rattle.refusal.specs.Refusal.{reply_of}
 
 -- equal sets give equal bytes
 pub same_file : (n : ℕ) (rows columns rows' columns' : List ℕ) → ((r c : ℕ) → c ≤ r → r < n → requested rows columns r c ≡ requested rows' columns' r c)
     → requests_file n rows columns ≡ requests_file n rows' columns'
 same_file n rows columns rows' columns' same = file_cong n (requested rows columns) (requested rows' columns') same
 
-module _ (n : ℕ) (rows columns output₀ scratch₀ : List ℕ) {reply : WrittenRequests} {output scratch : List ℕ}
-    (W : RequestsWritten n rows columns output₀ scratch₀ reply output scratch) {m : ℕ} (answer : written_reply reply ≡ answered m) where
+module _ (n : ℕ) (rows columns output₀ scratch₀ : List ℕ) {reply : Result ℕ Refusal} {output scratch : List ℕ}
+    (W : RequestsWritten n rows columns output₀ scratch₀ reply output scratch) {m : ℕ} (answer : reply_of reply ≡ answered m) where
   passed : Passed (write_steps n rows columns (length scratch₀) (length output₀))
   passed = told_passed (write_steps n rows columns (length scratch₀) (length output₀)) (length (requests_file n rows columns)) (sym answer ∙ W.replies)
 
@@ -49,9 +50,9 @@ module _ (n : ℕ) (rows columns output₀ scratch₀ : List ℕ) {reply : Writt
 
 -- two calls that answer, with equal sets of one dimension: as many bytes, and equal ones
 pub same_bytes : (n : ℕ) (rows columns output₀ scratch₀ rows' columns' output₀' scratch₀' : List ℕ)
-    {reply reply' : WrittenRequests} {output scratch output' scratch' : List ℕ}
+    {reply reply' : Result ℕ Refusal} {output scratch output' scratch' : List ℕ}
     → RequestsWritten n rows columns output₀ scratch₀ reply output scratch → RequestsWritten n rows' columns' output₀' scratch₀' reply' output' scratch'
-    → {m m' : ℕ} → written_reply reply ≡ answered m → written_reply reply' ≡ answered m'
+    → {m m' : ℕ} → reply_of reply ≡ answered m → reply_of reply' ≡ answered m'
     → ((r c : ℕ) → c ≤ r → r < n → requested rows columns r c ≡ requested rows' columns' r c) → (m ≡ m') × (take m output ≡ take m' output')
 same_bytes n rows columns output₀ scratch₀ rows' columns' output₀' scratch₀' W W' a a' same =
     let e = same_file n rows columns rows' columns' same in (

@@ -7,9 +7,9 @@ use mathlib.Core.Path.{◌≡◌, refl, sym, ap, ap₂, subst, ◌∙◌}
 use mathlib.Core.Bool.{Bool}
 use mathlib.Core.List.{List, [], ◌∷◌, ◌++◌, map, map-append, append_assoc, append-nil}
 use lib.ListN.{length, get_or, take, drop, set, length-append, length-set}
-use lib.Seq.{take-suc, take-add, length-take-le}
+use lib.Seq.{take-suc, take-add}
 use Rattle.lists.specs.Select.{select, map_snoc}
-use Rattle.lists.specs.Overwrite.{splice, splice_none, splice_more, splice_before, splice_join, splice-length}
+use Rattle.lists.specs.Overwrite.{overwrite, splice, splice_none, splice_more, splice_before, splice_join, splice-length}
 use Rattle.lists.specs.Cells.{cells, cells_none, cells_next}
 use Rattle.refusal.specs.Bounds.{max_dimension}
 use Rattle.pairs.specs.Pair.{max_pairs}
@@ -133,14 +133,12 @@ wrote_byte b place text h =
       next_is = refl;
     }
 
--- the next of some bytes
-pub splice_taken : (bytes : List ℕ) (place : ℕ) (text : List ℕ) (k : ℕ) → k < length bytes → place + length bytes ≤ length text
-    → set (splice place (take k bytes) text) (place + k) (get_or bytes k 0) ≡ splice place (take (k + 1) bytes) text
-splice_taken bytes place text k h room =
-    let n : length (take k bytes) ≡ k = length-take-le k bytes (omega arith) in
-    ap (λ (i : ℕ). set (splice place (take k bytes) text) (place + i) (get_or bytes k 0)) (sym n)
-    ∙ splice_more place (take k bytes) text (get_or bytes k 0) (omega arith)
-    ∙ ap (λ (l : List ℕ). splice place l text) (sym (ap (λ (i : ℕ). take i bytes) (add-one k) ∙ take-suc bytes k 0 h))
+-- bytes copied over as many
+pub wrote_copied : (bytes copied : List ℕ) (place k : ℕ) (text : List ℕ) → copied ≡ bytes → k ≡ length bytes
+    → Wrote bytes place text (take place text ++ (copied ++ drop k (drop place text))) (place + length bytes)
+unfolding splice overwrite
+wrote_copied bytes copied place k text e n =
+    record { text_is = ap₂ (λ (l : List ℕ) (i : ℕ). take place text ++ (l ++ drop i (drop place text))) e n; next_is = refl }
 
 -- the digits of x from the last on: those of y are still to be written, before the place i + 1
 pub record LastDigits (x place : ℕ) (text₀ text : List ℕ) (i y : ℕ) : Type 0 where

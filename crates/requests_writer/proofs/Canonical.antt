@@ -1,5 +1,5 @@
 -- Laws of specs/Canonical.antt.
-use Rattle.std.specs.Prelude.{ℕ, ◌≤◌, ◌<◌, ◌≡◌, Bool, false, ◌&&◌, List, [], ◌∷◌, eqb, ltb, take}
+use Rattle.std.specs.Prelude.{ℕ, ◌≤◌, ◌<◌, ◌≡◌, Bool, false, ◌&&◌, List, [], ◌∷◌, eqb, ltb, take, Ok, Result}
 use Rattle.std.proofs.Common.{arith, ap₂, subst, subst₂, ◌∙◌}
 use Rattle.std.proofs.Math.Path.{sym, ap}
 use Rattle.std.proofs.Math.Bool.{not}
@@ -22,11 +22,11 @@ use Rattle.matrix_market.proofs.AcceptedFile.{file_accepted}
 use Rattle.matrix_market.specs.FileOf.{file_of}
 use Rattle.matrix_market.proofs.FileOf.{file_cong}
 use Rattle.matrix_market.proofs.FileRead.{dimension_is, file_requested}
-use Rattle.requests_reader.specs.declared.ReadRequests.TheVariants.{Read}
 use Rattle.requests_reader.specs.Reader.{RequestsRead}
-use Rattle.requests_writer.specs.declared.WrittenRequests.{WrittenRequests}
-use Rattle.requests_writer.specs.Writer.{some_upper, write_checks, mark_steps, output_step, write_steps, requests_file, written_reply, RequestsWritten}
+use Rattle.requests_writer.specs.Writer.{some_upper, write_checks, mark_steps, output_step, write_steps, requests_file, RequestsWritten}
 use Rattle.requests_writer.specs.Canonical.{canonical}
+use Rattle.refusal.specs.declared.Refusal.{Refusal}
+use Rattle.refusal.specs.Refusal.{reply_of}
 
 -- ---- no entries stand for no requests only where there are no columns
 some_requests : (n : ℕ) (es : List (List (List ℕ))) → 0 < n → length (stand_for n es) ≡ 0 → ⊥
@@ -76,7 +76,7 @@ module _ (text : List ℕ) (rows columns : ℕ) (p : Passed (file_steps text row
           (sym accepted.rows_long ∙ eqb-true _ _ (and_left (eqb (length (file_rows text)) 0) _ e)))
 
 -- ---- of two calls: one reads a file and answers n and count, the other writes the first count requests of the lists
-module _ (text rows₀ columns₀ rows columns : List ℕ) (n count : ℕ) (R : RequestsRead text rows₀ columns₀ (Read n count) rows columns) where
+module _ (text rows₀ columns₀ rows columns : List ℕ) (n count : ℕ) (R : RequestsRead text rows₀ columns₀ (Ok (n, count)) rows columns) where
   abbrev reading : List Step
   reading = file_steps text (length rows₀) (length columns₀)
 
@@ -113,7 +113,7 @@ module _ (text rows₀ columns₀ rows columns : List ℕ) (n count : ℕ) (R : 
       (read_checks text (length rows₀) (length columns₀) passed))
 
   -- with room it is written
-  module _ (output₀ scratch₀ : List ℕ) {reply : WrittenRequests} {output scratch : List ℕ}
+  module _ (output₀ scratch₀ : List ℕ) {reply : Result ℕ Refusal} {output scratch : List ℕ}
       (W : RequestsWritten n (take count rows) (take count columns) output₀ scratch₀ reply output scratch)
       (marks-room : mark_words n ≤ length scratch₀) (output-room : length (canonical text) ≤ length output₀) where
     abbrev writing : List Step
@@ -127,7 +127,7 @@ module _ (text rows₀ columns₀ rows columns : List ℕ) (n count : ℕ) (R : 
         (passed_append (write_checks n (take count rows) (take count columns)) ((7, _) ∷ []) checked (clear_passed ((7, _) ∷ []) (le-ltb _ _ marks-room, tt)))
         (clear_passed (output_step (length file) (length output₀) ∷ []) (le-ltb _ _ long, tt))
 
-    pub read_then_written : (written_reply reply ≡ answered (length (canonical text))) × (take (length (canonical text)) output ≡ canonical text)
+    pub read_then_written : (reply_of reply ≡ answered (length (canonical text))) × (take (length (canonical text)) output ≡ canonical text)
     read_then_written = (
       W.replies ∙ first_passed writing _ written ∙ ap (λ (f : List ℕ). answered (length f)) canonical-file,
       ap (take (length (canonical text)))

@@ -20,7 +20,6 @@ use Rattle.requests_writer.proofs.Marked.{place_ordered}
 pub record MarkedTo (n : ℕ) (rows columns marks₀ marks : List ℕ) (k : ℕ) : Type 0 where
   pub sets : (r c : ℕ) → c ≤ r → r < n → column_marking n marks r c ≡ requested_to rows columns k r c
   pub long : length marks ≡ length marks₀
-  pub most : k ≤ length rows
 
 -- the marks cleared
 module _ (n : ℕ) (rows columns marks : List ℕ) (I : MarkInput n rows columns marks) (clean : List ℕ) (e : clean ≡ cleared (length marks) marks) where
@@ -37,7 +36,6 @@ module _ (n : ℕ) (rows columns marks : List ℕ) (I : MarkInput n rows columns
         bit-clear clean (column_place n r c) (ap (λ (s : List ℕ). get_or s (column_place n r c / 32) 0) e ∙ filled_at (λ _. 0) (length marks) marks _ 0 (omega (arith, w, I.all)))
         ∙ sym (any_none _);
     long = refl;
-    most = omega arith;
   }
 
 module _ (n : ℕ) (rows columns marks : List ℕ) (I : MarkInput n rows columns marks) where
@@ -65,13 +63,11 @@ module _ (n : ℕ) (rows columns marks : List ℕ) (I : MarkInput n rows columns
           ∙ ap₂ ◌||◌ (M.sets r c h m) (place_ordered n a b r c low high h m)
           ∙ sym (any_next (λ j. ordered (get_or rows j 0) (get_or columns j 0) r c) k);
       long = length-set now _ _ ∙ M.long;
-      most = omega arith;
     }
 
-  pub marked_end : (k : ℕ) (now : List ℕ) → MarkedTo n rows columns marks now k → length rows ≤ k → MarkedRequests n rows columns marks now
+  pub marked_end : (k : ℕ) (now : List ℕ) → MarkedTo n rows columns marks now k → k ≡ length rows → MarkedRequests n rows columns marks now
   unfolding requested
-  marked_end k now M h =
-      let e : k ≡ length rows = omega (arith, M.most) in
+  marked_end k now M e =
       record {
         marks_are = λ r c g l. M.sets r c g l ∙ ap (λ (j : ℕ). requested_to rows columns j r c) e;
         long = M.long;

@@ -1,6 +1,6 @@
 -- Worked calls: requests of two columns written, refused, read back, and written again.
 -- Assumes nothing.
-use Rattle.std.specs.Prelude.{ℕ, zero, suc, ◌≤◌, ◌<◌, ◌≡◌, refl, false, cond, List, [], ◌∷◌, ◌++◌, eqb, length, replicate, take}
+use Rattle.std.specs.Prelude.{ℕ, zero, suc, ◌≤◌, ◌<◌, ◌≡◌, refl, false, cond, List, [], ◌∷◌, ◌++◌, eqb, length, replicate, take, Ok, Err}
 use Rattle.std.proofs.Common.{arith, ap₂}
 use Rattle.std.proofs.lemmas.Bool.{false≢true}
 use Prim.Native.String.{String}
@@ -20,13 +20,12 @@ use Rattle.matrix_market.specs.File.{dimension_of, file_rows, file_columns, file
 use Rattle.matrix_market.specs.Decimal.{decimal, digits_within}
 use Rattle.matrix_market.specs.FileOf.{spaced, file_of}
 use Rattle.matrix_market.specs.Examples.{bytes, headed, number_of, told}
-use Rattle.requests_reader.specs.declared.ReadRequests.TheVariants.{Read}
 use Rattle.requests_reader.specs.Reader.{RequestsRead}
-use Rattle.requests_writer.specs.declared.WrittenRequests.TheVariants.{Written, Refused}
-use Rattle.requests_writer.specs.Writer.{some_upper, write_checks, write_steps, requests_file, written_reply, RequestsWritten}
+use Rattle.requests_writer.specs.Writer.{some_upper, write_checks, write_steps, requests_file, RequestsWritten}
 use Rattle.requests_writer.proofs.Answer.{answer_bytes, answer_read, answer_set, same_bytes}
 use Rattle.requests_writer.specs.Canonical.{canonical}
 use Rattle.requests_writer.proofs.Canonical.{read_then_written, canonical_same, canonical_itself}
+use Rattle.refusal.specs.Refusal.{reply_of}
 
 -- ---- the file of requests
 unfoldable file : List ℕ
@@ -79,22 +78,22 @@ abbrev sevens : ℕ → List ℕ
 sevens = λ k. replicate k 7
 
 -- 65 bytes, and one behind them; the first word of the scratch is 0 after it, the second as it was
-answered-call : RequestsWritten 2 (1 ∷ 0 ∷ 1 ∷ []) (0 ∷ 0 ∷ 0 ∷ []) (sevens 66) (5 ∷ 9 ∷ []) (Written 65) (file ++ (7 ∷ [])) (0 ∷ 9 ∷ [])
+answered-call : RequestsWritten 2 (1 ∷ 0 ∷ 1 ∷ []) (0 ∷ 0 ∷ 0 ∷ []) (sevens 66) (5 ∷ 9 ∷ []) (Ok 65) (file ++ (7 ∷ [])) (0 ∷ 9 ∷ [])
 unfolding write_told file headed bytes after overwrite filled tabulate
 answered-call = record { replies = refl; output_is = refl; scratch_is = refl }
 
 -- the same pairs in another order
-other_call : RequestsWritten 2 (0 ∷ 1 ∷ []) (0 ∷ 0 ∷ []) (sevens 65) (5 ∷ []) (Written 65) file (0 ∷ [])
+other_call : RequestsWritten 2 (0 ∷ 1 ∷ []) (0 ∷ 0 ∷ []) (sevens 65) (5 ∷ []) (Ok 65) file (0 ∷ [])
 unfolding write_told file headed bytes after overwrite filled tabulate
 other_call = record { replies = refl; output_is = refl; scratch_is = refl }
 
 -- an output that is too short: it is as it was, the scratch's word 0
-short_output : RequestsWritten 2 (1 ∷ 0 ∷ 1 ∷ []) (0 ∷ 0 ∷ 0 ∷ []) (sevens 64) (5 ∷ 9 ∷ []) (Refused TooShort) (sevens 64) (0 ∷ 9 ∷ [])
+short_output : RequestsWritten 2 (1 ∷ 0 ∷ 1 ∷ []) (0 ∷ 0 ∷ 0 ∷ []) (sevens 64) (5 ∷ 9 ∷ []) (Err TooShort) (sevens 64) (0 ∷ 9 ∷ [])
 unfolding write_told after filled tabulate overwrite
 short_output = record { replies = refl; output_is = refl; scratch_is = refl }
 
 -- a scratch that is too short is as it was
-short_scratch : RequestsWritten 8 (1 ∷ []) (0 ∷ []) (sevens 66) (5 ∷ []) (Refused TooShort) (sevens 66) (5 ∷ [])
+short_scratch : RequestsWritten 8 (1 ∷ []) (0 ∷ []) (sevens 66) (5 ∷ []) (Err TooShort) (sevens 66) (5 ∷ [])
 unfolding write_told after
 short_scratch = record { replies = refl; output_is = refl; scratch_is = refl }
 
@@ -131,11 +130,11 @@ unfoldable diagonal : List ℕ
 unfolding headed
 diagonal = headed "\n2 2 2\n1 1\n2 2\n"
 
-whole_read : RequestsRead whole (5 ∷ 5 ∷ 5 ∷ []) (5 ∷ 5 ∷ []) (Read 2 2) (0 ∷ 1 ∷ 5 ∷ []) (0 ∷ 1 ∷ [])
+whole_read : RequestsRead whole (5 ∷ 5 ∷ 5 ∷ []) (5 ∷ 5 ∷ []) (Ok (2, 2)) (0 ∷ 1 ∷ 5 ∷ []) (0 ∷ 1 ∷ [])
 unfolding told whole headed bytes after overwrite
 whole_read = record { replies = refl; rows_are = refl; columns_are = refl }
 
-whole_written : RequestsWritten 2 (0 ∷ 1 ∷ []) (0 ∷ 1 ∷ []) (sevens 65) (5 ∷ []) (Written 65) diagonal (0 ∷ [])
+whole_written : RequestsWritten 2 (0 ∷ 1 ∷ []) (0 ∷ 1 ∷ []) (sevens 65) (5 ∷ []) (Ok 65) diagonal (0 ∷ [])
 unfolding write_told diagonal headed bytes after overwrite filled tabulate
 whole_written = record { replies = refl; output_is = refl; scratch_is = refl }
 
@@ -143,7 +142,7 @@ whole_canonical : canonical whole ≡ diagonal
 unfolding told write_told whole diagonal headed bytes
 whole_canonical = refl
 
-whole_again : (written_reply (Written 65) ≡ answered (length (canonical whole))) × (take (length (canonical whole)) diagonal ≡ canonical whole)
+whole_again : (reply_of (Ok 65) ≡ answered (length (canonical whole))) × (take (length (canonical whole)) diagonal ≡ canonical whole)
 unfolding told write_told whole diagonal headed bytes
 whole_again =
     read_then_written whole (5 ∷ 5 ∷ 5 ∷ []) (5 ∷ 5 ∷ []) (0 ∷ 1 ∷ 5 ∷ []) (0 ∷ 1 ∷ []) 2 2 whole_read (sevens 65) (5 ∷ []) whole_written (omega arith) (omega arith)

@@ -22,15 +22,14 @@ use Rattle.matrix_market.proofs.FileOf.{file_cong}
 use Rattle.requests_writer.specs.Marked.{MarkInput, MarkedRequests}
 use Rattle.requests_writer.specs.Writer.{write_checks, requests_file, output_step, mark_steps, SetWritten, RequestsWritten}
 use Rattle.requests_writer.proofs.Writer.{write_checks_requests, write_checks_below, write_checks_small}
-use Rattle.requests_writer.specs.declared.WrittenRequests.{WrittenRequests}
-use Rattle.requests_writer.specs.declared.WrittenRequests.TheVariants.{Written, Refused}
+use Rattle.std.specs.Prelude.{Ok, Err, Result}
 
 module _ (n : ℕ) (S : ℕ → ℕ → Bool) (marks output : List ℕ) where
   abbrev steps : List Step
   steps = output_step (length (file_of n S)) (length output) ∷ []
 
   module _ (m : ℕ) (e : m ≡ length (file_of n S)) where
-    pub set_short : {marks' : List ℕ} → marks' ≡ cleared (length marks) marks → length output < m → SetWritten n S (Refused TooShort) marks output marks' output
+    pub set_short : {marks' : List ℕ} → marks' ≡ cleared (length marks) marks → length output < m → SetWritten n S (Err TooShort) marks output marks' output
     set_short c h =
         let t : verdict steps ≡ refused 7 = first_hit 7 [] tt (lt-ltb _ _ (subst (λ (k : ℕ). length output < k) e h)) in
         record {
@@ -40,7 +39,7 @@ module _ (n : ℕ) (S : ℕ → ℕ → Bool) (marks output : List ℕ) where
         }
 
     pub set_all : {marks' output' : List ℕ} → marks' ≡ cleared (length marks) marks → m ≤ length output → output' ≡ splice 0 (file_of n S) output
-        → SetWritten n S (Written m) marks output marks' output'
+        → SetWritten n S (Ok m) marks output marks' output'
     set_all c h q =
         let t : Passed steps = first_skip 7 [] tt (le-ltb _ _ (subst (λ (k : ℕ). k ≤ length output) e h)) (first_end tt) in
         record {
@@ -50,7 +49,7 @@ module _ (n : ℕ) (S : ℕ → ℕ → Bool) (marks output : List ℕ) where
         }
 
 -- the marks of requests: their set's file
-pub set_requests : (n : ℕ) (rows columns marks output : List ℕ) {reply : WrittenRequests} {marked marks' output' : List ℕ} → MarkedRequests n rows columns marks marked
+pub set_requests : (n : ℕ) (rows columns marks output : List ℕ) {reply : Result ℕ Refusal} {marked marks' output' : List ℕ} → MarkedRequests n rows columns marks marked
     → SetWritten n (column_marking n marked) reply marked output marks' output' → SetWritten n (requested rows columns) reply marks output marks' output'
 set_requests n rows columns marks output {reply} {marked} M W =
     let q = file_cong n (column_marking n marked) (requested rows columns) M.marks_are in
@@ -79,7 +78,7 @@ module _ (n : ℕ) (rows columns output scratch : List ℕ) where
 
   -- the requests are refused: nothing is touched
   pub requests_refused : (why : Refusal) → verdict (write_checks n rows columns) ≡ refused (refusal_number why)
-      → RequestsWritten n rows columns output scratch (Refused why) output scratch
+      → RequestsWritten n rows columns output scratch (Err why) output scratch
   requests_refused why e =
       let part = append-refused (write_checks n rows columns) _ (refusal_number why) tt e in
       let whole = append-refused (mark_steps n rows columns (length scratch)) (output_step (length file) (length output) ∷ []) (refusal_number why) tt part in
@@ -91,7 +90,7 @@ module _ (n : ℕ) (rows columns output scratch : List ℕ) where
 
   module _ (p : Passed (write_checks n rows columns)) where
     -- 7: the scratch is below the marks' words
-    pub scratch_short : length scratch < mark_words n → RequestsWritten n rows columns output scratch (Refused TooShort) output scratch
+    pub scratch_short : length scratch < mark_words n → RequestsWritten n rows columns output scratch (Err TooShort) output scratch
     scratch_short h =
         let t = lt-ltb (length scratch) (mark_words n) h in
         let part : verdict (mark_steps n rows columns (length scratch)) ≡ refused 7 = append_passed (write_checks n rows columns) _ tt p ∙ first_hit 7 _ tt t in
@@ -103,7 +102,7 @@ module _ (n : ℕ) (rows columns output scratch : List ℕ) where
         }
 
     -- the marks are the scratch's first words
-    pub scratch_part : {reply : WrittenRequests} {part left output' scratch' : List ℕ} → mark_words n ≤ length scratch → part ≡ take (mark_words n) scratch
+    pub scratch_part : {reply : Result ℕ Refusal} {part left output' scratch' : List ℕ} → mark_words n ≤ length scratch → part ≡ take (mark_words n) scratch
         → scratch' ≡ left ++ drop (mark_words n) scratch
         → SetWritten n (requested rows columns) reply part output left output' → RequestsWritten n rows columns output scratch reply output' scratch'
     unfolding after

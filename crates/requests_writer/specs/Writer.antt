@@ -1,17 +1,16 @@
 -- Writing a request list: what is refused of it, and what the call leaves.
 -- Assumes nothing.
-use Rattle.std.specs.Prelude.{ℕ, ◌≡◌, Bool, not, ◌&&◌, List, [], ◌∷◌, ◌++◌, ltb, eqb, length, get_or}
+use Rattle.std.specs.Prelude.{ℕ, ◌≡◌, Bool, not, ◌&&◌, List, [], ◌∷◌, ◌++◌, ltb, eqb, length, get_or, Result}
 use Rattle.lists.specs.Test.{any}
 use Rattle.lists.specs.Overwrite.{overwrite, cleared}
 use Rattle.refusal.specs.Bounds.{max_dimension, max_entries}
-use Rattle.refusal.specs.Refusal.{refusal_number}
-use Rattle.refusal.specs.Steps.{Reply, refused, answered, Step, first, after}
+use Rattle.refusal.specs.Refusal.{reply_of}
+use Rattle.refusal.specs.Steps.{Step, first, after}
 use Rattle.columns.specs.Columns.{outside}
 use Rattle.pairs.specs.Scratch.{mark_words}
 use Rattle.closed_set.specs.Requests.{requested}
 use Rattle.matrix_market.specs.FileOf.{file_of}
-use Rattle.requests_writer.specs.declared.WrittenRequests.{WrittenRequests}
-use Rattle.requests_writer.specs.declared.WrittenRequests.TheVariants.{Written, Refused}
+use Rattle.refusal.specs.declared.Refusal.{Refusal}
 
 -- a row less than its column
 abbrev pub upper_at : List ℕ → List ℕ → ℕ → Bool
@@ -48,20 +47,15 @@ mark_steps n rows columns scratch = write_checks n rows columns ++ (7, ltb scrat
 abbrev pub write_steps : ℕ → List ℕ → List ℕ → ℕ → ℕ → List Step
 write_steps n rows columns scratch output = mark_steps n rows columns scratch ++ output_step (length (requests_file n rows columns)) output ∷ []
 
--- the reply: how many bytes are written, or a refusal's number
-abbrev pub written_reply : WrittenRequests → Reply ℕ
-written_reply (Written m) = answered m
-written_reply (Refused r) = refused (refusal_number r)
-
 -- the call: its reply, and what output and scratch hold after it
-pub record RequestsWritten (n : ℕ) (rows columns output₀ scratch₀ : List ℕ) (reply : WrittenRequests) (output scratch : List ℕ) : Type 0 where
-  pub replies : written_reply reply ≡ first (write_steps n rows columns (length scratch₀) (length output₀)) (length (requests_file n rows columns))
+pub record RequestsWritten (n : ℕ) (rows columns output₀ scratch₀ : List ℕ) (reply : Result ℕ Refusal) (output scratch : List ℕ) : Type 0 where
+  pub replies : reply_of reply ≡ first (write_steps n rows columns (length scratch₀) (length output₀)) (length (requests_file n rows columns))
   pub output_is : output ≡ after (write_steps n rows columns (length scratch₀) (length output₀)) (overwrite (requests_file n rows columns) output₀) output₀
   pub scratch_is : scratch ≡ after (mark_steps n rows columns (length scratch₀)) (cleared (mark_words n) scratch₀) scratch₀
 
 -- ---- past the checks
 -- the file of a set: the marks end 0
-pub record SetWritten (n : ℕ) (S : ℕ → ℕ → Bool) (reply : WrittenRequests) (marks output marks' output' : List ℕ) : Type 0 where
-  pub replies : written_reply reply ≡ first (output_step (length (file_of n S)) (length output) ∷ []) (length (file_of n S))
+pub record SetWritten (n : ℕ) (S : ℕ → ℕ → Bool) (reply : Result ℕ Refusal) (marks output marks' output' : List ℕ) : Type 0 where
+  pub replies : reply_of reply ≡ first (output_step (length (file_of n S)) (length output) ∷ []) (length (file_of n S))
   pub clears : marks' ≡ cleared (length marks) marks
   pub output_is : output' ≡ after (output_step (length (file_of n S)) (length output) ∷ []) (overwrite (file_of n S) output) output

@@ -4,7 +4,7 @@ ghost use Rattle.refusal.specs.Steps.{verdict};
 ghost use Rattle.refusal.specs.Refusal.{reply_of};
 ghost use Rattle.requests_writer.specs.Writer.{some_upper, write_checks};
 
-use refusal::{Checked, MAX_DIMENSION, MAX_ENTRIES, Refusal};
+use refusal::{MAX_DIMENSION, MAX_ENTRIES, Refusal};
 use words::at;
 use words::index::index_outside;
 
@@ -13,12 +13,10 @@ fn some_upper(rows: &[u32], columns: &[u32]) -> bool
     requires { length rows.now ≤ length columns.now }
     ensures { result ≡ some_upper rows.now columns.now }
 {
-    let mut k = 0;
-    while k < rows.len() {
+    for k in 0..rows.len() {
         if at(rows, k) < at(columns, k) {
             return true;
         }
-        k += 1;
     }
     false
 }
@@ -27,36 +25,33 @@ fn some_upper(rows: &[u32], columns: &[u32]) -> bool
 fn no_requests(n: usize, requests: usize) -> bool
     ensures { result ≡ (eqb requests 0 && ltb 0 n) }
 {
-    if requests != 0 {
-        return false;
-    }
-    n > 0
+    requests == 0 && n > 0
 }
 
 // 1, 4, 5 and 24 in their order.
-pub fn check_written(n: usize, rows: &[u32], columns: &[u32]) -> Checked
+pub fn check_written(n: usize, rows: &[u32], columns: &[u32]) -> Result<(), Refusal>
     ensures { reply_of result ≡ verdict (write_checks n rows.now columns.now) }
 {
     if MAX_DIMENSION < n {
-        return Checked::Refused(Refusal::TooLarge);
+        return Err(Refusal::TooLarge);
     }
     if MAX_ENTRIES < rows.len() {
-        return Checked::Refused(Refusal::TooLarge);
+        return Err(Refusal::TooLarge);
     }
     if rows.len() != columns.len() {
-        return Checked::Refused(Refusal::DimensionMismatch);
+        return Err(Refusal::DimensionMismatch);
     }
     if index_outside(n, rows) {
-        return Checked::Refused(Refusal::RequestOutOfRange);
+        return Err(Refusal::RequestOutOfRange);
     }
     if index_outside(n, columns) {
-        return Checked::Refused(Refusal::RequestOutOfRange);
+        return Err(Refusal::RequestOutOfRange);
     }
     if some_upper(rows, columns) {
-        return Checked::Refused(Refusal::RequestOutOfRange);
+        return Err(Refusal::RequestOutOfRange);
     }
     if no_requests(n, rows.len()) {
-        return Checked::Refused(Refusal::NoRequests);
+        return Err(Refusal::NoRequests);
     }
-    Checked::Accepted
+    Ok(())
 }

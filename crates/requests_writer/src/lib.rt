@@ -24,16 +24,9 @@ use marks::mark_requests;
 use numbers::{number_length, write_byte, write_bytes, write_number};
 use pair_places::pair_total;
 use pair_places::scratch::mark_words;
-use refusal::{Checked, MAX_DIMENSION, Refusal};
+use refusal::{MAX_DIMENSION, Refusal};
 use set_bits::count::count_bits;
 use words::clear;
-
-// How many bytes are written, or why none is.
-#[derive(Clone, Copy)]
-pub enum WrittenRequests {
-    Written(usize),
-    Refused(Refusal),
-}
 
 // How many bytes the header and the size line have.
 fn head_length(n: usize, count: usize) -> usize
@@ -65,7 +58,7 @@ fn write_head(n: usize, count: usize, text: &mut [u8]) -> usize
 }
 
 // Writes the file of the marked pairs if there is room for it, and clears the marks.
-fn write_marked(n: usize, marks: &mut [u32], text: &mut [u8]) -> WrittenRequests
+fn write_marked(n: usize, marks: &mut [u32], text: &mut [u8]) -> Result<usize, Refusal>
     requires { (n ≤ max_dimension) × (length marks.old ≡ mark_words n) }
     ensures { SetWritten n (column_marking n marks.old) result marks.old text.old marks.new text.new }
 {
@@ -74,12 +67,12 @@ fn write_marked(n: usize, marks: &mut [u32], text: &mut [u8]) -> WrittenRequests
     let length = head_length(n, count) + lines_length(n, marks, &mut list);
     if text.len() < length {
         clear(marks, marks.len()); // also when the output is short
-        return WrittenRequests::Refused(Refusal::TooShort);
+        return Err(Refusal::TooShort);
     }
     let place = write_head(n, count, text);
     write_lines(n, marks, &mut list, place, text);
     clear(marks, marks.len());
-    WrittenRequests::Written(length)
+    Ok(length)
 }
 
 // The file of requests, with the marks in a list of ceil(T/32) words.
@@ -89,7 +82,7 @@ fn write_with(
     columns: &[u32],
     text: &mut [u8],
     marks: &mut [u32],
-) -> WrittenRequests
+) -> Result<usize, Refusal>
     requires { MarkInput n rows.now columns.now marks.old }
     ensures { SetWritten n (requested rows.now columns.now) result marks.old text.old marks.new text.new }
 {
@@ -104,13 +97,13 @@ fn write_accepted(
     columns: &[u32],
     output: &mut [u8],
     scratch: &mut [u32],
-) -> WrittenRequests
+) -> Result<usize, Refusal>
     requires { Passed (write_checks n rows.now columns.now) }
     ensures { RequestsWritten n rows.now columns.now output.old scratch.old result output.new scratch.new }
 {
     let words = mark_words(n);
     if scratch.len() < words {
-        return WrittenRequests::Refused(Refusal::TooShort);
+        return Err(Refusal::TooShort);
     }
     write_with(n, rows, columns, output, &mut scratch[0..words])
 }
@@ -122,11 +115,9 @@ pub fn write_requests(
     columns: &[u32],
     output: &mut [u8],
     scratch: &mut [u32],
-) -> WrittenRequests
+) -> Result<usize, Refusal>
     ensures { RequestsWritten dimension rows.now columns.now output.old scratch.old result output.new scratch.new }
 {
-    match check_written(dimension, rows, columns) {
-        Checked::Refused(why) => WrittenRequests::Refused(why),
-        Checked::Accepted => write_accepted(dimension, rows, columns, output, scratch),
-    }
+    check_written(dimension, rows, columns)?;
+    write_accepted(dimension, rows, columns, output, scratch)
 }

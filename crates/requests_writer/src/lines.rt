@@ -15,12 +15,10 @@ pub fn lines_length(n: usize, marks: &[u32], list: &mut [u32]) -> usize
 {
     let mut total = 0;
     let mut place = 0;
-    let mut c = 0;
-    while c < n {
+    for c in 0..n {
         let count = list_bits(n, place, c, 0, list, marks);
         total += rows_length(c, list, count);
         place += n - c;
-        c += 1;
     }
     total
 }
@@ -38,12 +36,10 @@ pub fn write_lines(
 {
     let mut next = start;
     let mut place = 0;
-    let mut c = 0;
-    while c < n {
+    for c in 0..n {
         let count = list_bits(n, place, c, 0, list, marks);
         next = write_rows(c, list, count, next, text);
         place += n - c;
-        c += 1;
     }
     next
 }

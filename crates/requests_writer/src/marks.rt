@@ -11,9 +11,7 @@ pub fn mark_requests(n: usize, rows: &[u32], columns: &[u32], marks: &mut [u32])
     ensures { MarkedRequests n rows.now columns.now marks.old marks.new }
 {
     clear(marks, marks.len());
-    let mut k = 0;
-    while k < rows.len() {
+    for k in 0..rows.len() {
         set_bit(marks, column_place(n, at(rows, k), at(columns, k)));
-        k += 1;
     }
 }

@@ -38,12 +38,9 @@ pub fn write_bytes(bytes: &[u8], place: usize, text: &mut [u8]) -> usize
     requires { place + length bytes.now ≤ length text.old }
     ensures { Wrote bytes.now place text.old text.new result }
 {
-    let mut k = 0;
-    while k < bytes.len() {
-        text[place + k] = bytes[k];
-        k += 1;
-    }
-    place + k
+    let next = place + bytes.len();
+    text[place..next].copy_from_slice(bytes);
+    next
 }
 
 // Writes x in decimal from `place` on, its last digit first; returns the place behind it.

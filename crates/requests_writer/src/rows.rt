@@ -12,10 +12,8 @@ pub fn rows_length(c: usize, rows: &[u32], count: usize) -> usize
 {
     let width = number_length(c + 1) + 2;
     let mut total = 0;
-    let mut k = 0;
-    while k < count {
+    for k in 0..count {
         total += number_length(at(rows, k) + 1) + width;
-        k += 1;
     }
     total
 }
@@ -26,10 +24,8 @@ pub fn write_rows(c: usize, rows: &[u32], count: usize, place: usize, text: &mut
     ensures { Wrote (rows_bytes c (take count rows.now)) place text.old text.new result }
 {
     let mut next = place;
-    let mut k = 0;
-    while k < count {
+    for k in 0..count {
         next = write_entry(c, at(rows, k), next, text);
-        k += 1;
     }
     next
 }

@@ -18,19 +18,19 @@ use Rattle.selection.specs.Selection.{Lent, room_of, selected_answer, filling_of
 use Rattle.selection.proofs.Selection.{lists_refused}
 use Rattle.selection.specs.RequestSteps.{request_bound_steps}
 use Rattle.selection.specs.Call.{Call, selection_of, selected_steps}
-use Rattle.diagnostics.specs.declared.Selected.TheVariants.{Answered, Refused}
 use Rattle.selected.specs.Selected.{SelectedEntries}
+use Rattle.std.specs.Prelude.{Ok, Err}
 
 module _ (x : Call) (lent : Lent) where
   abbrev steps : List Step
   steps = selected_steps x (room_of lent)
 
   pub entries_refused : {why : Refusal} → verdict steps ≡ refused (refusal_number why)
-      → SelectedEntries x lent (Refused why) lent
+      → SelectedEntries x lent (Err why) lent
   entries_refused e = record { replies = sym (first_refused steps _ _ e); lists_are = lists_refused steps (filling_of (selection_of x)) lent e }
 
   pub entries_answered : Passed steps → {d : SelectedInverseDiagnostics} {left : Lent} → d ≡ selected_answer (selection_of x)
-      → ResultLists steps (filling_of (selection_of x)) lent left → SelectedEntries x lent (Answered d) left
+      → ResultLists steps (filling_of (selection_of x)) lent left → SelectedEntries x lent (Ok d) left
   entries_answered p e L = record { replies = ap (λ (y : SelectedInverseDiagnostics). answered y) e ∙ sym (first_passed steps _ p); lists_are = L }
 
   -- more stored entries than the bound are refused whatever the limit

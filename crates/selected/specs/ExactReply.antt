@@ -1,13 +1,11 @@
 -- The exact case of a reply, in whole numbers and beyond unit diagonals: a call that answers gives the diagnosis, and the exact inverse is what reads back.
 -- Assumes nothing.
-use Rattle.std.specs.Prelude.{ℕ, ◌^◌, ◌≡◌, List, ℤ, pos}
+use Rattle.std.specs.Prelude.{ℕ, ◌^◌, ◌≡◌, List, ℤ, pos, Result}
 use Rattle.std.proofs.Common.{sym, ◌∙◌}
 use Rattle.refusal.specs.Steps.{Step, answered, Passed}
 use Rattle.refusal.proofs.Steps.{first_passed}
 use Rattle.refusal.proofs.Told.{told_passed, told_answer}
 use Rattle.diagnostics.specs.declared.SelectedInverseDiagnostics.{SelectedInverseDiagnostics}
-use Rattle.diagnostics.specs.declared.Selected.{Selected}
-use Rattle.diagnostics.specs.Selected.{selected_reply_of}
 use Rattle.integers.specs.Matrix.{Matrix}
 use Rattle.integers.specs.Inverse.{Inverse, WholeInverse}
 use Rattle.takahashi.specs.Entries.{Entry}
@@ -20,16 +18,18 @@ use Rattle.exact_entries.proofs.DyadicEntries.{dyadic_call}
 use Rattle.exact_entries.specs.ExactEntries.{ExactCall, ReadsBack}
 use Rattle.exact_entries.proofs.ExactEntries.{exact_call}
 use Rattle.selected.specs.Selected.{SelectedEntries}
+use Rattle.refusal.specs.declared.Refusal.{Refusal}
+use Rattle.refusal.specs.Refusal.{reply_of}
 
-module _ (x : Call) (lent : Lent) {reply : Selected} {left : Lent} (C : SelectedEntries x lent reply left) where
+module _ (x : Call) (lent : Lent) {reply : Result SelectedInverseDiagnostics Refusal} {left : Lent} (C : SelectedEntries x lent reply left) where
   abbrev steps : List Step
   steps = selected_steps x (room_of lent)
 
   -- a call whose steps pass replies with the diagnosis
-  pub passed_reply : Passed steps → selected_reply_of reply ≡ answered (selected_answer (selection_of x))
+  pub passed_reply : Passed steps → reply_of reply ≡ answered (selected_answer (selection_of x))
   passed_reply p = C.replies ∙ first_passed steps (selected_answer (selection_of x)) p
 
-  module _ {d : SelectedInverseDiagnostics} (answer : selected_reply_of reply ≡ answered d) where
+  module _ {d : SelectedInverseDiagnostics} (answer : reply_of reply ≡ answered d) where
     -- and only such a call answers
     pub reply_passed : Passed steps
     reply_passed = told_passed steps (selected_answer (selection_of x)) (sym answer ∙ C.replies)

@@ -1,7 +1,7 @@
 -- F2 of document 01 with the request (0, 0) and limit 3: what the call's contract says of a reply, and what the laws of a reply then give. The same of the
 -- factor with the rows 2 0 and 6 4.
 -- Assumes nothing.
-use Rattle.std.specs.Prelude.{◌≡◌, refl, pos, negsuc, ◌*ℤ◌, Float}
+use Rattle.std.specs.Prelude.{◌≡◌, refl, pos, negsuc, ◌*ℤ◌, Float, Ok, Result}
 use Rattle.std.proofs.Common.{sym, ap, ◌∙◌}
 use Rattle.refusal.specs.Steps.{answered}
 use Rattle.refusal.proofs.Steps.{first_passed}
@@ -11,9 +11,6 @@ use Rattle.exact.proofs.Examples.{f2-inverse, sixteenths-inverse}
 use Rattle.diagnostics.specs.Diagnosis.{diagnosis}
 use Rattle.diagnostics.specs.declared.SelectedInverseDiagnostics.{SelectedInverseDiagnostics}
 use Rattle.diagnostics.specs.declared.SelectedInverseStatus.TheVariants.{Complete}
-use Rattle.diagnostics.specs.declared.Selected.{Selected}
-use Rattle.diagnostics.specs.declared.Selected.TheVariants.{Answered}
-use Rattle.diagnostics.specs.Selected.{selected_reply_of}
 use Rattle.selection.specs.Selection.{room_of, selected_answer, Lent}
 use Rattle.selection.specs.Call.{selection_of, selected_steps}
 use Rattle.exact_entries.specs.Worked.{f2_lent, f2_found, F2ReadsBack, f2-call, f2_lists}
@@ -24,9 +21,11 @@ use Rattle.exact_entries.specs.DyadicWorked.{sixteenths_found, SixteenthsRead}
 use Rattle.exact_entries.proofs.DyadicWorked.{sixteenths_complete}
 use Rattle.selected.specs.Selected.{SelectedEntries}
 use Rattle.selected.specs.ExactReply.{passed_reply, exact_reply, dyadic_reply}
+use Rattle.refusal.specs.declared.Refusal.{Refusal}
+use Rattle.refusal.specs.Refusal.{reply_of}
 
 -- the contract is met by this diagnosis and these lists
-f2-replied : SelectedEntries f2-call f2_lent (Answered (diagnosis 1 3 3 3 Complete)) f2_lists
+f2-replied : SelectedEntries f2-call f2_lent (Ok (diagnosis 1 3 3 3 Complete)) f2_lists
 f2-replied = record {
   replies =
       ap (λ (d : SelectedInverseDiagnostics). answered d) (sym f2_answer)
@@ -35,8 +34,8 @@ f2-replied = record {
 }
 
 -- `passed_reply`: whatever the call replies is this diagnosis
-f2-reply : {reply : Selected} {left : Lent} → SelectedEntries f2-call f2_lent reply left
-    → selected_reply_of reply ≡ answered (diagnosis 1 3 3 3 Complete)
+f2-reply : {reply : Result SelectedInverseDiagnostics Refusal} {left : Lent} → SelectedEntries f2-call f2_lent reply left
+    → reply_of reply ≡ answered (diagnosis 1 3 3 3 Complete)
 f2-reply C = passed_reply f2-call f2_lent C f2_passed ∙ ap (λ (d : SelectedInverseDiagnostics). answered d) f2_answer
 
 -- `exact_reply`: the inverse is what reads back, so at (1, 0) a number equal to -2
@@ -47,7 +46,7 @@ f2-reply_below : (v : Float) × (f2_found (selection_of f2-call) 1 0 ≡ answere
 f2-reply_below = f2-reply_exact.members f2_complete 1 0 f2_below
 
 -- ---- the factor with the rows 2 0 and 6 4
-sixteenths-replied : SelectedEntries sixteenths-call f2_lent (Answered (diagnosis 1 3 3 3 Complete)) sixteenths_lists
+sixteenths-replied : SelectedEntries sixteenths-call f2_lent (Ok (diagnosis 1 3 3 3 Complete)) sixteenths_lists
 sixteenths-replied = record {
   replies =
       ap (λ (d : SelectedInverseDiagnostics). answered d) (sym sixteenths_answer)

@@ -6,9 +6,9 @@ ghost use Rattle.selection.specs.Selection.{lists, default_limit};
 ghost use Rattle.selection.specs.Call.{call};
 ghost use Rattle.selected.specs.Selected.{SelectedEntries};
 
-use diagnostics::Selected;
+use diagnostics::SelectedInverseDiagnostics;
 use fill::fill_entries;
-use refusal::{Checked, MAX_ENTRIES, Refusal};
+use refusal::{MAX_ENTRIES, Refusal};
 use request_marks::requests::mark_requests;
 use selected_checks::{check_selected, default_limit};
 
@@ -26,13 +26,13 @@ pub fn selected_inverse_entries_with_limit(
     result_rows: &mut [u32],
     result_values: &mut [f64],
     scratch: &mut [u32],
-) -> Selected
+) -> Result<SelectedInverseDiagnostics, Refusal>
     ensures { SelectedEntries
         (call n starts.now rows.now values.now dimension request_rows.now request_columns.now limit)
         (lists result_starts.old result_rows.old result_values.old scratch.old) result
         (lists result_starts.new result_rows.new result_values.new scratch.new) }
 {
-    match check_selected(
+    check_selected(
         n,
         starts,
         rows,
@@ -45,25 +45,22 @@ pub fn selected_inverse_entries_with_limit(
         result_rows.len(),
         result_values.len(),
         scratch.len(),
-    ) {
-        Checked::Refused(why) => Selected::Refused(why),
-        Checked::Accepted => {
-            let requested_pairs = mark_requests(n, request_rows, request_columns, scratch);
-            let diagnosis = fill_entries(
-                n,
-                starts,
-                rows,
-                values,
-                requested_pairs,
-                limit,
-                result_starts,
-                result_rows,
-                result_values,
-                scratch,
-            );
-            Selected::Answered(diagnosis)
-        }
-    }
+    )?;
+    let requested_pairs = mark_requests(n, request_rows, request_columns, scratch);
+    let diagnosis = fill_entries(
+        n,
+        starts,
+        rows,
+        values,
+        None,
+        requested_pairs,
+        limit,
+        result_starts,
+        result_rows,
+        result_values,
+        scratch,
+    );
+    Ok(diagnosis)
 }
 
 // The same with the default limit: 10 times the stored entries, dropped ones counted. Above the bound on entries there is no limit to compute.
@@ -79,7 +76,7 @@ pub fn selected_inverse_entries(
     result_rows: &mut [u32],
     result_values: &mut [f64],
     scratch: &mut [u32],
-) -> Selected
+) -> Result<SelectedInverseDiagnostics, Refusal>
     ensures { SelectedEntries
         (call n starts.now rows.now values.now dimension request_rows.now request_columns.now
         (default_limit rows.now))
@@ -87,7 +84,7 @@ pub fn selected_inverse_entries(
         (lists result_starts.new result_rows.new result_values.new scratch.new) }
 {
     if MAX_ENTRIES < rows.len() {
-        return Selected::Refused(Refusal::TooLarge);
+        return Err(Refusal::TooLarge);
     }
     selected_inverse_entries_with_limit(
         n,

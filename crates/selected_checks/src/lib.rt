@@ -18,9 +18,8 @@ use factor_check::check_stored;
 use kept_entries::diagonal_check::check_diagonals;
 use pair_places::pair_total;
 use pair_places::scratch::scratch_words;
-use refusal::{Checked, MAX_ENTRIES, Refusal};
+use refusal::{MAX_ENTRIES, Refusal};
 use requests::check_requests;
-use verdicts::first_of;
 use words::order::smaller;
 
 // How many times the stored entries the default limit is.
@@ -34,25 +33,25 @@ pub fn check_room(
     result_rows: usize,
     result_values: usize,
     scratch: usize,
-) -> Checked
+) -> Result<(), Refusal>
     requires { n ≤ max_dimension }
     ensures { reply_of result ≡ verdict (room_steps n limit (room result_starts result_rows result_values scratch)) }
 {
     let total = pair_total(n);
     let most = smaller(limit, total);
     if result_starts < n + 1 {
-        return Checked::Refused(Refusal::TooShort);
+        return Err(Refusal::TooShort);
     }
     if result_rows < most {
-        return Checked::Refused(Refusal::TooShort);
+        return Err(Refusal::TooShort);
     }
     if result_values < most {
-        return Checked::Refused(Refusal::TooShort);
+        return Err(Refusal::TooShort);
     }
     if scratch < scratch_words(n) {
-        return Checked::Refused(Refusal::TooShort);
+        return Err(Refusal::TooShort);
     }
-    Checked::Accepted
+    Ok(())
 }
 
 // The default limit: 10 times the stored entries, dropped ones counted.
@@ -74,24 +73,23 @@ pub fn check_fill(
     result_rows: usize,
     result_values: usize,
     scratch: usize,
-) -> Checked
+) -> Result<(), Refusal>
     requires { (n ≤ max_dimension) × Factor n starts.now rows.now (length values.now) }
     ensures { reply_of result ≡ verdict (fill_steps (factor_lists n starts.now rows.now values.now) limit
         (room result_starts result_rows result_values scratch)) }
 {
-    let diagonals = check_diagonals(n, starts, rows, values);
-    let room = check_room(n, limit, result_starts, result_rows, result_values, scratch);
-    first_of(diagonals, room)
+    check_diagonals(n, starts, rows, values)?;
+    check_room(n, limit, result_starts, result_rows, result_values, scratch)
 }
 
 // 1 of the requests, which are counted by their rows.
-pub fn check_request_bound(requests: usize) -> Checked
+pub fn check_request_bound(requests: usize) -> Result<(), Refusal>
     ensures { reply_of result ≡ verdict (request_bound_steps requests) }
 {
     if MAX_ENTRIES < requests {
-        return Checked::Refused(Refusal::TooLarge);
+        return Err(Refusal::TooLarge);
     }
-    Checked::Accepted
+    Ok(())
 }
 
 // Refusals 1 to 7 and 18; the lists lent for writing are judged by their lengths.
@@ -108,34 +106,24 @@ pub fn check_selected(
     result_rows: usize,
     result_values: usize,
     scratch: usize,
-) -> Checked
+) -> Result<(), Refusal>
     ensures { reply_of result ≡ verdict (selected_steps
         (call n starts.now rows.now values.now dimension request_rows.now request_columns.now limit)
         (room result_starts result_rows result_values scratch)) }
 {
-    let bounds = first_of(
-        check_bounds(n, rows.len()),
-        check_request_bound(request_rows.len()),
-    );
-    match bounds {
-        Checked::Refused(why) => Checked::Refused(why),
-        Checked::Accepted => match check_stored(n, starts, rows, values) {
-            Checked::Refused(why) => Checked::Refused(why),
-            Checked::Accepted => {
-                let requests = check_requests(n, dimension, request_rows, request_columns);
-                let fill = check_fill(
-                    n,
-                    starts,
-                    rows,
-                    values,
-                    limit,
-                    result_starts,
-                    result_rows,
-                    result_values,
-                    scratch,
-                );
-                first_of(requests, fill)
-            }
-        },
-    }
+    check_bounds(n, rows.len())?;
+    check_request_bound(request_rows.len())?;
+    check_stored(n, starts, rows, values)?;
+    check_requests(n, dimension, request_rows, request_columns)?;
+    check_fill(
+        n,
+        starts,
+        rows,
+        values,
+        limit,
+        result_starts,
+        result_rows,
+        result_values,
+        scratch,
+    )
 }

@@ -4,7 +4,7 @@ ghost use Rattle.refusal.specs.Steps.{verdict};
 ghost use Rattle.refusal.specs.Refusal.{reply_of};
 ghost use Rattle.selection.specs.RequestSteps.{request_steps};
 
-use refusal::{Checked, Refusal};
+use refusal::Refusal;
 use words::index::index_outside;
 
 // 4: another dimension, or lists of unequal length; 5: an index of n or more.
@@ -13,20 +13,20 @@ pub fn check_requests(
     dimension: usize,
     request_rows: &[u32],
     request_columns: &[u32],
-) -> Checked
+) -> Result<(), Refusal>
     ensures { reply_of result ≡ verdict (request_steps n dimension request_rows.now request_columns.now) }
 {
     if dimension != n {
-        return Checked::Refused(Refusal::DimensionMismatch);
+        return Err(Refusal::DimensionMismatch);
     }
     if request_rows.len() != request_columns.len() {
-        return Checked::Refused(Refusal::DimensionMismatch);
+        return Err(Refusal::DimensionMismatch);
     }
     if index_outside(n, request_rows) {
-        return Checked::Refused(Refusal::RequestOutOfRange);
+        return Err(Refusal::RequestOutOfRange);
     }
     if index_outside(n, request_columns) {
-        return Checked::Refused(Refusal::RequestOutOfRange);
+        return Err(Refusal::RequestOutOfRange);
     }
-    Checked::Accepted
+    Ok(())
 }

@@ -16,15 +16,11 @@ use Rattle.diagnostics.specs.declared.SelectedInverseDiagnostics.{SelectedInvers
 use Rattle.diagnostics.specs.declared.SelectedInverseStatus.{SelectedInverseStatus}
 use Rattle.diagnostics.specs.declared.SelectedInverseStatus.TheVariants as status
 use Rattle.result.specs.Lookup.{lookup}
-use Rattle.lookup.specs.Reply.{entry_reply}
-use Rattle.lookup.specs.declared.ordered.Entry.{Entry}
 use Rattle.selection.specs.Selection.{Lent, room_of, selected_complete, selected_answer, ResultLists, filling_of}
 use Rattle.selection.specs.Call.{Call, selection_of, selected_steps}
 use Rattle.selection.proofs.Call.{accepted}
 use Rattle.selection.proofs.Status.{status_tells, selected_complete_lem}
 use Rattle.selected.specs.Selected.{SelectedEntries}
-use Rattle.diagnostics.specs.declared.Selected.{Selected}
-use Rattle.diagnostics.specs.declared.Selected.TheVariants as reply
 use Rattle.exact_entries.specs.Recurrence.{found}
 use Rattle.exact_entries.proofs.Recurrence.{found_entries}
 use Rattle.exact_entries.proofs.DyadicEntries.{dyadic_call}
@@ -32,6 +28,8 @@ use Rattle.exact_entries.proofs.ExactEntries.{exact_call}
 use Rattle.selected_entry.specs.declared.SelectedEntry.TheVariants.{Found, ClosureTooLarge, Refused}
 use Rattle.selected_entry.specs.declared.SelectedEntry.{SelectedEntry}
 use Rattle.selected_entry.specs.SelectedEntry.{refused_with, too_large, looked, entry_answer, ReadEntry, LookUpInput, LookedAt, LookUpResult}
+use Rattle.std.specs.Prelude.{Ok, Err, Result}
+use Rattle.refusal.specs.Refusal.{reply_of}
 
 -- a part from 0 on is the front
 front : (m : ℕ) (l : List ℕ) → take (m - 0) (drop 0 l) ≡ take m l
@@ -45,12 +43,12 @@ module _ (x : Call) (lent : Lent) where
   diagnosis = selected_answer (selection_of x)
 
   -- an answered call has starts to look up in
-  pub read_ready : {left : Lent} (r : Selected) → SelectedEntries x lent r left
+  pub read_ready : {left : Lent} (r : Result SelectedInverseDiagnostics Refusal) → SelectedEntries x lent r left
       → length left.result_starts ≡ length lent.result_starts → LookUpInput x.factor.n left.result_starts r
-  read_ready (reply.Answered d) E e =
+  read_ready (Ok d) E e =
       let A = accepted x (room_of lent) (told_passed steps diagnosis E.replies) in
       (A.small, omega (arith, A.starts_room))
-  read_ready (reply.Refused why) E e = tt
+  read_ready (Err why) E e = tt
 
   module _ (row col : ℕ) where
     -- the answer, from what the call and the lookup tell
@@ -70,7 +68,7 @@ module _ (x : Call) (lent : Lent) where
         ap looked (h ∙ found_entries (selection_of x) lent (accepted x (room_of lent) p) steps p L (leb-true _ _ c) row col) ∙ rw (p, c)
 
   module _ {left : Lent} (row col : ℕ) where
-    module _ {d : SelectedInverseDiagnostics} (E : SelectedEntries x lent (reply.Answered d) left) where
+    module _ {d : SelectedInverseDiagnostics} (E : SelectedEntries x lent (Ok d) left) where
       passed : Passed steps
       passed = told_passed steps diagnosis E.replies
 
@@ -108,10 +106,10 @@ module _ (x : Call) (lent : Lent) where
           })
 
     -- the lookup after a call is what is promised of both
-    pub read_entry : (a : Selected) → SelectedEntries x lent a left → (r : SelectedEntry) → LookUpResult x.factor.n row col left.result_starts left.result_rows left.result_values a r
+    pub read_entry : (a : Result SelectedInverseDiagnostics Refusal) → SelectedEntries x lent a left → (r : SelectedEntry) → LookUpResult x.factor.n row col left.result_starts left.result_rows left.result_values a r
         → ReadEntry x lent row col r left
-    read_entry (reply.Answered d) E r h = at_status E d.status refl r h
-    read_entry (reply.Refused why) E r h =
+    read_entry (Ok d) E r h = at_status E d.status refl r h
+    read_entry (Err why) E r h =
         subst (λ (q : SelectedEntry). ReadEntry x lent row col q left) (sym h)
         (record {
           replies = answer_refused row col (told-refused steps diagnosis E.replies);
@@ -122,21 +120,21 @@ module _ (x : Call) (lent : Lent) where
 
 -- ---- the lookup itself
 
-module _ (n row col : ℕ) (rs rr : List ℕ) (rv : List Float) (a : Selected) where
-  pub looked-refused : (why : Refusal) → a ≡ reply.Refused why → LookUpResult n row col rs rr rv a (Refused why)
-  looked-refused why e = subst (λ (q : Selected). LookUpResult n row col rs rr rv q (Refused why)) (sym e) refl
+module _ (n row col : ℕ) (rs rr : List ℕ) (rv : List Float) (a : Result SelectedInverseDiagnostics Refusal) where
+  pub looked-refused : (why : Refusal) → a ≡ Err why → LookUpResult n row col rs rr rv a (Refused why)
+  looked-refused why e = subst (λ (q : Result SelectedInverseDiagnostics Refusal). LookUpResult n row col rs rr rv q (Refused why)) (sym e) refl
 
-  module _ (d : SelectedInverseDiagnostics) (e : a ≡ reply.Answered d) where
+  module _ (d : SelectedInverseDiagnostics) (e : a ≡ Ok d) where
     pub ready_answered : LookUpInput n rs a → (n ≤ max_dimension) × (n + 1 ≤ length rs)
     ready_answered h = subst (LookUpInput n rs) e h
 
     looked_status : (v : SelectedInverseStatus) → d.status ≡ v → (r : SelectedEntry) → LookedAt n row col rs rr rv v r → LookUpResult n row col rs rr rv a r
     looked_status v q r h =
-        subst (λ (y : Selected). LookUpResult n row col rs rr rv y r) (sym e) (subst (λ (y : SelectedInverseStatus). LookedAt n row col rs rr rv y r) (sym q) h)
+        subst (λ (y : Result SelectedInverseDiagnostics Refusal). LookUpResult n row col rs rr rv y r) (sym e) (subst (λ (y : SelectedInverseStatus). LookedAt n row col rs rr rv y r) (sym q) h)
 
     pub looked-large : d.status ≡ status.ClosureTooLarge → LookUpResult n row col rs rr rv a ClosureTooLarge
     looked-large q = looked_status status.ClosureTooLarge q ClosureTooLarge refl
 
-    pub looked_found : d.status ≡ status.Complete → (f : Entry) → entry_reply f ≡ lookup (take (n + 1 - 0) (drop 0 rs)) rr rv row col
+    pub looked_found : d.status ≡ status.Complete → (f : Result Float Refusal) → reply_of f ≡ lookup (take (n + 1 - 0) (drop 0 rs)) rr rv row col
         → LookUpResult n row col rs rr rv a (Found f)
     looked_found q f h = looked_status status.Complete q (Found f) (f, refl, h ∙ ap (λ (l : List ℕ). lookup l rr rv row col) (front (n + 1) rs))

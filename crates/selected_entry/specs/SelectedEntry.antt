@@ -1,9 +1,9 @@
 -- One selected entry: what a call for selected entries and a lookup in its result reply together, and that the reply is exact.
 -- Assumes nothing.
-use Rattle.std.specs.Prelude.{ℕ, ◌+◌, ◌^◌, ◌≤◌, ◌<◌, max, min, ◌≡◌, Bool, true, false, List, length, take, ℤ, pos, ◌*ℤ◌, Float}
+use Rattle.std.specs.Prelude.{ℕ, ◌+◌, ◌^◌, ◌≤◌, ◌<◌, max, min, ◌≡◌, Bool, true, false, List, length, take, ℤ, pos, ◌*ℤ◌, Float, Ok, Err, Result}
 use Rattle.refusal.specs.Bounds.{max_dimension}
 use Rattle.refusal.specs.Steps.{Reply, refused, answered, verdict}
-use Rattle.refusal.specs.Refusal.{refusal_number}
+use Rattle.refusal.specs.Refusal.{refusal_number, reply_of}
 use Rattle.integers.specs.Matrix.{Matrix}
 use Rattle.integers.specs.Inverse.{Inverse, WholeInverse}
 use Rattle.takahashi.specs.Entries.{Entry}
@@ -15,10 +15,6 @@ use Rattle.diagnostics.specs.declared.SelectedInverseStatus.{SelectedInverseStat
 use Rattle.diagnostics.specs.declared.SelectedInverseStatus.TheVariants as status
 use Rattle.selection.specs.Selection.{Lent, Room, room_of, selected_set, selected_size, selected_complete, selected_table, ResultLists, filling_of}
 use Rattle.selection.specs.Call.{Call, selection_of, selected_steps}
-use Rattle.diagnostics.specs.declared.Selected.{Selected}
-use Rattle.diagnostics.specs.declared.Selected.TheVariants as reply
-use Rattle.lookup.specs.declared.ordered.Entry as inverse
-use Rattle.lookup.specs.Reply.{entry_reply}
 use Rattle.result.specs.Lookup.{lookup}
 use Rattle.exact_entries.specs.ReadBack.{read_back}
 use Rattle.exact_entries.specs.Recurrence.{InClosedSet}
@@ -26,6 +22,8 @@ use Rattle.exact_entries.specs.DyadicEntries.{DyadicCall}
 use Rattle.exact_entries.specs.ExactEntries.{ExactCall}
 use Rattle.selected_entry.specs.declared.SelectedEntry.{SelectedEntry}
 use Rattle.selected_entry.specs.declared.SelectedEntry.TheVariants.{Found, ClosureTooLarge, Refused}
+use Rattle.refusal.specs.declared.Refusal.{Refusal}
+use Rattle.diagnostics.specs.declared.SelectedInverseDiagnostics.{SelectedInverseDiagnostics}
 
 -- the call is refused with a number, the closed set is beyond the limit, or the lookup replies
 pub data EntryAnswer : Type 0 where
@@ -35,7 +33,7 @@ pub data EntryAnswer : Type 0 where
 
 -- what a reply says
 abbrev pub answer_of : SelectedEntry → EntryAnswer
-answer_of (Found e) = looked (entry_reply e)
+answer_of (Found e) = looked (reply_of e)
 answer_of ClosureTooLarge = too_large
 answer_of (Refused why) = refused_with (refusal_number why)
 
@@ -56,8 +54,8 @@ entry_answer x lengths row col =
 abbrev pub Exact : Call → ℕ → ℕ → Matrix → SelectedEntry → Type 0
 Exact x row col X (Found e) =
     (selected_size (selection_of x) ≤ x.limit)
-    × (InClosedSet (selection_of x) (max row col) (min row col) → (v : Float) × (entry_reply e ≡ answered v) × Whole v (X row col))
-    × ((InClosedSet (selection_of x) (max row col) (min row col) → ⊥) → entry_reply e ≡ refused 8)
+    × (InClosedSet (selection_of x) (max row col) (min row col) → (v : Float) × (reply_of e ≡ answered v) × Whole v (X row col))
+    × ((InClosedSet (selection_of x) (max row col) (min row col) → ⊥) → reply_of e ≡ refused 8)
 Exact x row col X ClosureTooLarge = x.limit < selected_size (selection_of x)
 Exact x row col X (Refused why) = Unit {0}
 
@@ -66,8 +64,8 @@ abbrev pub Dyadic : Call → ℕ → ℕ → ℕ → Matrix → Matrix → ℕ �
 Dyadic x row col s z P Q (Found e) =
     (selected_size (selection_of x) ≤ x.limit)
     × (InClosedSet (selection_of x) (max row col) (min row col)
-    → (v : Float) × (entry_reply e ≡ answered v) × Multiple s v (at z row col) × (at z row col *ℤ pos Q ≡ pos (2 ^ s) *ℤ P row col))
-    × ((InClosedSet (selection_of x) (max row col) (min row col) → ⊥) → entry_reply e ≡ refused 8)
+    → (v : Float) × (reply_of e ≡ answered v) × Multiple s v (at z row col) × (at z row col *ℤ pos Q ≡ pos (2 ^ s) *ℤ P row col))
+    × ((InClosedSet (selection_of x) (max row col) (min row col) → ⊥) → reply_of e ≡ refused 8)
 Dyadic x row col s z P Q ClosureTooLarge = x.limit < selected_size (selection_of x)
 Dyadic x row col s z P Q (Refused why) = Unit {0}
 
@@ -82,16 +80,16 @@ pub record ReadEntry (x : Call) (lent : Lent) (row col : ℕ) (reply : SelectedE
 -- ---- the lookup after the call's answer
 
 -- an answer comes with starts to look up in
-abbrev pub LookUpInput : ℕ → List ℕ → Selected → Type 0
-LookUpInput n starts (reply.Answered d) = (n ≤ max_dimension) × (n + 1 ≤ length starts)
-LookUpInput n starts (reply.Refused why) = Unit {0}
+abbrev pub LookUpInput : ℕ → List ℕ → Result SelectedInverseDiagnostics Refusal → Type 0
+LookUpInput n starts (Ok d) = (n ≤ max_dimension) × (n + 1 ≤ length starts)
+LookUpInput n starts (Err why) = Unit {0}
 
 abbrev pub LookedAt : ℕ → ℕ → ℕ → List ℕ → List ℕ → List Float → SelectedInverseStatus → SelectedEntry → Type 0
 LookedAt n row col starts rows values status.Complete r =
-    (e : inverse.Entry) × (r ≡ Found e) × (entry_reply e ≡ lookup (take (n + 1) starts) rows values row col)
+    (e : Result Float Refusal) × (r ≡ Found e) × (reply_of e ≡ lookup (take (n + 1) starts) rows values row col)
 LookedAt n row col starts rows values status.ClosureTooLarge r = r ≡ ClosureTooLarge
 
 -- a refusal stays, and a result is looked up in
-abbrev pub LookUpResult : ℕ → ℕ → ℕ → List ℕ → List ℕ → List Float → Selected → SelectedEntry → Type 0
-LookUpResult n row col starts rows values (reply.Answered d) r = LookedAt n row col starts rows values d.status r
-LookUpResult n row col starts rows values (reply.Refused why) r = r ≡ Refused why
+abbrev pub LookUpResult : ℕ → ℕ → ℕ → List ℕ → List ℕ → List Float → Result SelectedInverseDiagnostics Refusal → SelectedEntry → Type 0
+LookUpResult n row col starts rows values (Ok d) r = LookedAt n row col starts rows values d.status r
+LookUpResult n row col starts rows values (Err why) r = r ≡ Refused why

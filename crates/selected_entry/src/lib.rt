@@ -5,16 +5,15 @@ ghost use Rattle.selection.specs.Selection.{lists, default_limit};
 ghost use Rattle.selection.specs.Call.{call};
 ghost use Rattle.selected_entry.specs.SelectedEntry.{LookUpInput, LookUpResult, ReadEntry};
 
-use diagnostics::{Selected, SelectedInverseStatus};
+use diagnostics::{SelectedInverseDiagnostics, SelectedInverseStatus};
 use lookup::get;
-use lookup::ordered::Entry;
 use refusal::Refusal;
 use selected::{selected_inverse_entries, selected_inverse_entries_with_limit};
 
 // What the lookup finds, or why there is no result; `answer_of` of specs/SelectedEntry.antt gives the number and value of each case.
 #[derive(Clone, Copy)]
 pub enum SelectedEntry {
-    Found(Entry),
+    Found(Result<f64, Refusal>),
     ClosureTooLarge,
     Refused(Refusal),
 }
@@ -22,7 +21,7 @@ pub enum SelectedEntry {
 // The lookup after a call's answer.
 fn look_up(
     n: usize,
-    answer: Selected,
+    answer: Result<SelectedInverseDiagnostics, Refusal>,
     result_starts: &[u32],
     result_rows: &[u32],
     result_values: &[f64],
@@ -33,8 +32,8 @@ fn look_up(
     ensures { LookUpResult n row col result_starts.now result_rows.now result_values.now answer result }
 {
     match answer {
-        Selected::Refused(why) => SelectedEntry::Refused(why),
-        Selected::Answered(diagnosis) => {
+        Err(why) => SelectedEntry::Refused(why),
+        Ok(diagnosis) => {
             let status = diagnosis.status;
             match status {
                 SelectedInverseStatus::ClosureTooLarge => SelectedEntry::ClosureTooLarge,

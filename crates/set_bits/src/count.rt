@@ -18,10 +18,8 @@ fn ones_between(words: &[u32], first: usize, end: usize) -> usize
     ensures { result ≡ tally (bit_at words.now) (first * 32) (end * 32) }
 {
     let mut count = 0;
-    let mut w = first;
-    while w < end {
+    for w in first..end {
         count += ones_from(words[w], 0);
-        w += 1;
     }
     count
 }

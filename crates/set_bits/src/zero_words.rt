@@ -30,12 +30,11 @@ pub fn skip_zeros(words: &[u32], first: usize, end: usize) -> usize
     requires { (first ≤ end) × (end ≤ length words.now) }
     ensures { ZerosSkipped words.now first end result }
 {
-    let mut w = skip_fours(words, first, end);
-    while w < end {
+    let start = skip_fours(words, first, end);
+    for w in start..end {
         if words[w] != 0 {
             return w;
         }
-        w += 1;
     }
-    w
+    end
 }

@@ -2,7 +2,7 @@
 #![tactic(auto)]
 
 use answer_text::{put, put_value};
-use diagnostics::{Selected, SelectedInverseDiagnostics, SelectedInverseStatus};
+use diagnostics::{SelectedInverseDiagnostics, SelectedInverseStatus};
 use selected::selected_inverse_entries_with_limit;
 use std::io;
 use std::io::{BufWriter, Write};
@@ -37,8 +37,7 @@ fn put_column(
     rows: &[u32],
     values: &[f64],
 ) -> io::Result<()> {
-    let mut p = first;
-    while p < last {
+    for p in first..last {
         if p < rows.len() {
             if p < values.len() {
                 put_number(out, at(rows, p))?;
@@ -49,7 +48,6 @@ fn put_column(
                 put(out, b"\n")?;
             }
         }
-        p += 1;
     }
     Ok(())
 }
@@ -61,11 +59,9 @@ fn put_entries(
     rows: &[u32],
     values: &[f64],
 ) -> io::Result<()> {
-    let mut e = 1;
-    while e < starts.len() {
+    for e in 1..starts.len() {
         let c = e - 1;
         put_column(out, c, at(starts, c), at(starts, e), rows, values)?;
-        e += 1;
     }
     Ok(())
 }
@@ -95,8 +91,8 @@ fn star(out: &mut impl Write) -> io::Result<()> {
         &mut scratch,
     );
     match answer {
-        Selected::Refused(_) => put(out, b"refused\n"),
-        Selected::Answered(d) => {
+        Err(_) => put(out, b"refused\n"),
+        Ok(d) => {
             put_diagnosis(out, d)?;
             put_entries(out, &result_starts, &result_rows, &result_values)
         }

@@ -2,11 +2,12 @@
 ghost use Rattle.std.specs.Prelude.{◌≡◌, ◌≤◌, ◌<◌, ◌+◌};
 ghost use Rattle.selection.specs.Selection.{room};
 ghost use Rattle.selection.specs.Call.{call};
-ghost use Rattle.diagnostics.specs.Selected.{selected_reply_of};
 ghost use Rattle.starred_table.specs.Calls.{call_reply};
 ghost use Rattle.selected_entry.specs.SelectedEntry.{answer_of, entry_answer};
+ghost use Rattle.refusal.specs.Refusal.{reply_of};
 
-use diagnostics::Selected;
+use diagnostics::SelectedInverseDiagnostics;
+use refusal::Refusal;
 use selected::selected_inverse_entries_with_limit;
 use selected_entry::{SelectedEntry, selected_inverse_entry_with_limit};
 
@@ -21,9 +22,9 @@ pub fn entries(
     limit: usize,
     total: usize,
     words: usize,
-) -> Selected
+) -> Result<SelectedInverseDiagnostics, Refusal>
     requires { (n < 4) × (total ≤ 6) × (words ≤ 19) }
-    ensures { selected_reply_of result
+    ensures { reply_of result
         ≡ call_reply (call n starts.now rows.now values.now n request_rows.now request_columns.now limit)
         (room (n + 1) total total words) }
 {

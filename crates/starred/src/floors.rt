@@ -1,24 +1,25 @@
 // Document 01's starred floor, called and compared; that each comparison holds is proved from the contracts and the table.
 ghost use Rattle.std.specs.Prelude.{◌≡◌};
-ghost use Rattle.floor.specs.Floor.{stabilized_reply};
 ghost use Rattle.starred_table.specs.Stabilized.{stabilized_as};
+ghost use Rattle.refusal.specs.Refusal.{reply_of};
 
 use check::expect;
 use floor::variance_floor::VarianceFloor;
-use floor::{Stabilized, stabilize_variances};
+use floor::{StabilizedVariance, stabilize_variances};
+use refusal::Refusal;
 
 // Whether a call is answered with this floor and these hits.
-fn stabilized(s: Stabilized, floor: f64, hits: usize) -> bool
-    ensures { result ≡ stabilized_as (stabilized_reply s) floor hits }
+fn stabilized(s: Result<StabilizedVariance, Refusal>, floor: f64, hits: usize) -> bool
+    ensures { result ≡ stabilized_as (reply_of s) floor hits }
 {
     match s {
-        Stabilized::Answered(v) => {
+        Ok(v) => {
             if v.floor_hits != hits {
                 return false;
             }
             v.floor == floor
         }
-        Stabilized::Refused(_) => false,
+        Err(_) => false,
     }
 }
 

@@ -1,12 +1,12 @@
 // Tests of the replies to the starred cases' calls for selected entries.
 ghost use Rattle.std.specs.Prelude.{◌≡◌};
-ghost use Rattle.diagnostics.specs.Selected.{selected_reply_of};
 ghost use Rattle.selected_entry.specs.SelectedEntry.{answer_of};
 ghost use Rattle.starred_table.specs.Counts.{shows_of, counted_of, has_ratio};
 ghost use Rattle.starred_table.specs.Entries.{is_value, is_absent, is_refused};
+ghost use Rattle.refusal.specs.Refusal.{reply_of};
 
-use diagnostics::{Selected, SelectedInverseDiagnostics};
-use lookup::ordered::Entry;
+use diagnostics::SelectedInverseDiagnostics;
+use refusal::Refusal;
 use selected_entry::SelectedEntry;
 use verdicts::refusal_number;
 
@@ -37,27 +37,27 @@ fn shows(
 
 // Whether a call is answered with these counts and a status that is Complete or not.
 pub fn counted(
-    reply: Selected,
+    reply: Result<SelectedInverseDiagnostics, Refusal>,
     requested: usize,
     closure: usize,
     factor: usize,
     complete: bool,
 ) -> bool
-    ensures { result ≡ counted_of (selected_reply_of reply) requested closure factor complete }
+    ensures { result ≡ counted_of (reply_of reply) requested closure factor complete }
 {
     match reply {
-        Selected::Answered(d) => shows(d, requested, closure, factor, complete),
-        Selected::Refused(_) => false,
+        Ok(d) => shows(d, requested, closure, factor, complete),
+        Err(_) => false,
     }
 }
 
 // Whether a call is answered with this ratio.
-pub fn has_ratio(reply: Selected, ratio: f64) -> bool
-    ensures { result ≡ has_ratio (selected_reply_of reply) ratio }
+pub fn has_ratio(reply: Result<SelectedInverseDiagnostics, Refusal>, ratio: f64) -> bool
+    ensures { result ≡ has_ratio (reply_of reply) ratio }
 {
     match reply {
-        Selected::Answered(d) => d.closure_over_factor == ratio,
-        Selected::Refused(_) => false,
+        Ok(d) => d.closure_over_factor == ratio,
+        Err(_) => false,
     }
 }
 
@@ -67,8 +67,8 @@ pub fn is_value(e: SelectedEntry, v: f64) -> bool
 {
     match e {
         SelectedEntry::Found(entry) => match entry {
-            Entry::Value(z) => z == v,
-            Entry::Refused(_) => false,
+            Ok(z) => z == v,
+            Err(_) => false,
         },
         SelectedEntry::ClosureTooLarge => false,
         SelectedEntry::Refused(_) => false,
@@ -81,8 +81,8 @@ pub fn is_absent(e: SelectedEntry) -> bool
 {
     match e {
         SelectedEntry::Found(entry) => match entry {
-            Entry::Value(_) => false,
-            Entry::Refused(why) => refusal_number(why) == 8,
+            Ok(_) => false,
+            Err(why) => refusal_number(why) == 8,
         },
         SelectedEntry::ClosureTooLarge => false,
         SelectedEntry::Refused(_) => false,

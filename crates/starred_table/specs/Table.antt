@@ -37,6 +37,7 @@ use Rattle.selection.specs.Selection.{room, room_steps, selected_complete, selec
 use Rattle.selection.specs.Call.{selected_steps}
 use Rattle.quadratic_form.specs.CrossValue.{add_terms, add_places}
 use Rattle.quadratic_form.specs.RowValue.{operator_values}
+use Rattle.operator_variances_with_limit.specs.Transformed.{transformed_steps as limited_steps}
 use Rattle.operator_variances.specs.Transformed.{transformed_selection, transformed_steps, transformed_values}
 use Rattle.starred_table.specs.Calls.{F2, F3, NoColumns, f2_operator}
 use Rattle.selected_entry.specs.SelectedEntry.{refused_with, looked, entry_answer}
@@ -124,13 +125,13 @@ values = record {
 
 pub operator_answered : first (transformed_steps f2_operator (room 3 3 3 12) 1) (selected_answer (transformed_selection f2_operator)) ≡ answered (diagnosis 3 3 3 30 Complete)
 unfolding any any_in sum_to picked select cell_count of_int of_bits ne le factor_pairs reach member diagnosis_of first pair_total bit_words scratch_words bound_steps broken_steps starts_steps
-    rows_steps column_steps finite_steps stored_steps operator_steps diagonal_steps room_steps transformed_steps operator_pair
+    rows_steps column_steps finite_steps stored_steps operator_steps diagonal_steps room_steps limited_steps operator_pair
 operator_answered = refl
 
 pub operator_written : (z : Float) → after (transformed_steps f2_operator (room 3 3 3 12) 1)
     (cond (selected_complete (transformed_selection f2_operator)) (overwrite (transformed_values f2_operator) (z ∷ [])) (z ∷ [])) (z ∷ []) ≡ whole 2 ∷ []
 unfolding any any_in sum_to picked select cell_count of_int of_bits ne le reach member after first pair_total bit_words scratch_words bound_steps broken_steps starts_steps rows_steps column_steps finite_steps stored_steps
-    operator_steps diagonal_steps room_steps transformed_steps operator_pair overwrite tabulate operator_values add_terms add_places float_table add sub mul div neg
+    operator_steps diagonal_steps room_steps limited_steps operator_pair overwrite tabulate operator_values add_terms add_places float_table add sub mul div neg
 operator_written z = refl
 
 -- ---- permutations

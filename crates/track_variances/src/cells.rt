@@ -50,12 +50,10 @@ pub fn come(
 {
     let row = at(track, c);
     let mut line: i64 = 0;
-    let mut p = f;
-    while p < c {
+    for p in f..c {
         let z = entry_or_zero(starts, rows, values, row, at(track, p));
         line = sum(line, z);
         add_twice(list, p + 1, z);
-        p += 1;
     }
     let own = entry_or_zero(starts, rows, values, row, row);
     put(list, c + 1, own);

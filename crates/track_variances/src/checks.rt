@@ -6,7 +6,7 @@ ghost use Rattle.result.specs.Lookup.{WellFormed};
 ghost use Rattle.track_variances.specs.Track.{width_steps, run_steps, track_steps, track_fault};
 
 use column_search::result_check::check_result;
-use refusal::{Checked, Refusal};
+use refusal::Refusal;
 use verdicts::check_output;
 use whole_pairs::faults::{fault_verdict, line_fault};
 use words::order::{larger, smaller};
@@ -17,19 +17,19 @@ const MAX_WIDTH: usize = 1024;
 const MAX_TRACK_ENTRY: usize = 1099511627776;
 
 // 22.
-fn check_width(cells: usize, width: usize) -> Checked
+fn check_width(cells: usize, width: usize) -> Result<(), Refusal>
     ensures { reply_of result ≡ verdict (width_steps cells width) }
 {
     if width == 0 {
-        return Checked::Refused(Refusal::BadWidth);
+        return Err(Refusal::BadWidth);
     }
     if MAX_WIDTH < width {
-        return Checked::Refused(Refusal::BadWidth);
+        return Err(Refusal::BadWidth);
     }
     if cells < width {
-        return Checked::Refused(Refusal::BadWidth);
+        return Err(Refusal::BadWidth);
     }
-    Checked::Accepted
+    Ok(())
 }
 
 // The worst fault of the pairs of cells less than `width` apart.
@@ -40,20 +40,24 @@ fn track_fault(starts: &[u32], rows: &[u32], values: &[i64], track: &[u32], widt
 {
     let cells = track.len();
     let mut found = 0;
-    let mut p = 0;
-    while p < cells {
+    for p in 0..cells {
         let e = smaller(p + width, cells);
         found = larger(
             found,
             line_fault(starts, rows, values, track, p, p, e, MAX_TRACK_ENTRY),
         );
-        p += 1;
     }
     found
 }
 
 // 8 and 20.
-fn check_runs(starts: &[u32], rows: &[u32], values: &[i64], track: &[u32], width: usize) -> Checked
+fn check_runs(
+    starts: &[u32],
+    rows: &[u32],
+    values: &[i64],
+    track: &[u32],
+    width: usize,
+) -> Result<(), Refusal>
     requires well_formed { WellFormed starts.now rows.now (length values.now) }
     requires width_nonzero { (0 < width) × (width ≤ length track.now) }
     ensures { reply_of result ≡ verdict (run_steps starts.now rows.now values.now track.now width) }
@@ -69,17 +73,17 @@ pub fn check_call(
     track: &[u32],
     width: usize,
     room: usize,
-) -> Checked
+) -> Result<(), Refusal>
     ensures { reply_of result ≡ verdict (track_steps starts.now rows.now values.now track.now width room) }
 {
-    if let Checked::Refused(why) = check_result(starts, rows, values.len()) {
-        return Checked::Refused(why);
+    if let Err(why) = check_result(starts, rows, values.len()) {
+        return Err(why);
     }
-    if let Checked::Refused(why) = check_width(track.len(), width) {
-        return Checked::Refused(why);
+    if let Err(why) = check_width(track.len(), width) {
+        return Err(why);
     }
-    if let Checked::Refused(why) = check_runs(starts, rows, values, track, width) {
-        return Checked::Refused(why);
+    if let Err(why) = check_runs(starts, rows, values, track, width) {
+        return Err(why);
     }
     check_output(track.len() - (width - 1), room)
 }

@@ -9,7 +9,7 @@ ghost use Rattle.refusal.specs.Refusal.{reply_of};
 ghost use Rattle.track_variances.specs.Track.{VariancesAlong};
 
 use checks::check_call;
-use refusal::Checked;
+use refusal::Refusal;
 use runs::write_runs;
 
 // Writes the variance of each run of `width` cells to the front of the output. Each pair of places less than `width` apart is looked up twice:
@@ -21,14 +21,10 @@ pub fn track_variances_whole(
     track: &[u32],
     width: usize,
     output: &mut [i64],
-) -> Checked
+) -> Result<(), Refusal>
     ensures { VariancesAlong starts.now rows.now values.now track.now width output.old (reply_of result) output.new }
 {
-    match check_call(starts, rows, values, track, width, output.len()) {
-        Checked::Refused(why) => Checked::Refused(why),
-        Checked::Accepted => {
-            write_runs(starts, rows, values, track, width, output);
-            Checked::Accepted
-        }
-    }
+    check_call(starts, rows, values, track, width, output.len())?;
+    write_runs(starts, rows, values, track, width, output);
+    Ok(())
 }

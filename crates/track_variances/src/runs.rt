@@ -73,10 +73,8 @@ fn all_cells(
     ensures { list.new ≡ track_variances starts.now rows.now values.now track.now k }
 {
     list[0] = 0;
-    let mut c = 0;
-    while c < track.len() {
+    for c in 0..track.len() {
         next_cell(starts, rows, values, track, k, c, list);
-        c += 1;
     }
 }
 

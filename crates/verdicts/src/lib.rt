@@ -1,33 +1,22 @@
-// Verdicts: the first of two, one of an output's room, and the numbers of refusals.
+// The verdict of an output's room, and the numbers of refusals.
 #![tactic(auto)]
 
 ghost use Rattle.std.specs.Prelude.{◌≡◌};
 ghost use Rattle.refusal.specs.Steps.{verdict};
 ghost use Rattle.refusal.specs.Bounds.{output_steps};
-ghost use Rattle.refusal.specs.FirstOf.{or_else};
 ghost use Rattle.refusal.specs.Refusal.{refusal_number, reply_of};
 ghost use Rattle.verdicts.specs.Number.{checked_number};
 
-use refusal::{Checked, Refusal};
-
-// The first of two verdicts that refuses.
-pub fn first_of(a: Checked, b: Checked) -> Checked
-    ensures { reply_of result ≡ or_else (reply_of a) (reply_of b) }
-{
-    match a {
-        Checked::Refused(why) => Checked::Refused(why),
-        Checked::Accepted => b,
-    }
-}
+use refusal::Refusal;
 
 // 7: an output of fewer places than are needed.
-pub fn check_output(needed: usize, output: usize) -> Checked
+pub fn check_output(needed: usize, output: usize) -> Result<(), Refusal>
     ensures { reply_of result ≡ verdict (output_steps needed output) }
 {
     if output < needed {
-        return Checked::Refused(Refusal::TooShort);
+        return Err(Refusal::TooShort);
     }
-    Checked::Accepted
+    Ok(())
 }
 
 // The number of a refusal.
@@ -63,11 +52,11 @@ pub fn refusal_number(r: Refusal) -> u32
 }
 
 // 0 where a call is accepted, else the refusal's number.
-pub fn checked_number(r: Checked) -> u32
+pub fn checked_number(r: Result<(), Refusal>) -> u32
     ensures { result ≡ checked_number r }
 {
     match r {
-        Checked::Accepted => 0,
-        Checked::Refused(why) => refusal_number(why),
+        Ok(()) => 0,
+        Err(why) => refusal_number(why),
     }
 }

@@ -3,9 +3,8 @@
 use Rattle.std.specs.Prelude.{ℕ, Bool, not, ◌||◌, List, [], ◌∷◌, eqb, ltb, length, ℤ, nat_abs}
 use Rattle.std.specs.Int.Signed.{lt_z}
 use Rattle.lists.specs.Test.{any}
-use Rattle.refusal.specs.Steps.{Step, Reply, refused, answered}
+use Rattle.refusal.specs.Steps.{Step}
 use Rattle.refusal.specs.Groups.{grouped}
-use Rattle.refusal.specs.Refusal.{refusal_number}
 use Rattle.columns.specs.Columns.{outside}
 use Rattle.columns.specs.WholeFactor.{whole_value}
 use Rattle.quadratic_form.specs.RowValue.{term_column}
@@ -13,8 +12,6 @@ use Rattle.result.specs.Lookup.{dimension, result_steps}
 use Rattle.whole_pairs.specs.Worst.{worst, worst_in}
 use Rattle.whole_pairs.specs.Entry.{entry_or_zero, absent_pair, beyond_pair, cell_fault}
 use Rattle.weight_bounds.specs.Bounds.{least_weight_product, greatest_weight_product, least_term, greatest_term, low_bound, high_bound}
-use Rattle.weight_ranges.specs.declared.VarianceBounds.{VarianceBounds}
-use Rattle.weight_ranges.specs.declared.VarianceBounds.TheVariants.{Bounds, Refused}
 
 -- the entry at the columns of the places a and b of the row; the weight of place a lies from whole_value lows a to whole_value highs a
 abbrev pub row_entry : List ℕ → List ℕ → List ℤ → List ℕ → ℕ → ℕ → ℤ
@@ -94,11 +91,6 @@ least_weight_product_of lows highs = least_weight_product (whole_value lows) (wh
 
 abbrev pub greatest_weight_product_of : List ℤ → List ℤ → ℕ → ℕ → ℤ
 greatest_weight_product_of lows highs = greatest_weight_product (whole_value lows) (whole_value highs)
-
--- the call's answer: the bounds, or a refusal's number
-abbrev pub bounds_reply : VarianceBounds → Reply (ℤ × ℤ)
-bounds_reply (Bounds low high) = answered (low, high)
-bounds_reply (Refused why) = refused (refusal_number why)
 
 -- the worst fault of the pairs of the columns
 abbrev pub row_fault : List ℕ → List ℕ → List ℤ → List ℕ → ℕ

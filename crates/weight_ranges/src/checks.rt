@@ -8,7 +8,7 @@ ghost use Rattle.lists.specs.Test.{any};
 ghost use Rattle.weight_ranges.specs.Ranges.{repeated_at, repeated, bad_range, range_row_steps, weight_steps, pair_steps, range_steps, row_fault};
 
 use column_search::result_check::check_result;
-use refusal::{Checked, Refusal};
+use refusal::Refusal;
 use whole_pairs::faults::{fault_verdict, line_fault};
 use whole_steps::{size, whole_at};
 use words::at;
@@ -28,12 +28,10 @@ fn seen_before(columns: &[u32], a: usize) -> bool
     ensures { result ≡ repeated_at columns.now a }
 {
     let column = at(columns, a);
-    let mut b = 0;
-    while b < a {
+    for b in 0..a {
         if at(columns, b) == column {
             return true;
         }
-        b += 1;
     }
     false
 }
@@ -42,36 +40,34 @@ fn seen_before(columns: &[u32], a: usize) -> bool
 fn some_repeated(columns: &[u32]) -> bool
     ensures { result ≡ repeated columns.now }
 {
-    let mut a = 0;
-    while a < columns.len() {
+    for a in 0..columns.len() {
         if seen_before(columns, a) {
             return true;
         }
-        a += 1;
     }
     false
 }
 
 // 9 of a row over n columns.
-fn check_row(n: usize, columns: &[u32], lows: usize, highs: usize) -> Checked
+fn check_row(n: usize, columns: &[u32], lows: usize, highs: usize) -> Result<(), Refusal>
     ensures { reply_of result ≡ verdict (range_row_steps n columns.now lows highs) }
 {
     if columns.len() != lows {
-        return Checked::Refused(Refusal::BrokenOperator);
+        return Err(Refusal::BrokenOperator);
     }
     if columns.len() != highs {
-        return Checked::Refused(Refusal::BrokenOperator);
+        return Err(Refusal::BrokenOperator);
     }
     if index_outside(n, columns) {
-        return Checked::Refused(Refusal::BrokenOperator);
+        return Err(Refusal::BrokenOperator);
     }
     if n < columns.len() {
-        return Checked::Refused(Refusal::BrokenOperator);
+        return Err(Refusal::BrokenOperator);
     }
     if some_repeated(columns) {
-        return Checked::Refused(Refusal::BrokenOperator);
+        return Err(Refusal::BrokenOperator);
     }
-    Checked::Accepted
+    Ok(())
 }
 
 // Whether a is above b.
@@ -100,28 +96,26 @@ fn some_bad_range(terms: usize, lows: &[i64], highs: &[i64]) -> bool
     requires { (terms ≤ length lows.now) × (terms ≤ length highs.now) }
     ensures { result ≡ any (bad_range lows.now highs.now) terms }
 {
-    let mut a = 0;
-    while a < terms {
+    for a in 0..terms {
         if bad_range(lows, highs, a) {
             return true;
         }
-        a += 1;
     }
     false
 }
 
 // 21 of a row with so many terms.
-fn check_weights(terms: usize, lows: &[i64], highs: &[i64]) -> Checked
+fn check_weights(terms: usize, lows: &[i64], highs: &[i64]) -> Result<(), Refusal>
     requires { (terms ≤ length lows.now) × (terms ≤ length highs.now) }
     ensures { reply_of result ≡ verdict (weight_steps terms lows.now highs.now) }
 {
     if MAX_TERMS < terms {
-        return Checked::Refused(Refusal::BadWeights);
+        return Err(Refusal::BadWeights);
     }
     if some_bad_range(terms, lows, highs) {
-        return Checked::Refused(Refusal::BadWeights);
+        return Err(Refusal::BadWeights);
     }
-    Checked::Accepted
+    Ok(())
 }
 
 // The worst fault of the pairs of the columns.
@@ -131,19 +125,17 @@ fn row_fault(starts: &[u32], rows: &[u32], values: &[i64], columns: &[u32]) -> u
 {
     let m = columns.len();
     let mut found = 0;
-    let mut a = 0;
-    while a < m {
+    for a in 0..m {
         found = larger(
             found,
             line_fault(starts, rows, values, columns, a, 0, m, MAX_RANGE_ENTRY),
         );
-        a += 1;
     }
     found
 }
 
 // 8 and 20.
-fn check_pairs(starts: &[u32], rows: &[u32], values: &[i64], columns: &[u32]) -> Checked
+fn check_pairs(starts: &[u32], rows: &[u32], values: &[i64], columns: &[u32]) -> Result<(), Refusal>
     requires { WellFormed starts.now rows.now (length values.now) }
     ensures { reply_of result ≡ verdict (pair_steps starts.now rows.now values.now columns.now) }
 {
@@ -158,17 +150,17 @@ pub fn check_call(
     columns: &[u32],
     lows: &[i64],
     highs: &[i64],
-) -> Checked
+) -> Result<(), Refusal>
     ensures { reply_of result ≡ verdict (range_steps starts.now rows.now values.now columns.now lows.now highs.now) }
 {
-    if let Checked::Refused(why) = check_result(starts, rows, values.len()) {
-        return Checked::Refused(why);
+    if let Err(why) = check_result(starts, rows, values.len()) {
+        return Err(why);
     }
-    if let Checked::Refused(why) = check_row(starts.len() - 1, columns, lows.len(), highs.len()) {
-        return Checked::Refused(why);
+    if let Err(why) = check_row(starts.len() - 1, columns, lows.len(), highs.len()) {
+        return Err(why);
     }
-    if let Checked::Refused(why) = check_weights(columns.len(), lows, highs) {
-        return Checked::Refused(why);
+    if let Err(why) = check_weights(columns.len(), lows, highs) {
+        return Err(why);
     }
     check_pairs(starts, rows, values, columns)
 }

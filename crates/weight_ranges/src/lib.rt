@@ -8,18 +8,12 @@ pub mod terms;
 
 ghost use Rattle.std.specs.Prelude.{◌≡◌};
 ghost use Rattle.refusal.specs.Steps.{first};
-ghost use Rattle.weight_ranges.specs.Ranges.{bounds_reply, range_steps, range_bounds};
+ghost use Rattle.weight_ranges.specs.Ranges.{range_steps, range_bounds};
+ghost use Rattle.refusal.specs.Refusal.{reply_of};
 
 use checks::check_call;
-use refusal::{Checked, Refusal};
+use refusal::Refusal;
 use sums::row_bounds;
-
-// The bounds, or why there are none; `bounds_reply` of specs/Ranges.antt gives the number of a refusal.
-#[derive(Clone, Copy)]
-pub enum VarianceBounds {
-    Bounds(i64, i64),
-    Refused(Refusal),
-}
 
 // The low and the high bound on the variance of the row with these columns, each weight from its low to its high end: the sums of each term's least
 // and greatest value. Every choice of weights falls within, and no one choice need attain a bound.
@@ -30,15 +24,11 @@ pub fn variance_bounds_whole(
     columns: &[u32],
     lows: &[i64],
     highs: &[i64],
-) -> VarianceBounds
-    ensures { bounds_reply result ≡ first (range_steps starts.now rows.now values.now columns.now lows.now highs.now)
+) -> Result<(i64, i64), Refusal>
+    ensures { reply_of result ≡ first (range_steps starts.now rows.now values.now columns.now lows.now highs.now)
         (range_bounds starts.now rows.now values.now columns.now lows.now highs.now) }
 {
-    match check_call(starts, rows, values, columns, lows, highs) {
-        Checked::Refused(why) => VarianceBounds::Refused(why),
-        Checked::Accepted => {
-            let b = row_bounds(starts, rows, values, columns, lows, highs);
-            VarianceBounds::Bounds(b.low, b.high)
-        }
-    }
+    check_call(starts, rows, values, columns, lows, highs)?;
+    let b = row_bounds(starts, rows, values, columns, lows, highs);
+    Ok((b.low, b.high))
 }

@@ -37,13 +37,11 @@ fn place_bounds(
     ensures high_value { result.high ≡ Σℤ (length columns.now) (greatest_term_of starts.now rows.now values.now columns.now lows.now highs.now a) }
 {
     let mut total = Range { low: 0, high: 0 };
-    let mut b = 0;
-    while b < columns.len() {
+    for b in 0..columns.len() {
         total = plus_range(
             total,
             term_range(starts, rows, values, columns, lows, highs, a, b),
         );
-        b += 1;
     }
     total
 }
@@ -62,13 +60,11 @@ pub fn row_bounds(
     ensures high_value { result.high ≡ high_bound_of starts.now rows.now values.now columns.now lows.now highs.now }
 {
     let mut total = Range { low: 0, high: 0 };
-    let mut a = 0;
-    while a < columns.len() {
+    for a in 0..columns.len() {
         total = plus_range(
             total,
             place_bounds(starts, rows, values, columns, lows, highs, a),
         );
-        a += 1;
     }
     total
 }

@@ -11,40 +11,55 @@ use whole_pairs::entry_or_zero;
 use whole_steps::{product, whole_at};
 use words::at;
 
-// c times a number from lo to hi.
-fn times_range(c: i64, lo: i64, hi: i64) -> Range
-    requires { (SizeWithin max_range_entry c) × (SizeWithin 1048576 lo) × (SizeWithin 1048576 hi) }
-    ensures low_value { result.low ≡ least_times c lo hi }
-    ensures high_value { result.high ≡ greatest_times c lo hi }
+// c times a number of the range.
+fn times_range(c: i64, of: Range) -> Range
+    requires { (SizeWithin max_range_entry c) × (SizeWithin 1048576 of.low) × (SizeWithin 1048576 of.high) }
+    ensures low_value { result.low ≡ least_times c of.low of.high }
+    ensures high_value { result.high ≡ greatest_times c of.low of.high }
 {
-    ordered(product(c, lo), product(c, hi))
+    ordered(product(c, of.low), product(c, of.high))
 }
 
-// A number from lo to hi times one from lo2 to hi2.
-fn product_range(lo: i64, hi: i64, lo2: i64, hi2: i64) -> Range
-    requires { (SizeWithin max_weight lo) × (SizeWithin max_weight hi) × (SizeWithin max_weight lo2) × (SizeWithin max_weight hi2) }
-    ensures low_value { result.low ≡ least_product lo hi lo2 hi2 }
-    ensures high_value { result.high ≡ greatest_product lo hi lo2 hi2 }
+// A number of one range times one of the other.
+fn product_range(first: Range, second: Range) -> Range
+    requires { (SizeWithin max_weight first.low) × (SizeWithin max_weight first.high) × (SizeWithin max_weight second.low) × (SizeWithin max_weight second.high) }
+    ensures low_value { result.low ≡ least_product first.low first.high second.low second.high }
+    ensures high_value { result.high ≡ greatest_product first.low first.high second.low second.high }
 {
-    widest(times_range(lo, lo2, hi2), times_range(hi, lo2, hi2))
+    widest(
+        times_range(first.low, second),
+        times_range(first.high, second),
+    )
 }
 
-// A number from lo to hi times itself.
-fn square_range(lo: i64, hi: i64) -> Range
-    requires { (SizeWithin max_weight lo) × (SizeWithin max_weight hi) }
-    ensures low_value { result.low ≡ least_square lo hi }
-    ensures high_value { result.high ≡ greatest_square lo hi }
+// A number of the range times itself.
+fn square_range(of: Range) -> Range
+    requires { (SizeWithin max_weight of.low) × (SizeWithin max_weight of.high) }
+    ensures low_value { result.low ≡ least_square of.low of.high }
+    ensures high_value { result.high ≡ greatest_square of.low of.high }
 {
-    let squares = ordered(product(lo, lo), product(hi, hi));
-    if 0 < lo {
+    let squares = ordered(product(of.low, of.low), product(of.high, of.high));
+    if 0 < of.low {
         return squares;
     }
-    if hi < 0 {
+    if of.high < 0 {
         return squares;
     }
     Range {
         low: 0,
         high: squares.high,
+    }
+}
+
+// The range of the weight of place a.
+fn weight_range(lows: &[i64], highs: &[i64], a: usize) -> Range
+    requires { (a < length lows.now) × (a < length highs.now) }
+    ensures low_value { result.low ≡ whole_value lows.now a }
+    ensures high_value { result.high ≡ whole_value highs.now a }
+{
+    Range {
+        low: whole_at(lows, a),
+        high: whole_at(highs, a),
     }
 }
 
@@ -55,15 +70,11 @@ fn weight_product_range(lows: &[i64], highs: &[i64], a: usize, b: usize) -> Rang
     ensures low_value { result.low ≡ least_weight_product_of lows.now highs.now a b }
     ensures high_value { result.high ≡ greatest_weight_product_of lows.now highs.now a b }
 {
+    let first = weight_range(lows, highs, a);
     if a == b {
-        return square_range(whole_at(lows, a), whole_at(highs, a));
+        return square_range(first);
     }
-    product_range(
-        whole_at(lows, a),
-        whole_at(highs, a),
-        whole_at(lows, b),
-        whole_at(highs, b),
-    )
+    product_range(first, weight_range(lows, highs, b))
 }
 
 // The term of the places a and b.
@@ -82,10 +93,8 @@ pub fn term_range(
     ensures low_value { result.low ≡ least_term_of starts.now rows.now values.now columns.now lows.now highs.now a b }
     ensures high_value { result.high ≡ greatest_term_of starts.now rows.now values.now columns.now lows.now highs.now a b }
 {
-    let w = weight_product_range(lows, highs, a, b);
     times_range(
         entry_or_zero(starts, rows, values, at(columns, a), at(columns, b)),
-        w.low,
-        w.high,
+        weight_product_range(lows, highs, a, b),
     )
 }

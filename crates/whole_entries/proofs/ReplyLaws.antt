@@ -12,7 +12,7 @@ use borrow.Author.Tests.{leb-true, lt-ltb}
 use Rattle.lists.specs.Tabulate.{tabulate, tabulate-length}
 use Rattle.lists.specs.Overwrite.{overwrite, filled, cleared, drop_same}
 use Rattle.refusal.specs.Bounds.{max_dimension, max_entries}
-use Rattle.refusal.specs.Refusal.{refusal_number}
+use Rattle.refusal.specs.Refusal.{refusal_number, reply_of}
 use Rattle.refusal.specs.declared.Refusal.{Refusal}
 use Rattle.refusal.specs.declared.Refusal.TheVariants.{NumberTooLarge}
 use Rattle.refusal.specs.Steps.{Step, Passed, refused, verdict, settle, after}
@@ -30,12 +30,9 @@ use Rattle.closed_set.proofs.KeptSet.{factor_pairs_most}
 use Rattle.closed_set.proofs.Size.{closure_size_most}
 use Rattle.closure_route.proofs.Members.{marked_size, marked_closed}
 use Rattle.diagnostics.specs.Diagnosis.{max_count}
-use Rattle.diagnostics.specs.Selected.{selected_reply_of}
 use Rattle.diagnostics.specs.declared.SelectedInverseDiagnostics.{SelectedInverseDiagnostics}
 use Rattle.diagnostics.specs.declared.SelectedInverseStatus.{SelectedInverseStatus}
 use Rattle.diagnostics.specs.declared.SelectedInverseStatus.TheVariants.{Complete, ClosureTooLarge}
-use Rattle.diagnostics.specs.declared.Selected.{Selected}
-use Rattle.diagnostics.specs.declared.Selected.TheVariants.{Answered, Refused}
 use Rattle.entries.proofs.Position.{entry_starts_cong, entry_rows_cong, entry_values_cong}
 use Rattle.entries.specs.WholeTable.{exceeds}
 use Rattle.marked_pairs.specs.MarkedPairs.{MarkedPairs}
@@ -50,6 +47,7 @@ use Rattle.whole_selection.specs.Call.{WholeCall, WholeLent, whole_lent, whole_r
 use Rattle.whole_selection.specs.Accepted.{WholeAccepted}
 use Rattle.whole_entries.specs.Filling.{CompleteInput, CompleteDone, Uncleared}
 use Rattle.whole_entries.proofs.SetLaws.{exceeds_cong}
+use Rattle.std.specs.Prelude.{Ok, Err, Result}
 
 -- ---- a refused call
 module _ (x : WholeCall) (lent : WholeLent) where
@@ -59,7 +57,7 @@ module _ (x : WholeCall) (lent : WholeLent) where
   abbrev all : List Step
   all = whole_steps x (whole_room_of lent)
 
-  pub entries_refused : {why : Refusal} → verdict checks ≡ refused (refusal_number why) → WholeEntries x lent (Refused why) lent
+  pub entries_refused : {why : Refusal} → verdict checks ≡ refused (refusal_number why) → WholeEntries x lent (Err why) lent
   entries_refused {why} e =
       let r : verdict all ≡ refused (refusal_number why) = append-refused checks (exceed_steps x) _ tt e in
       record {
@@ -95,7 +93,7 @@ cleared_work_lem m w w₀ long rest =
     (drop_same (pos 0) (length (tabulate (λ _. pos 0) m)) w w₀ long (λ p h. rest p (omega (arith, tabulate-length {A = ℤ} (λ _. pos 0) m))))
 
 -- the contract of a call past its checks
-pub uncleared_entries : (x : WholeCall) (lent : WholeLent) → Passed (check_steps x (whole_room_of lent)) → {reply : Selected} {left : WholeLent} → Uncleared x lent reply left
+pub uncleared_entries : (x : WholeCall) (lent : WholeLent) → Passed (check_steps x (whole_room_of lent)) → {reply : Result SelectedInverseDiagnostics Refusal} {left : WholeLent} → Uncleared x lent reply left
     → {s : List ℕ} {w : List ℤ} {m : ℕ} → s ≡ cleared (scratch_words x.factor.n) left.lists.scratch → m ≡ work_places x.factor.n x.limit
     → w ≡ filled (λ _. pos 0) m left.work
     → WholeEntries x lent reply (whole_lent left.lists.result_starts left.lists.result_rows left.lists.result_values s w)
@@ -167,12 +165,12 @@ module _ (x : WholeCall) (lent : WholeLent) (A : WholeAccepted x (whole_room_of 
       -- nothing is refused
       answered_left : {left : WholeLent} → exceed ≡ false → left.lists.result_starts ≡ filled_starts (whole_filling x) lent.lists
           → left.lists.result_rows ≡ filled_rows (whole_filling x) lent.lists → left.lists.result_values ≡ filled_values (whole_filling x) lent.lists
-          → Left left → Uncleared x lent (Answered d) left
+          → Left left → Uncleared x lent (Ok d) left
       unfolding exceed_steps
       answered_left none a b c rest =
           let p : Passed (exceed_steps x) = clear_passed (exceed_steps x) (none, tt) in
           record {
-            replies = ap (λ (y : SelectedInverseDiagnostics). selected_reply_of (Answered y)) answer ∙ sym (first_passed (exceed_steps x) _ p);
+            replies = ap (λ (y : SelectedInverseDiagnostics). reply_of (Ok y)) answer ∙ sym (first_passed (exceed_steps x) _ p);
             starts_are = a ∙ sym (after_passed (exceed_steps x) _ _ p);
             rows_are = b ∙ sym (after_passed (exceed_steps x) _ _ p);
             values_are = c ∙ sym (after_passed (exceed_steps x) _ _ p);
@@ -184,7 +182,7 @@ module _ (x : WholeCall) (lent : WholeLent) (A : WholeAccepted x (whole_room_of 
       -- 20
       refused_left : {left : WholeLent} → exceed ≡ true → left.lists.result_starts ≡ lent.lists.result_starts
           → left.lists.result_rows ≡ lent.lists.result_rows → left.lists.result_values ≡ lent.lists.result_values
-          → Left left → Uncleared x lent (Refused NumberTooLarge) left
+          → Left left → Uncleared x lent (Err NumberTooLarge) left
       unfolding exceed_steps
       refused_left hit a b c rest = record {
         replies = sym (first_hit 20 [] _ hit);
@@ -243,10 +241,10 @@ module _ (x : WholeCall) (lent : WholeLent) (A : WholeAccepted x (whole_room_of 
           leaves : Left left
           leaves = (F.later ∙ C.later ∙ M.later, F.work_long, λ p h. F.rest p (omega (arith, size, most)))
 
-          pub fill_exceeds : b ≡ true → Uncleared x lent (Refused NumberTooLarge) left
+          pub fill_exceeds : b ≡ true → Uncleared x lent (Err NumberTooLarge) left
           fill_exceeds e = refused_left (exceeds_is ∙ e) (F.starts_are ∙ chosen _ _ e) (F.rows_are ∙ chosen _ _ e) (F.values_are ∙ chosen _ _ e) leaves
 
-          pub fill_done : b ≡ false → Uncleared x lent (Answered d) left
+          pub fill_done : b ≡ false → Uncleared x lent (Ok d) left
           fill_done e =
               answered_left (exceeds_is ∙ e)
               (F.starts_are ∙ chosen _ _ e
@@ -266,7 +264,7 @@ module _ (x : WholeCall) (lent : WholeLent) (A : WholeAccepted x (whole_room_of 
         large : whole_complete x ≡ false
         large = diagnosis_tells x.factor.n (whole_descendants x) _ (whole_requests x) x.limit ClosureTooLarge (tells ClosureTooLarge told)
 
-        pub fill_large : Uncleared x lent (Answered d)
+        pub fill_large : Uncleared x lent (Ok d)
             (whole_lent lent.lists.result_starts lent.lists.result_rows lent.lists.result_values s₂ lent.work)
         fill_large =
             answered_left

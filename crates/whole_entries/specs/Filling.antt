@@ -1,6 +1,6 @@
 -- Filling result lists in whole numbers: from the marks of a closed set to 20 or its entries, to the result lists, and to the reply.
 -- Assumes nothing.
-use Rattle.std.specs.Prelude.{ℕ, ◌+◌, ◌≤◌, ◌<◌, ◌≡◌, Bool, false, cond, List, length, get_or, drop, ℤ, pos}
+use Rattle.std.specs.Prelude.{ℕ, ◌+◌, ◌≤◌, ◌<◌, ◌≡◌, Bool, false, cond, List, length, get_or, drop, ℤ, pos, Result}
 use Rattle.lists.specs.Overwrite.{overwrite}
 use Rattle.refusal.specs.Bounds.{max_dimension}
 use Rattle.refusal.specs.Steps.{first, after}
@@ -11,13 +11,14 @@ use Rattle.columns.specs.Columns.{FactorLists}
 use Rattle.columns.specs.Factor.{Factor}
 use Rattle.columns.specs.WholeFactor.{whole_pattern}
 use Rattle.closed_set.specs.ClosedSet.{Closed}
-use Rattle.diagnostics.specs.declared.Selected.{Selected}
-use Rattle.diagnostics.specs.Selected.{selected_reply_of}
 use Rattle.entries.specs.Entries.{entry_starts, entry_rows, entry_values}
 use Rattle.entries.specs.WholeTable.{whole_table, exceeds}
 use Rattle.marked_pairs.specs.MarkedPairs.{ColumnsReached}
 use Rattle.selection.specs.Selection.{filled_starts, filled_rows, filled_values}
 use Rattle.whole_selection.specs.Call.{WholeCall, WholeLent, work_places, whole_answer, whole_filling, exceed_steps}
+use Rattle.refusal.specs.declared.Refusal.{Refusal}
+use Rattle.diagnostics.specs.declared.SelectedInverseDiagnostics.{SelectedInverseDiagnostics}
+use Rattle.refusal.specs.Refusal.{reply_of}
 
 -- a factor past its checks, the marks of a closed set, and room for its positions and entries
 pub record SetInput (f : FactorLists ℤ) (reached scratch : List ℕ) (work : List ℤ) : Type 0 where
@@ -63,8 +64,8 @@ pub record CompleteDone (f : FactorLists ℤ) (lent left : WholeLent) (b : Bool)
 
 -- the reply and the result lists of a call past its checks, which 20 alone can refuse; scratch and work list are as they were behind the places that a
 -- call uses
-pub record Uncleared (x : WholeCall) (lent : WholeLent) (reply : Selected) (left : WholeLent) : Type 0 where
-  pub replies : selected_reply_of reply ≡ first (exceed_steps x) (whole_answer x)
+pub record Uncleared (x : WholeCall) (lent : WholeLent) (reply : Result SelectedInverseDiagnostics Refusal) (left : WholeLent) : Type 0 where
+  pub replies : reply_of reply ≡ first (exceed_steps x) (whole_answer x)
   pub starts_are : left.lists.result_starts ≡ after (exceed_steps x) (filled_starts (whole_filling x) lent.lists) lent.lists.result_starts
   pub rows_are : left.lists.result_rows ≡ after (exceed_steps x) (filled_rows (whole_filling x) lent.lists) lent.lists.result_rows
   pub values_are : left.lists.result_values ≡ after (exceed_steps x) (filled_values (whole_filling x) lent.lists) lent.lists.result_values

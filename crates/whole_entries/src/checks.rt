@@ -12,10 +12,10 @@ use factor_check::bounds::check_bounds;
 use factor_check::check_columns;
 use kept_entries::unit_diagonals::check_units;
 use pair_places::pair_total;
-use refusal::Checked;
+use refusal::Refusal;
 use selected_checks::requests::check_requests;
 use selected_checks::{check_request_bound, check_room};
-use verdicts::{check_output, first_of};
+use verdicts::check_output;
 use words::order::smaller;
 
 // Steps 19, 6 and 7, past the others, the work list last.
@@ -30,25 +30,27 @@ fn check_lent(
     result_values: usize,
     scratch: usize,
     work: usize,
-) -> Checked
+) -> Result<(), Refusal>
     requires { (n ≤ max_dimension) × Factor n starts.now rows.now (length values.now) }
     ensures { reply_of result ≡ verdict (diagonal_checks (factor_lists n starts.now rows.now values.now)
         ++ (room_steps n limit (room result_starts result_rows result_values scratch) ++ work_steps n limit work)) }
 {
-    let diagonals = check_units(n, starts, rows, values);
-    let lists = check_room(n, limit, result_starts, result_rows, result_values, scratch);
-    let places = check_output(smaller(limit, pair_total(n)), work);
-    first_of(diagonals, first_of(lists, places))
+    check_units(n, starts, rows, values)?;
+    check_room(n, limit, result_starts, result_rows, result_values, scratch)?;
+    check_output(smaller(limit, pair_total(n)), work)
 }
 
 // 1, 2 and 3 of a factor alone; `values` is the number of values.
-pub fn check_whole_factor(n: usize, starts: &[u32], rows: &[u32], values: usize) -> Checked
+pub fn check_whole_factor(
+    n: usize,
+    starts: &[u32],
+    rows: &[u32],
+    values: usize,
+) -> Result<(), Refusal>
     ensures { reply_of result ≡ verdict (bound_steps n (length rows.now) ++ column_steps n starts.now rows.now values) }
 {
-    match check_bounds(n, rows.len()) {
-        Checked::Refused(why) => Checked::Refused(why),
-        Checked::Accepted => check_columns(n, starts, rows, values),
-    }
+    check_bounds(n, rows.len())?;
+    check_columns(n, starts, rows, values)
 }
 
 // Steps 1 to 5, 19, 6 and 7.
@@ -66,35 +68,25 @@ pub fn check_whole(
     result_values: usize,
     scratch: usize,
     work: usize,
-) -> Checked
+) -> Result<(), Refusal>
     ensures { reply_of result ≡ verdict (check_steps
         (whole_call n starts.now rows.now values.now dimension request_rows.now request_columns.now limit)
         (whole_room result_starts result_rows result_values scratch work)) }
 {
-    let bounds = first_of(
-        check_bounds(n, rows.len()),
-        check_request_bound(request_rows.len()),
-    );
-    match bounds {
-        Checked::Refused(why) => Checked::Refused(why),
-        Checked::Accepted => match check_columns(n, starts, rows, values.len()) {
-            Checked::Refused(why) => Checked::Refused(why),
-            Checked::Accepted => {
-                let requests = check_requests(n, dimension, request_rows, request_columns);
-                let lent = check_lent(
-                    n,
-                    starts,
-                    rows,
-                    values,
-                    limit,
-                    result_starts,
-                    result_rows,
-                    result_values,
-                    scratch,
-                    work,
-                );
-                first_of(requests, lent)
-            }
-        },
-    }
+    check_bounds(n, rows.len())?;
+    check_request_bound(request_rows.len())?;
+    check_columns(n, starts, rows, values.len())?;
+    check_requests(n, dimension, request_rows, request_columns)?;
+    check_lent(
+        n,
+        starts,
+        rows,
+        values,
+        limit,
+        result_starts,
+        result_rows,
+        result_values,
+        scratch,
+        work,
+    )
 }

@@ -5,10 +5,10 @@ ghost use Rattle.whole_selection.specs.Call.{whole_call, whole_lent, whole_room_
 ghost use Rattle.whole_selection.specs.Accepted.{WholeAccepted};
 ghost use Rattle.whole_entries.specs.Filling.{SetInput, SetDone, CompleteInput, CompleteDone, Uncleared};
 
-use closure::whole::diagnose_whole;
-use diagnostics::{Selected, SelectedInverseStatus};
+use closure::diagnose;
+use diagnostics::{SelectedInverseDiagnostics, SelectedInverseStatus};
 use factor_check::sizes::kept_beyond;
-use kept_entries::whole_factor_pairs;
+use kept_entries::factor_pairs;
 use layout::firsts::lay_firsts;
 use layout::lay_out;
 use pair_places::pair_total;
@@ -95,7 +95,7 @@ fn fill_requested(
     result_values: &mut [i64],
     scratch: &mut [u32],
     work: &mut [i64],
-) -> Selected
+) -> Result<SelectedInverseDiagnostics, Refusal>
     requires { WholeAccepted
         (whole_call n starts.now rows.now values.now dimension request_rows.now request_columns.now limit)
         (whole_room_of (whole_lent result_starts.old result_rows.old result_values.old scratch.old work.old)) }
@@ -105,9 +105,9 @@ fn fill_requested(
         (whole_lent result_starts.new result_rows.new result_values.new scratch.new work.new) }
 {
     let requested_pairs = mark_requests(n, request_rows, request_columns, scratch);
-    let kept_pairs = whole_factor_pairs(n, starts, rows, values);
+    let kept_pairs = factor_pairs(n, starts, rows, values);
     let mut stops = [0; MAX_DIMENSION];
-    let diagnosis = diagnose_whole(
+    let diagnosis = diagnose(
         n,
         starts,
         rows,
@@ -133,11 +133,11 @@ fn fill_requested(
                 scratch,
                 work,
             ) {
-                return Selected::Refused(Refusal::NumberTooLarge);
+                return Err(Refusal::NumberTooLarge);
             }
-            Selected::Answered(diagnosis)
+            Ok(diagnosis)
         }
-        SelectedInverseStatus::ClosureTooLarge => Selected::Answered(diagnosis),
+        SelectedInverseStatus::ClosureTooLarge => Ok(diagnosis),
     }
 }
 
@@ -156,7 +156,7 @@ pub fn fill_whole(
     result_values: &mut [i64],
     scratch: &mut [u32],
     work: &mut [i64],
-) -> Selected
+) -> Result<SelectedInverseDiagnostics, Refusal>
     requires { Passed (check_steps
         (whole_call n starts.now rows.now values.now dimension request_rows.now request_columns.now limit)
         (whole_room_of (whole_lent result_starts.old result_rows.old result_values.old scratch.old work.old))) }

@@ -8,9 +8,9 @@ ghost use Rattle.selection.specs.Selection.{default_limit};
 ghost use Rattle.whole_selection.specs.Call.{whole_call, whole_lent, WholeEntries};
 
 use checks::check_whole;
-use diagnostics::Selected;
+use diagnostics::SelectedInverseDiagnostics;
 use filling::fill_whole;
-use refusal::{Checked, MAX_ENTRIES, Refusal};
+use refusal::{MAX_ENTRIES, Refusal};
 use selected_checks::default_limit;
 
 // The entries at the closed set of the requests, if it has at most `limit` pairs.
@@ -28,13 +28,13 @@ pub fn selected_inverse_entries_whole_with_limit(
     result_values: &mut [i64],
     scratch: &mut [u32],
     work: &mut [i64],
-) -> Selected
+) -> Result<SelectedInverseDiagnostics, Refusal>
     ensures { WholeEntries
         (whole_call n starts.now rows.now values.now dimension request_rows.now request_columns.now limit)
         (whole_lent result_starts.old result_rows.old result_values.old scratch.old work.old) result
         (whole_lent result_starts.new result_rows.new result_values.new scratch.new work.new) }
 {
-    match check_whole(
+    check_whole(
         n,
         starts,
         rows,
@@ -48,24 +48,22 @@ pub fn selected_inverse_entries_whole_with_limit(
         result_values.len(),
         scratch.len(),
         work.len(),
-    ) {
-        Checked::Refused(why) => Selected::Refused(why),
-        Checked::Accepted => fill_whole(
-            n,
-            starts,
-            rows,
-            values,
-            dimension,
-            request_rows,
-            request_columns,
-            limit,
-            result_starts,
-            result_rows,
-            result_values,
-            scratch,
-            work,
-        ),
-    }
+    )?;
+    fill_whole(
+        n,
+        starts,
+        rows,
+        values,
+        dimension,
+        request_rows,
+        request_columns,
+        limit,
+        result_starts,
+        result_rows,
+        result_values,
+        scratch,
+        work,
+    )
 }
 
 // The same with the default limit: 10 times the stored entries, dropped ones counted. Above the bound on entries there is no limit to compute.
@@ -82,7 +80,7 @@ pub fn selected_inverse_entries_whole(
     result_values: &mut [i64],
     scratch: &mut [u32],
     work: &mut [i64],
-) -> Selected
+) -> Result<SelectedInverseDiagnostics, Refusal>
     ensures { WholeEntries
         (whole_call n starts.now rows.now values.now dimension request_rows.now request_columns.now
         (default_limit rows.now))
@@ -90,7 +88,7 @@ pub fn selected_inverse_entries_whole(
         (whole_lent result_starts.new result_rows.new result_values.new scratch.new work.new) }
 {
     if MAX_ENTRIES < rows.len() {
-        return Selected::Refused(Refusal::TooLarge);
+        return Err(Refusal::TooLarge);
     }
     selected_inverse_entries_whole_with_limit(
         n,

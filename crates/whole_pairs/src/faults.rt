@@ -8,9 +8,8 @@ ghost use Rattle.result.specs.Lookup.{WellFormed};
 ghost use Rattle.whole_pairs.specs.Entry.{pair_fault, cell_fault};
 ghost use Rattle.whole_pairs.specs.Worst.{worst_in};
 
-use column_search::pair_place::PairPlace;
 use column_search::within::pair_place_within;
-use refusal::{Checked, Refusal};
+use refusal::Refusal;
 use whole_steps::{size, whole_at};
 use words::at;
 use words::order::larger;
@@ -39,8 +38,8 @@ fn pair_fault(
     ensures { result ≡ pair_fault most starts.now rows.now values.now row col }
 {
     match pair_place_within(starts, rows, values.len(), row, col) {
-        PairPlace::At(p) => size_fault(values, p, most),
-        PairPlace::Refused(_) => 2,
+        Ok(p) => size_fault(values, p, most),
+        Err(_) => 2,
     }
 }
 
@@ -61,26 +60,24 @@ pub fn line_fault(
 {
     let row = at(cells, p);
     let mut worst = 0;
-    let mut q = s;
-    while q < e {
+    for q in s..e {
         worst = larger(
             worst,
             pair_fault(starts, rows, values, row, at(cells, q), most),
         );
-        q += 1;
     }
     worst
 }
 
 // Steps 8 and 20 of the worst fault.
-pub fn fault_verdict(worst: usize) -> Checked
+pub fn fault_verdict(worst: usize) -> Result<(), Refusal>
     ensures { reply_of result ≡ verdict ((8, leb 2 worst) ∷ (20, leb 1 worst) ∷ []) }
 {
     if 2 <= worst {
-        return Checked::Refused(Refusal::NotCovered);
+        return Err(Refusal::NotCovered);
     }
     if 1 <= worst {
-        return Checked::Refused(Refusal::NumberTooLarge);
+        return Err(Refusal::NumberTooLarge);
     }
-    Checked::Accepted
+    Ok(())
 }

@@ -7,7 +7,6 @@ ghost use Rattle.std.specs.Prelude.{◌≡◌, length};
 ghost use Rattle.result.specs.Lookup.{WellFormed};
 ghost use Rattle.whole_pairs.specs.Entry.{entry_or_zero};
 
-use column_search::pair_place::PairPlace;
 use column_search::within::pair_place_within;
 use whole_steps::whole_at;
 
@@ -17,7 +16,7 @@ pub fn entry_or_zero(starts: &[u32], rows: &[u32], values: &[i64], row: usize, c
     ensures { result ≡ entry_or_zero starts.now rows.now values.now row col }
 {
     match pair_place_within(starts, rows, values.len(), row, col) {
-        PairPlace::At(p) => whole_at(values, p),
-        PairPlace::Refused(_) => 0,
+        Ok(p) => whole_at(values, p),
+        Err(_) => 0,
     }
 }

@@ -1,15 +1,13 @@
 -- What the code's numbers say: a whole number, or 20 where there is none within 2 ^ 53.
 -- Assumes nothing.
-use Rattle.std.specs.Prelude.{cond, ℤ, ◌+ℤ◌}
+use Rattle.std.specs.Prelude.{cond, ℤ, ◌+ℤ◌, Option, Some, None}
 use Rattle.refusal.specs.Steps.{Reply, refused, answered}
 use Rattle.exact.specs.Multiple.{Small}
 use Rattle.exact.specs.Checked.{beyond}
-use Rattle.whole_route.specs.declared.sums.Number.{Number}
-use Rattle.whole_route.specs.declared.sums.Number.TheVariants.{Value, Beyond}
 
-abbrev pub number_reply : Number → Reply ℤ
-number_reply (Value z) = answered z
-number_reply Beyond = refused 20
+abbrev pub number_reply : Option ℤ → Reply ℤ
+number_reply (Some z) = answered z
+number_reply None = refused 20
 
 -- where it is a number, it is small
 abbrev pub SmallNumber : Reply ℤ → Type 0

@@ -26,10 +26,8 @@ fn clear_part(first: usize, last: usize, work: &mut [i64])
     requires { (first ≤ last) × (last ≤ length work.old) }
     ensures { PartCleared first last work.old work.new }
 {
-    let mut q = first;
-    while q < last {
+    for q in first..last {
         work[q] = 0;
-        q += 1;
     }
 }
 
@@ -44,6 +42,7 @@ fn add_at(place: usize, word: usize, l: i64, scratch: &[u32], work: &mut [i64])
 }
 
 // Adds to each sum from the row at `from` on the product of l and the entry whose position is in the word `base` past its row.
+#[inline(never)]
 fn add_rows(
     base: usize,
     first: usize,
@@ -57,10 +56,8 @@ fn add_rows(
     requires { AddWholeRowsInput base first from count l listed.now scratch.now work.old }
     ensures { RowsAdded base first from count l listed.now scratch.now work.old work.new }
 {
-    let mut q = from;
-    while q < count {
+    for q in from..count {
         add_at(first + q, base + at(listed, q), l, scratch, work);
-        q += 1;
     }
 }
 
@@ -124,12 +121,10 @@ fn add_lows(
         work.old work.new }
 {
     let mut q = 0;
-    let mut p = s;
-    while p < e {
+    for p in s..e {
         q = add_stored(
             n, j, first, count, p, q, listed, rows, values, scratch, work,
         );
-        p += 1;
     }
 }
 
@@ -153,7 +148,9 @@ fn add_high_term(
     total
 }
 
-// The sum of the products of the values from f to e and the entries whose positions are `base` words past the rows.
+// The sum of the products of the values from f to e and the entries whose positions are `base` words past the rows. Inlined, its
+// loop and that of add_rows would lack registers.
+#[inline(never)]
 fn high_sum(
     base: usize,
     f: usize,
@@ -167,10 +164,8 @@ fn high_sum(
     ensures { result ≡ sum_from (word_term base rows.now values.now scratch.now work.now) f e }
 {
     let mut total = 0;
-    let mut p = f;
-    while p < e {
+    for p in f..e {
         total = add_high_term(base, p, total, rows, values, scratch, work);
-        p += 1;
     }
     total
 }
@@ -225,12 +220,10 @@ fn add_highs(
         work.old work.new }
 {
     let mut f = s;
-    let mut q = 0;
-    while q < count {
+    for q in 0..count {
         f = add_high(
             n, j, first, count, s, e, q, f, listed, rows, values, scratch, work,
         );
-        q += 1;
     }
 }
 
@@ -267,10 +260,8 @@ pub fn greatest_size(s: usize, e: usize, start: usize, wholes: &[i64]) -> usize
     ensures { SizesWithin s e start result wholes.now }
 {
     let mut most = start;
-    let mut p = s;
-    while p < e {
+    for p in s..e {
         most = larger(most, size(whole_at(wholes, p)));
-        p += 1;
     }
     most
 }

@@ -17,7 +17,7 @@ ghost use Rattle.whole_route.specs.Route.{last_step, StoreInput, EntryStored, En
 use column_sums::{greatest_size, sum_column};
 use layout::firsts::list_column;
 use pair_places::positions::column_shift;
-use sums::{Number, entry_sum};
+use sums::entry_sum;
 use whole_steps::{is_beyond, minus, whole_at};
 use words::at;
 
@@ -64,8 +64,8 @@ fn whole_entry(
 {
     let sum = entry_sum(n, i, j, s, e, rows, values, scratch, work);
     match sum {
-        Number::Beyond => true,
-        Number::Value(x) => store_entry(i, j, q, x, work),
+        None => true,
+        Some(x) => store_entry(i, j, q, x, work),
     }
 }
 
@@ -139,9 +139,7 @@ fn whole_rows(
     requires whole_sums_stored { WholeSumsStored (column_sums n j first count s e listed.now rows.now values.now scratch.now) summed work.old }
     ensures { RowsDone n j first starts.now rows.now values.now scratch.now work.old work.new result }
 {
-    let mut q = count;
-    while 0 < q {
-        q -= 1;
+    for q in (0..count).rev() {
         if next_entry(
             n,
             at(listed, q),
@@ -235,9 +233,7 @@ pub fn whole_selected_inverse(
 {
     let mut next = count;
     let mut most = 0;
-    let mut j = n;
-    while 0 < j {
-        j -= 1;
+    for j in (0..n).rev() {
         let first = at(firsts, j);
         if filled_column(
             n, j, first, next, most, listed, starts, rows, values, scratch, work,

@@ -1,5 +1,5 @@
-// A sum of the recurrence over a column's stored entries in whole numbers, each product and each running sum held to 2^53: those kept below the diagonal
-// count, ascending, each with an entry of the inverse read by position.
+// A sum of the recurrence over a column's stored entries in whole numbers, each product and each running sum held to 2^53, none once one is beyond: those
+// kept below the diagonal count, ascending, each with an entry of the inverse read by position.
 ghost use Rattle.std.specs.Prelude.{◌≡◌, ◌+◌, ◌<◌};
 ghost use Rattle.pairs.specs.Scratch.{queue_start};
 ghost use Rattle.pairs.specs.ColumnOrder.{col_start};
@@ -13,39 +13,28 @@ use pair_places::scratch::queue_start;
 use whole_steps::{is_beyond, is_nonzero, product, product_beyond, size, sum, whole_at};
 use words::at;
 
-// A whole number of at most 2^53 in size, or that there is none; `number_reply` of specs/Number.antt gives document 02's number for the latter.
-#[derive(Clone, Copy)]
-pub enum Number {
-    Value(i64),
-    Beyond,
-}
-
-// The sum s with the product x, which is within 2^53.
-fn add_within(s: i64, x: i64) -> Number
+// The sum s with the product x, which is within 2^53; none if the sum is not.
+fn add_within(s: i64, x: i64) -> Option<i64>
     requires { Small s × Small x }
     ensures { number_reply result ≡ sum_reply s x }
 {
     let total = sum(s, x);
     if is_beyond(total) {
-        return Number::Beyond;
+        return None;
     }
-    Number::Value(total)
+    Some(total)
 }
 
 // The sum with the product of l and z.
-fn add_product(sum: Number, l: i64, z: i64) -> Number
+fn add_product(sum: Option<i64>, l: i64, z: i64) -> Option<i64>
     requires { SmallNumber (number_reply sum) × Small l × Small z }
     ensures { number_reply result ≡ plus_product (number_reply sum) l z }
 {
-    match sum {
-        Number::Beyond => Number::Beyond,
-        Number::Value(s) => {
-            if product_beyond(size(l), size(z)) {
-                return Number::Beyond;
-            }
-            add_within(s, product(l, z))
-        }
+    let s = sum?;
+    if product_beyond(size(l), size(z)) {
+        return None;
     }
+    add_within(s, product(l, z))
 }
 
 // The sum with the product of the stored entry at p, where it is kept below the diagonal of column j; other entries are passed over.
@@ -56,12 +45,12 @@ fn add_entry(
     i: usize,
     j: usize,
     p: usize,
-    sum: Number,
+    sum: Option<i64>,
     rows: &[u32],
     values: &[i64],
     scratch: &[u32],
     inverse: &[i64],
-) -> Number
+) -> Option<i64>
     requires positions_value { (positions ≡ queue_start n) × (base + i ≡ queue_start n + col_start n i) × SmallNumber (number_reply sum) }
     requires term_input { TermInput n i j p rows.now values.now scratch.now inverse.now }
     ensures { number_reply result ≡ with_entry rows.now values.now j (whole_inverse_at n scratch.now inverse.now i) p (number_reply sum) }
@@ -88,19 +77,17 @@ pub fn entry_sum(
     values: &[i64],
     scratch: &[u32],
     inverse: &[i64],
-) -> Number
+) -> Option<i64>
     requires { WholeSumInput n i j s e rows.now values.now scratch.now inverse.now }
     ensures { number_reply result ≡ whole_sum rows.now values.now j (whole_inverse_at n scratch.now inverse.now i) s e }
 {
     let positions = queue_start(n);
     let base = positions + column_shift(n, i);
-    let mut sum = Number::Value(0);
-    let mut p = s;
-    while p < e {
+    let mut sum = Some(0);
+    for p in s..e {
         sum = add_entry(
             n, positions, base, i, j, p, sum, rows, values, scratch, inverse,
         );
-        p += 1;
     }
     sum
 }

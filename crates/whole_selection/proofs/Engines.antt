@@ -1,5 +1,5 @@
 -- Laws of specs/Engines.antt.
-use Rattle.std.specs.Prelude.{ℕ, suc, ◌+◌, ◌*◌, ◌≤◌, ◌<◌, max, min, ◌≡◌, refl, Bool, not, ◌↔◌, List, eqb, leb, length, take, ℤ, pos, negsuc, nat_abs, ◌*ℤ◌, Float}
+use Rattle.std.specs.Prelude.{ℕ, suc, ◌+◌, ◌*◌, ◌≤◌, ◌<◌, max, min, ◌≡◌, refl, Bool, not, ◌↔◌, List, eqb, leb, length, take, ℤ, pos, negsuc, nat_abs, ◌*ℤ◌, Float, Result}
 use Rattle.std.proofs.Common.{arith, sym, ap, subst, subst₂, ◌∙◌, true≢false, lit≤, eqb-true, le-leb}
 use Rattle.std.proofs.Math.Decide.{dec_lt}
 use Rattle.std.proofs.Math.Bool.{true, false}
@@ -23,10 +23,8 @@ use Rattle.closed_set.proofs.ClosedSet.{member_needed, needed_range}
 use Rattle.exact.specs.Multiple.{Whole, Small}
 use Rattle.exact.proofs.Rounding.{round_multiple}
 use Rattle.entries.proofs.Position.{entry_starts_cong, entry_rows_cong}
-use Rattle.diagnostics.specs.declared.Selected.{Selected}
 use Rattle.diagnostics.specs.declared.SelectedInverseDiagnostics.{SelectedInverseDiagnostics}
 use Rattle.diagnostics.specs.declared.SelectedInverseStatus.TheVariants.{Complete}
-use Rattle.diagnostics.specs.Selected.{selected_reply_of}
 use Rattle.selection.specs.Selection.{Selection, Lent, room_of, room_steps, Accepted, selected_answer, selected_pattern, selected_set, selected_size, filling_of, ResultLists}
 use Rattle.selection.proofs.Selection.{passed_starts, passed_rows}
 use Rattle.selection.proofs.SamePositions.{front_starts, front_rows}
@@ -44,10 +42,12 @@ use Rattle.whole_selection.proofs.ReadBack.{whole_complete_lem, whole_pattern_le
 use Rattle.whole_selection.specs.Agree.{SameNumbers, float_call, SameFound}
 use Rattle.whole_selection.proofs.Agree.{same_entries, same_diagonal, same_diagnosis, same_set, float_passed}
 use Rattle.whole_selection.specs.Engines.{converted, Agrees}
+use Rattle.refusal.specs.declared.Refusal.{Refusal}
+use Rattle.refusal.specs.Refusal.{reply_of}
 
 -- ---- a call in whole numbers that completes
-module _ (x : WholeCall) (lent : WholeLent) {reply : Selected} {left : WholeLent} (C : WholeEntries x lent reply left) {d : SelectedInverseDiagnostics}
-    (answer : selected_reply_of reply ≡ answered d) (complete : d.status ≡ Complete) where
+module _ (x : WholeCall) (lent : WholeLent) {reply : Result SelectedInverseDiagnostics Refusal} {left : WholeLent} (C : WholeEntries x lent reply left) {d : SelectedInverseDiagnostics}
+    (answer : reply_of reply ≡ answered d) (complete : d.status ≡ Complete) where
   passed : Passed (whole_steps x (whole_room_of lent))
   passed = whole_passed x lent C answer
 

@@ -1,5 +1,5 @@
 -- Laws of specs/ReadBack.antt.
-use Rattle.std.specs.Prelude.{ℕ, suc, ◌≤◌, ◌<◌, max, min, ◌≡◌, Bool, cond, ◌&&◌, ◌↔◌, ℤ, pos}
+use Rattle.std.specs.Prelude.{ℕ, suc, ◌≤◌, ◌<◌, max, min, ◌≡◌, Bool, cond, ◌&&◌, ◌↔◌, ℤ, pos, Result}
 use Rattle.std.proofs.Common.{arith, sym, ap, ◌∙◌, le-leb, leb-true}
 use Rattle.std.proofs.Math.Path.{refl}
 use Rattle.std.proofs.Math.Bool.{true, false, false≢true}
@@ -24,9 +24,7 @@ use Rattle.exact.proofs.ExactCase.{unit_has_inverse, unit_inverse, unit_ordered}
 use Rattle.entries.specs.WholeTable.{whole_table, exceeds}
 use Rattle.entries.proofs.WholeTable.{whole_desc-ascend, whole_within}
 use Rattle.diagnostics.specs.declared.SelectedInverseDiagnostics.{SelectedInverseDiagnostics}
-use Rattle.diagnostics.specs.declared.Selected.{Selected}
 use Rattle.diagnostics.specs.declared.SelectedInverseStatus.TheVariants.{Complete}
-use Rattle.diagnostics.specs.Selected.{selected_reply_of}
 use Rattle.selection.specs.Selection.{LentOf}
 use Rattle.selection.proofs.Status.{diagnosis_complete}
 use Rattle.exact_entries.proofs.Columns.{places_descend, needed_closed}
@@ -37,6 +35,8 @@ use Rattle.whole_selection.specs.Call.{check_steps, exceed_steps, whole_steps, W
 use Rattle.whole_selection.specs.Accepted.{WholeAccepted}
 use Rattle.whole_selection.proofs.Accepted.{whole_accepted}
 use Rattle.whole_selection.specs.ReadBack.{InWholeSet, whole_found, whole_entries, whole_matrix, Within53, ReadsWhole}
+use Rattle.refusal.specs.declared.Refusal.{Refusal}
+use Rattle.refusal.specs.Refusal.{reply_of}
 
 module _ (x : WholeCall) where
   pub whole_complete_lem : ((whole_answer x).status ≡ Complete) ↔ (whole_size x ≤ x.limit)
@@ -81,7 +81,7 @@ refuses (answered a) = false
 refuses (refused k) = true
 
 -- ---- a call that answers
-module _ (x : WholeCall) (lent : WholeLent) {reply : Selected} {left : WholeLent} (C : WholeEntries x lent reply left) where
+module _ (x : WholeCall) (lent : WholeLent) {reply : Result SelectedInverseDiagnostics Refusal} {left : WholeLent} (C : WholeEntries x lent reply left) where
   abbrev checks : List Step
   checks = check_steps x (whole_room_of lent)
 
@@ -133,7 +133,7 @@ module _ (x : WholeCall) (lent : WholeLent) {reply : Selected} {left : WholeLent
         go false t q = absurd (false≢true t)
 
   -- ---- demand 3, of the reply: d is the diagnosis, and X is what reads back
-  module _ {d : SelectedInverseDiagnostics} (answer : selected_reply_of reply ≡ answered d) where
+  module _ {d : SelectedInverseDiagnostics} (answer : reply_of reply ≡ answered d) where
     pub whole_passed : Passed steps
     whole_passed = told_passed steps (whole_answer x) (sym answer ∙ C.replies)
 
@@ -145,7 +145,7 @@ module _ (x : WholeCall) (lent : WholeLent) {reply : Selected} {left : WholeLent
     A : WholeAccepted x (whole_room_of lent)
     A = whole_accepted x (whole_room_of lent) checked
 
-    pub twenty_told : (whole_size x ≤ x.limit) → (Within53 x → ⊥) → selected_reply_of reply ≡ refused 20
+    pub twenty_told : (whole_size x ≤ x.limit) → (Within53 x → ⊥) → reply_of reply ≡ refused 20
     unfolding exceed_steps
     twenty_told h over53 = C.replies ∙ append_passed checks (exceed_steps x) (whole_answer x) checked ∙ first_hit 20 [] (whole_answer x) (and_both _ _ (le-leb _ _ h) over)
       where
@@ -156,7 +156,7 @@ module _ (x : WholeCall) (lent : WholeLent) {reply : Selected} {left : WholeLent
             by true e = refl
             by false e = absurd (over53 ((call_within x (whole_room_of lent) A).0 e))
 
-    pub told_twenty : selected_reply_of reply ≡ refused 20 → (whole_size x ≤ x.limit) × (Within53 x → ⊥)
+    pub told_twenty : reply_of reply ≡ refused 20 → (whole_size x ≤ x.limit) × (Within53 x → ⊥)
     unfolding exceed_steps
     told_twenty e = (leb-true _ _ (and_left (whole_complete x) _ over), (λ w. false≢true (sym ((call_within x (whole_room_of lent) A).1 w) ∙ and_right (whole_complete x) _ over)))
       where

@@ -1,5 +1,5 @@
 -- Laws of specs/Worked.antt.
-use Rattle.std.specs.Prelude.{◌+◌, ◌≤◌, ◌^◌, ◌≡◌, refl, true, false, List, [], ◌∷◌, pos, negsuc, Float}
+use Rattle.std.specs.Prelude.{◌+◌, ◌≤◌, ◌^◌, ◌≡◌, refl, true, false, List, [], ◌∷◌, pos, negsuc, Float, Ok, Err}
 use Rattle.std.specs.Float.{fin}
 use Rattle.std.specs.Float.Ieee.{of_bits, of_int, ne, le, add, sub, mul, div, neg}
 use Rattle.lists.specs.Test.{any, any_in}
@@ -28,8 +28,7 @@ use Rattle.exact.specs.Exceeds.{set_exceeds}
 use Rattle.entries.specs.Entries.{float_table}
 use Rattle.entries.specs.WholeTable.{whole_table}
 use Rattle.result.specs.Lookup.{column_faults, search_steps, entry_steps, entry_of}
-use Rattle.diagnostics.specs.Selected.{selected_reply_of}
-use Rattle.diagnostics.specs.declared.Selected.TheVariants.{Answered, Refused}
+use Rattle.diagnostics.specs.declared.SelectedInverseDiagnostics.{SelectedInverseDiagnostics}
 use Rattle.diagnostics.specs.declared.SelectedInverseStatus.TheVariants.{Complete}
 use Rattle.diagnostics.specs.Diagnosis.{diagnosis}
 use Rattle.selection.specs.RequestSteps.{request_steps}
@@ -43,8 +42,9 @@ use Rattle.whole_selection.specs.Agree.{float_call}
 use Rattle.whole_selection.specs.Engines.{Agrees, converted}
 use Rattle.whole_selection.proofs.Engines.{engines_complete}
 use Rattle.whole_selection.specs.Worked.{f2_whole, words, before, left}
+use Rattle.refusal.specs.Refusal.{reply_of}
 
-pub f2_whole_entries : WholeEntries f2_whole before (Answered (whole_answer f2_whole)) left
+pub f2_whole_entries : WholeEntries f2_whole before (Ok (whole_answer f2_whole)) left
 unfolding any any_in sum_to picked select cells cell_count tabulate overwrite filled factor_pairs reach member requested diagnosis_of
     first after pair_total bit_words scratch_words bound_steps broken_steps starts_steps rows_steps column_steps request_steps unit_steps missing_steps room_steps work_steps
     check_steps exceed_steps set_exceeds whole_table
@@ -106,7 +106,7 @@ large = whole_call 2 f2_starts f2_rows (pos 1 ∷ pos (2 ^ 53 + 1) ∷ pos 1 ∷
 abbrev large_left : WholeLent
 large_left = record { lists = record { result_starts = before.lists.result_starts; result_rows = before.lists.result_rows; result_values = before.lists.result_values; scratch = words 0 }; work = left.work }
 
-large_entries : WholeEntries large before (Refused NumberTooLarge) large_left
+large_entries : WholeEntries large before (Err NumberTooLarge) large_left
 unfolding any any_in sum_to picked select cells cell_count tabulate overwrite filled factor_pairs reach member requested diagnosis_of
     first after pair_total bit_words scratch_words bound_steps broken_steps starts_steps rows_steps column_steps request_steps unit_steps missing_steps room_steps work_steps
     check_steps exceed_steps set_exceeds whole_table
@@ -125,5 +125,5 @@ large-told : (whole_size large ≤ 3) × (Within53 large → ⊥)
 large-told = told_twenty large before large_entries large-checked refl
 
 -- ---- `twenty_told`: the other way
-large-refused : selected_reply_of (Refused NumberTooLarge) ≡ refused 20
+large-refused : reply_of {A = SelectedInverseDiagnostics} (Err NumberTooLarge) ≡ refused 20
 large-refused = twenty_told large before large_entries large-checked large-told.0 large-told.1

@@ -1,6 +1,6 @@
 -- Selected entries in whole numbers: what a call is handed, what it refuses in document 02's order, what it answers, and what the lists hold afterwards.
 -- Assumes nothing.
-use Rattle.std.specs.Prelude.{ℕ, min, ◌≡◌, Bool, ◌&&◌, List, [], ◌∷◌, ◌++◌, ltb, leb, length, ℤ, pos}
+use Rattle.std.specs.Prelude.{ℕ, min, ◌≡◌, Bool, ◌&&◌, List, [], ◌∷◌, ◌++◌, ltb, leb, length, ℤ, pos, Result}
 use Rattle.lists.specs.Overwrite.{filled}
 use Rattle.refusal.specs.Steps.{Step, first, after}
 use Rattle.refusal.specs.Groups.{grouped}
@@ -13,12 +13,12 @@ use Rattle.closed_set.specs.ClosedSet.{member}
 use Rattle.closed_set.specs.Size.{closure_size}
 use Rattle.closed_set.specs.Requests.{requested}
 use Rattle.diagnostics.specs.declared.SelectedInverseDiagnostics.{SelectedInverseDiagnostics}
-use Rattle.diagnostics.specs.declared.Selected.{Selected}
-use Rattle.diagnostics.specs.Selected.{selected_reply_of}
 use Rattle.entries.specs.WholeTable.{whole_table, exceeds}
 use Rattle.selection.specs.RequestSteps.{request_bound_steps, request_steps}
 use Rattle.selection.specs.Diagnosis.{diagnosis_of}
 use Rattle.selection.specs.Selection.{LentOf, lists, Room, room, room_of, room_steps, Filling, ListsAfter}
+use Rattle.refusal.specs.declared.Refusal.{Refusal}
+use Rattle.refusal.specs.Refusal.{reply_of}
 
 -- what a call is handed to read: a factor of whole numbers, two lists of requests with their dimension, and a limit
 pub record WholeCall : Type 0 where
@@ -134,7 +134,7 @@ cleared_work x lent = filled (λ _. pos 0) (work_places x.factor.n x.limit) lent
 
 -- the reply and the lists of a call. Every refusal leaves the result lists as they were; 1 to 7 and 19 leave scratch and work list too, which end 0 in their
 -- lengths after either status and after 20
-pub record WholeEntries (x : WholeCall) (lent : WholeLent) (reply : Selected) (left : WholeLent) : Type 0 where
-  pub replies : selected_reply_of reply ≡ first (whole_steps x (whole_room_of lent)) (whole_answer x)
+pub record WholeEntries (x : WholeCall) (lent : WholeLent) (reply : Result SelectedInverseDiagnostics Refusal) (left : WholeLent) : Type 0 where
+  pub replies : reply_of reply ≡ first (whole_steps x (whole_room_of lent)) (whole_answer x)
   pub lists_are : ListsAfter (whole_steps x (whole_room_of lent)) (check_steps x (whole_room_of lent)) (whole_filling x) lent.lists left.lists
   pub work_is : left.work ≡ after (check_steps x (whole_room_of lent)) (cleared_work x lent) lent.work

@@ -13,12 +13,10 @@ pub fn beyond_between(wholes: &[i64], s: usize, e: usize) -> bool
     ensures { result ≡ any_in (λ p. beyond (whole_value wholes.now p)) s e }
 {
     let mut found = false;
-    let mut p = s;
-    while p < e {
+    for p in s..e {
         if is_beyond(whole_at(wholes, p)) {
             found = true;
         }
-        p += 1;
     }
     found
 }
@@ -28,11 +26,7 @@ pub fn clear_wholes(wholes: &mut [i64], m: usize)
     requires { m ≤ length wholes.old }
     ensures { wholes.new ≡ filled (λ _. pos 0) m wholes.old }
 {
-    let mut i = 0;
-    while i < m {
-        wholes[i] = 0;
-        i += 1;
-    }
+    wholes[..m].fill(0);
 }
 
 // Copies the first m numbers.
@@ -40,10 +34,5 @@ pub fn copy_wholes(from: &[i64], to: &mut [i64], m: usize)
     requires { (m ≤ length from.now) × (m ≤ length to.old) }
     ensures { to.new ≡ filled (whole_value from.now) m to.old }
 {
-    let mut i = 0;
-    while i < m {
-        let z = whole_at(from, i);
-        to[i] = z;
-        i += 1;
-    }
+    to[..m].copy_from_slice(&from[..m]);
 }

@@ -27,9 +27,5 @@ pub fn clear(words: &mut [u32], m: usize)
     requires { m ≤ length words.old }
     ensures { words.new ≡ cleared m words.old }
 {
-    let mut i = 0;
-    while i < m {
-        words[i] = 0;
-        i += 1;
-    }
+    words[..m].fill(0);
 }

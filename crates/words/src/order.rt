@@ -11,12 +11,10 @@ pub fn descents(rows: &[u32], s: usize, e: u32) -> usize
 {
     let end = e as usize;
     let mut count: u32 = 0;
-    let mut p = s + 1;
-    while p < end {
+    for p in s + 1..end {
         if rows[p] <= rows[p - 1] {
             count += 1;
         }
-        p += 1;
     }
     count as usize
 }

@@ -6,6 +6,3 @@ use Rattle.case_text.proofs.number_in_base.Given as goal
 
 abbrev pub invariant-loop-i : goal.invariant-loop-i
 invariant-loop-i l = number_at l.base l.text l.p ≡ number_from l.base l.text l.value l.i (length l.text - l.i)
-
-abbrev pub decreases-loop-i : goal.decreases-loop-i
-decreases-loop-i l = length l.text - l.i

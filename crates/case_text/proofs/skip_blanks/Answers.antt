@@ -1,5 +1,4 @@
-use Prim.Native.Nat.{◌-◌}
-use Rattle.case_text.proofs.TextLaws.{past_run_end, past_run_stop, past_run_more}
+use Rattle.case_text.proofs.TextLaws.{past_run_all, past_run_stop, past_run_more}
 use borrow.Author.Rules.{rules}
 use borrow.Author.Tests.{le-leb, lt-leb}
 use mathlib.Core.Path.{refl, sym, ◌∙◌}
@@ -15,4 +14,4 @@ pub loop-i-preserved : goal.loop-i-preserved
 loop-i-preserved c = c.loop-i.invariant ∙ past_run_more _ _ _ (search rules) (le-leb _ _ c.if-text-i-gt32.false)
 
 pub returns : goal.returns
-returns c = sym (c.loop-i.invariant ∙ past_run_end _ _ _ (search rules))
+returns c = past_run_all _ _ _ _ _ c.loop-i-test.false c.loop-i.auto.i-end (search rules) c.loop-i.invariant

@@ -1,5 +1,4 @@
-use Prim.Native.Nat.{◌-◌}
-use Rattle.case_text.proofs.TextLaws.{begins_within, first_end, first_found, first_more}
+use Rattle.case_text.proofs.TextLaws.{begins_within, first_all, first_found, first_more}
 use borrow.Author.Rules.{rules}
 use mathlib.Core.Path.{refl, sym, ◌∙◌}
 use Rattle.case_text.proofs.skip_to.Goals as goal
@@ -18,4 +17,4 @@ pub loop-i-preserved : goal.loop-i-preserved
 loop-i-preserved c = c.loop-i.invariant ∙ first_more _ _ _ _ (search rules) (sym c.begins.ensures ∙ c.if-begins.false)
 
 pub returns : goal.returns
-returns c = sym (c.loop-i.invariant ∙ first_end _ _ _ _ (search rules))
+returns c = first_all _ _ _ _ _ _ c.loop-i-test.false c.loop-i.auto.i-end (search rules) c.loop-i.invariant

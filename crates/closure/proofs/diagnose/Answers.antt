@@ -1,23 +1,22 @@
-use Rattle.kept_entries.specs.KeptBy.{kept_at}
 use Rattle.closure.specs.Closure.{marked_set, marked_requested}
 use Rattle.closure.proofs.Diagnosis.{count_small, counts_diagnosis}
 use Rattle.closure.proofs.diagnose.Goals as goal
 
 pub takahashi_dependency_closure-count-requires : goal.takahashi_dependency_closure-count-requires
-takahashi_dependency_closure-count-requires c = record { closure_input = c.requires.closure_input; values_lent = c.requires.values_lent }
+takahashi_dependency_closure-count-requires g c = record { closure_input = c.requires.closure_input; values_lent = c.requires.values_lent }
 
 pub selected_inverse_diagnostics-requires : goal.selected_inverse_diagnostics-requires
-selected_inverse_diagnostics-requires c = let a = c.args in
+selected_inverse_diagnostics-requires g c = let a = c.args in
     let S = marked_set a.n a.scratch.now in
     let R = marked_requested a.n a.scratch.now in
-    (count_small (kept_at a.floats.now a.wholes.now) a.limit c.requires.closure_input S R a.kept_pairs (c.takahashi_dependency_closure-count.ensures.counts S R), c.requires.kept_pairs_le_max_count)
+    (count_small (g.T.StoredValue.kept a.values.now) a.limit c.requires.closure_input S R a.kept_pairs (c.takahashi_dependency_closure-count.ensures.counts S R), c.requires.kept_pairs_le_max_count)
 
 pub returns : goal.returns
-returns c = let e = c.takahashi_dependency_closure-count.ensures in
+returns g c = let e = c.takahashi_dependency_closure-count.ensures in
     let a = c.args in
     record {
       answers = λ req R.
-          counts_diagnosis (kept_at a.floats.now a.wholes.now) a.limit c.requires.closure_input req R a.kept_pairs (e.counts req R)
+          counts_diagnosis (g.T.StoredValue.kept a.values.now) a.limit c.requires.closure_input req R a.kept_pairs (e.counts req R)
           c.status_within.ensures c.selected_inverse_diagnostics.ensures;
       leaves = e.leaves;
     }

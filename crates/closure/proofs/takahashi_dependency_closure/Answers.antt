@@ -1,5 +1,4 @@
 use Rattle.closure.proofs.Answer.{closes, requests_past, queue_closed}
-use Rattle.kept_entries.specs.KeptBy.{kept_at}
 use Rattle.closure.specs.Covered.{stops_none}
 use native.Mathlib.Omega.{arith}
 use Prim.Native.Nat.{ℕ}
@@ -8,10 +7,10 @@ use Rattle.refusal.specs.Bounds.{max_dimension}
 use Rattle.closure.proofs.takahashi_dependency_closure.Goals as goal
 
 pub returns-then-limit-requested_pairs : goal.returns-then-limit-requested_pairs
-returns-then-limit-requested_pairs c = closes (λ req R. requests_past (kept_at c.args.floats.now c.args.wholes.now) c.args.limit c.requires.closure_input req R c.if-limit-requested_pairs.true)
+returns-then-limit-requested_pairs g c = closes (λ req R. requests_past (g.T.StoredValue.kept c.args.values.now) c.args.limit c.requires.closure_input req R c.if-limit-requested_pairs.true)
 
 pub close_queue-requires : goal.close_queue-requires
-close_queue-requires c = let long = length-replicate {A = ℕ} max_dimension 0 in record {
+close_queue-requires g c = let long = length-replicate {A = ℕ} max_dimension 0 in record {
   queue_input = record {
     small = c.requires.closure_input.small;
     factor = c.requires.closure_input.factor;
@@ -26,4 +25,4 @@ close_queue-requires c = let long = length-replicate {A = ℕ} max_dimension 0 i
 }
 
 pub returns : goal.returns
-returns c = closes (λ req R. queue_closed (kept_at c.args.floats.now c.args.wholes.now) c.args.limit c.requires.closure_input req R c.close_queue.ensures)
+returns g c = closes (λ req R. queue_closed (g.T.StoredValue.kept c.args.values.now) c.args.limit c.requires.closure_input req R c.close_queue.ensures)

@@ -1,6 +1,7 @@
 use mathlib.Core.Path.{◌≡◌, refl, ◌∙◌}
 use Rattle.columns.specs.Form.{form_of, divisor}
 use Rattle.exact.specs.PivotCase.{step_below, step_on}
+use Rattle.last_steps.specs.DivisorParts.{is_pivot}
 use Rattle.entries.proofs.Descendants.{told_solves}
 use Rattle.closure_route.specs.Route.{RouteLists, route_lists}
 use Rattle.closure_route.proofs.LastStepLaws.{Ends, ends_read, sums_at, part_at, diagonal_at, solved_empty, solved_at}
@@ -85,7 +86,8 @@ store_diagonal-requires c = let p = c.requires.column_input in
 pub returns : goal.returns
 returns c = let p = c.requires.column_input in
     let a = c.args in
-    solved_at p.route p.inside (ends-After-slice_known-4-1 c) (step_below a.with_pivots) (step_on a.with_pivots)
-    (divisor a.n a.starts.now a.rows.now a.values.now (form_of a.with_pivots a.pivots.now))
-    (told_solves a.with_pivots a.values.now a.pivots.now p.route.factor) (some-After-slice_known-4-1 c) c.column_divisor-d.ensures refl p.later
+    let d = c.column_divisor-divisor in
+    solved_at p.route p.inside (ends-After-slice_known-4-1 c) (step_below (is_pivot d.result)) (step_on (is_pivot d.result))
+    (divisor a.n a.starts.now a.rows.now a.values.now (form_of a.pivots))
+    (told_solves a.pivots d.ensures.kind a.values.now p.route.factor) (some-After-slice_known-4-1 c) d.ensures.value refl p.later
     c.store_sums.ensures c.finish_part.ensures c.store_diagonal.ensures

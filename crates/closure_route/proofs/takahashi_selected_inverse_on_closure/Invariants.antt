@@ -1,6 +1,3 @@
-use Prim.Native.Nat.{◌≤◌, ◌-◌}
-use mathlib.Core.Path.{◌≡◌}
-use lib.ListN.{length}
 use Rattle.pairs.specs.ColumnOrder.{column_marking}
 use Rattle.columns.specs.Form.{form_of}
 use Rattle.entries.specs.Entries.{form_table}
@@ -8,9 +5,4 @@ use Rattle.closure_route.specs.Route.{ColumnsSolved}
 use Rattle.closure_route.proofs.takahashi_selected_inverse_on_closure.Given as goal
 
 abbrev pub invariant-loop-j : goal.invariant-loop-j
-invariant-loop-j l = (length l.result_values ≡ length l.initial.result_values)
-    × (l.j ≤ l.n)
-    × ColumnsSolved l.n (column_marking l.n l.scratch) (form_table (form_of l.with_pivots l.pivots) l.n l.starts l.rows l.values) l.j l.initial.result_values l.result_values
-
-abbrev pub decreases-loop-j : goal.decreases-loop-j
-decreases-loop-j l = l.j
+invariant-loop-j l = ColumnsSolved l.n (column_marking l.n l.scratch) (form_table (form_of l.pivots) l.n l.starts l.rows l.values) l.j l.initial.result_values l.result_values

@@ -1,76 +1,54 @@
-use mathlib.Core.Path.{ap, sym, ◌∙◌}
 use lib.ListN.{length}
-use mathlib.Core.List.{◌++◌}
-use Rattle.refusal.proofs.Steps.{append-refused, append_passed, passed_front}
-use Rattle.refusal.proofs.FirstOf.{verdicts}
-use Rattle.refusal.specs.Refusal.{reply_of}
-use Rattle.columns.specs.Columns.{bound_steps, factor_lists}
 use Rattle.columns.proofs.Factor.{bound_steps-sound}
-use Rattle.columns.specs.Stored.{stored_steps}
 use Rattle.columns.proofs.Stored.{stored_steps-sound}
-use Rattle.columns.specs.Diagonal.{diagonal_steps}
-use Rattle.selection.specs.RequestSteps.{request_bound_steps, request_steps}
-use Rattle.dependency_chain.specs.Chain.{seek_steps, asked_steps}
+use Rattle.dependency_chain.specs.Chain.{asked_steps}
+use Rattle.std.proofs.Common.{sym, ◌∙◌}
+use Rattle.refusal.proofs.Returned.{returned}
+use Rattle.refusal.proofs.Steps.{append-refused, append_passed}
 use Rattle.dependency_chain.proofs.check_asked.Goals as goal
 
-pub check_diagonals-diagonals-requires : goal.check_diagonals-diagonals-requires
-check_diagonals-diagonals-requires c =
-    let entered = sym c.check_stored.ensures ∙ ap reply_of c.in-Accepted-check_stored.is in
-    stored_steps-sound _ entered
+pub check_diagonals-requires : goal.check_diagonals-requires
+check_diagonals-requires c = stored_steps-sound _ (sym c.in_ok-check_stored.ensures)
 
-pub check_seek-seek-requires : goal.check_seek-seek-requires
-check_seek-seek-requires c =
-    let bounds-told =
-    verdicts (bound_steps c.args.n (length c.args.rows.now)) (request_bound_steps (length c.args.request_rows.now))
-    c.first_of-bounds.ensures c.check_bounds.ensures c.check_request_bound.ensures in
-    let within = sym bounds-told ∙ ap reply_of c.in-Accepted.is in
-    let a = c.args in
-    (bound_steps-sound a.n (length a.rows.now) (passed_front _ (request_bound_steps (length a.request_rows.now)) within)).small
+pub check_seek-requires : goal.check_seek-requires
+check_seek-requires c = (bound_steps-sound c.args.n (length c.args.rows.now) (sym c.in_ok-check_bounds.ensures)).small
 
-pub returns-in-Refused : goal.returns-in-Refused
+pub returns-in_err-check_bounds : goal.returns-in_err-check_bounds
 unfolding asked_steps
-returns-in-Refused c =
-    let bounds = bound_steps c.args.n (length c.args.rows.now) ++ request_bound_steps (length c.args.request_rows.now) in
-    let entries = stored_steps (factor_lists c.args.n c.args.starts.now c.args.rows.now c.args.values.now) in
-    let requests = request_steps c.args.n c.args.dimension c.args.request_rows.now c.args.request_columns.now in
-    let diagonals = diagonal_steps (factor_lists c.args.n c.args.starts.now c.args.rows.now c.args.values.now) in
-    let seek = seek_steps c.args.n c.args.scratch c.args.row c.args.column in
-    let bounds-told =
-    verdicts (bound_steps c.args.n (length c.args.rows.now)) (request_bound_steps (length c.args.request_rows.now))
-    c.first_of-bounds.ensures c.check_bounds.ensures c.check_request_bound.ensures in
-    sym (append-refused bounds (entries ++ (requests ++ (diagonals ++ seek))) _ tt (sym bounds-told ∙ ap reply_of c.in-Refused.is))
+returns-in_err-check_bounds c = returned _ _ c.from_residual.ensures.1
+    (append-refused _ _ _ tt (append-refused _ _ _ tt (sym c.in_err-check_bounds.ensures)))
 
-pub returns-in-Refused-check_stored : goal.returns-in-Refused-check_stored
+pub returns-in_err-check_request_bound : goal.returns-in_err-check_request_bound
 unfolding asked_steps
-returns-in-Refused-check_stored c =
-    let bounds = bound_steps c.args.n (length c.args.rows.now) ++ request_bound_steps (length c.args.request_rows.now) in
-    let entries = stored_steps (factor_lists c.args.n c.args.starts.now c.args.rows.now c.args.values.now) in
-    let requests = request_steps c.args.n c.args.dimension c.args.request_rows.now c.args.request_columns.now in
-    let diagonals = diagonal_steps (factor_lists c.args.n c.args.starts.now c.args.rows.now c.args.values.now) in
-    let seek = seek_steps c.args.n c.args.scratch c.args.row c.args.column in
-    let bounds-told =
-    verdicts (bound_steps c.args.n (length c.args.rows.now)) (request_bound_steps (length c.args.request_rows.now))
-    c.first_of-bounds.ensures c.check_bounds.ensures c.check_request_bound.ensures in
-    let within = sym bounds-told ∙ ap reply_of c.in-Accepted.is in
-    sym
-    (append_passed bounds (entries ++ (requests ++ (diagonals ++ seek))) tt within
-    ∙ append-refused entries (requests ++ (diagonals ++ seek)) _ tt (sym c.check_stored.ensures ∙ ap reply_of c.in-Refused-check_stored.is))
+returns-in_err-check_request_bound c = returned _ _ c.from_residual-in_err-check_request_bound.ensures.1
+    (append-refused _ _ _ tt (append_passed _ _ tt (sym c.in_ok-check_bounds.ensures) ∙ sym c.in_err-check_request_bound.ensures))
 
-pub returns-in-Accepted-check_stored : goal.returns-in-Accepted-check_stored
+pub returns-in_err-check_stored : goal.returns-in_err-check_stored
 unfolding asked_steps
-returns-in-Accepted-check_stored c =
-    let requests = request_steps c.args.n c.args.dimension c.args.request_rows.now c.args.request_columns.now in
-    let diagonals = diagonal_steps (factor_lists c.args.n c.args.starts.now c.args.rows.now c.args.values.now) in
-    let seek = seek_steps c.args.n c.args.scratch c.args.row c.args.column in
-    let bounds = bound_steps c.args.n (length c.args.rows.now) ++ request_bound_steps (length c.args.request_rows.now) in
-    let entries = stored_steps (factor_lists c.args.n c.args.starts.now c.args.rows.now c.args.values.now) in
-    let bounds-told =
-    verdicts (bound_steps c.args.n (length c.args.rows.now)) (request_bound_steps (length c.args.request_rows.now))
-    c.first_of-bounds.ensures c.check_bounds.ensures c.check_request_bound.ensures in
-    let within = sym bounds-told ∙ ap reply_of c.in-Accepted.is in
-    let entered = sym c.check_stored.ensures ∙ ap reply_of c.in-Accepted-check_stored.is in
-    verdicts requests (diagonals ++ seek) c.first_of-in-Accepted-check_stored.ensures c.check_requests-requests.ensures
-    (verdicts diagonals seek c.first_of.ensures c.check_diagonals-diagonals.ensures c.check_seek-seek.ensures)
+returns-in_err-check_stored c = returned _ _ c.from_residual-in_err-check_stored.ensures.1
+    (append_passed _ _ tt (append_passed _ _ tt (sym c.in_ok-check_bounds.ensures) ∙ sym c.in_ok-check_request_bound.ensures)
+    ∙ append-refused _ _ _ tt (sym c.in_err-check_stored.ensures))
+
+pub returns-in_err-check_requests : goal.returns-in_err-check_requests
+unfolding asked_steps
+returns-in_err-check_requests c = returned _ _ c.from_residual-in_err-check_requests.ensures.1
+    (append_passed _ _ tt (append_passed _ _ tt (sym c.in_ok-check_bounds.ensures) ∙ sym c.in_ok-check_request_bound.ensures)
+    ∙ append_passed _ _ tt (sym c.in_ok-check_stored.ensures)
+    ∙ append-refused _ _ _ tt (sym c.in_err-check_requests.ensures))
+
+pub returns-in_err-check_diagonals : goal.returns-in_err-check_diagonals
+unfolding asked_steps
+returns-in_err-check_diagonals c = returned _ _ c.from_residual-in_err-check_diagonals.ensures.1
+    (append_passed _ _ tt (append_passed _ _ tt (sym c.in_ok-check_bounds.ensures) ∙ sym c.in_ok-check_request_bound.ensures)
+    ∙ append_passed _ _ tt (sym c.in_ok-check_stored.ensures)
+    ∙ append_passed _ _ tt (sym c.in_ok-check_requests.ensures)
+    ∙ append-refused _ _ _ tt (sym c.in_err-check_diagonals.ensures))
+
+pub returns : goal.returns
+unfolding asked_steps
+returns c = c.check_seek.ensures
     ∙ sym
-    (append_passed bounds (entries ++ (requests ++ (diagonals ++ seek))) tt within
-    ∙ append_passed entries (requests ++ (diagonals ++ seek)) tt entered)
+    (append_passed _ _ tt (append_passed _ _ tt (sym c.in_ok-check_bounds.ensures) ∙ sym c.in_ok-check_request_bound.ensures)
+    ∙ append_passed _ _ tt (sym c.in_ok-check_stored.ensures)
+    ∙ append_passed _ _ tt (sym c.in_ok-check_requests.ensures)
+    ∙ append_passed _ _ tt (sym c.in_ok-check_diagonals.ensures))

@@ -1,8 +1,9 @@
+use Rattle.std.proofs.Common.{refl}
+use Rattle.refusal.proofs.Returned.{returned}
 use Prim.Native.Nat.{ℕ}
-use mathlib.Core.Path.{ap, sym, ◌∙◌}
+use mathlib.Core.Path.{sym}
 use lib.ListN.{length}
 use mathlib.Core.Path.{subst₂}
-use Rattle.refusal.specs.Refusal.{reply_of}
 use Rattle.dependency_chain.specs.Chain.{chain_call}
 use Rattle.dependency_chain.specs.Laws.{SeekInput}
 use Rattle.dependency_chain.proofs.Laws.{asked_accepted}
@@ -12,22 +13,23 @@ use Rattle.dependency_chain.proofs.dependency_chain.Goals as goal
 pub seek_chain-requires : goal.seek_chain-requires
 seek_chain-requires c =
     let handed = chain_call c.args.n c.args.starts.now c.args.rows.now c.args.values.now c.args.dimension c.args.request_rows.now c.args.request_columns.now c.args.row c.args.column in
-    let passed = sym c.check_asked-asked.ensures ∙ ap reply_of c.in-Accepted.is in
+    let passed = sym c.in_ok-check_asked.ensures in
     let a = c.args in
     subst₂ (λ (i j : ℕ). SeekInput a.n a.starts.now a.rows.now (length a.values.now) a.request_rows.now a.request_columns.now i j a.scratch.now)
     (sym c.larger.ensures) (sym c.smaller.ensures)
     (asked_accepted handed a.scratch.now passed)
 
-pub returns-in-Refused : goal.returns-in-Refused
-returns-in-Refused c =
+pub returns-in_err-check_asked : goal.returns-in_err-check_asked
+returns-in_err-check_asked c =
     let handed = chain_call c.args.n c.args.starts.now c.args.rows.now c.args.values.now c.args.dimension c.args.request_rows.now c.args.request_columns.now c.args.row c.args.column in
     let a = c.args in
-    chain_refused handed a.scratch.now a.chain_rows.now a.chain_columns.now _ (sym c.check_asked-asked.ensures ∙ ap reply_of c.in-Refused.is)
+    rw (returned _ _ c.from_residual.ensures.1 refl)
+    (chain_refused handed a.scratch.now a.chain_rows.now a.chain_columns.now _ (sym c.in_err-check_asked.ensures))
 
-pub returns-in-Accepted : goal.returns-in-Accepted
-returns-in-Accepted c =
+pub returns : goal.returns
+returns c =
     let handed = chain_call c.args.n c.args.starts.now c.args.rows.now c.args.values.now c.args.dimension c.args.request_rows.now c.args.request_columns.now c.args.row c.args.column in
-    let passed = sym c.check_asked-asked.ensures ∙ ap reply_of c.in-Accepted.is in
+    let passed = sym c.in_ok-check_asked.ensures in
     let a = c.args in
     chain_listed handed a.scratch.now a.chain_rows.now a.chain_columns.now passed
     (listed_at handed c.larger.ensures c.smaller.ensures c.seek_chain.ensures.listed)

@@ -1,13 +1,13 @@
+use Rattle.refusal.proofs.Returned.{returned}
 use Rattle.columns.specs.Stored.{factor_steps}
-use Rattle.refusal.specs.Refusal.{reply_of}
 use Rattle.refusal.proofs.Steps.{append-refused, append_passed}
-use mathlib.Core.Path.{ap, sym, ◌∙◌}
+use mathlib.Core.Path.{sym, ◌∙◌}
 use Rattle.factor_check.proofs.check_factor.Goals as goal
 
-pub returns-in-Refused : goal.returns-in-Refused
+pub returns-in_err-check_bounds : goal.returns-in_err-check_bounds
 unfolding factor_steps
-returns-in-Refused c = sym (append-refused _ _ _ tt (sym c.check_bounds.ensures ∙ ap reply_of c.in-Refused.is))
+returns-in_err-check_bounds c = returned _ _ c.from_residual.ensures.1 (append-refused _ _ _ tt (sym c.in_err-check_bounds.ensures))
 
-pub returns-in-Accepted : goal.returns-in-Accepted
+pub returns : goal.returns
 unfolding factor_steps
-returns-in-Accepted c = c.check_stored.ensures ∙ sym (append_passed _ _ tt (sym c.check_bounds.ensures ∙ ap reply_of c.in-Accepted.is))
+returns c = c.check_stored.ensures ∙ sym (append_passed _ _ tt (sym c.in_ok-check_bounds.ensures))

@@ -1,8 +1,9 @@
 use Rattle.factor_route.proofs.RouteLaws.{route_starts, route_stored, route_first, route_walk, route_marked, route_step, route_unmark, route_column_lem}
 use Rattle.exact.specs.PivotCase.{step_below, step_on}
+use Rattle.last_steps.specs.DivisorParts.{is_pivot, number}
 use Rattle.entries.proofs.Descendants.{told_table}
 use native.Mathlib.Omega.{arith}
-use Prim.Native.Nat.{◌≤◌, ◌-◌, ◌+◌}
+use Prim.Native.Nat.{◌≤◌, ◌+◌}
 use mathlib.Core.Path.{refl}
 use lib.ListN.{length}
 use Rattle.factor_route.proofs.pattern_column.Goals as goal
@@ -54,8 +55,8 @@ scatter_columns-requires c = let a = c.at-a in
           m.ensures.count c.args.marker.now c.args.weights.now c.args.sums.now _ _ _ c.requires.work_rows m.ensures,
     )
 
-pub column_divisor-d-requires : goal.column_divisor-d-requires
-column_divisor-d-requires c = (c.requires.route_input.0.factor, c.requires.route_input.0.divisors, c.requires.route_input.1)
+pub column_divisor-divisor-requires : goal.column_divisor-divisor-requires
+column_divisor-divisor-requires c = (c.requires.route_input.0.factor, c.requires.route_input.0.divisors, c.requires.route_input.1)
 
 pub write_column-requires : goal.write_column-requires
 write_column-requires c = let a = c.at-a in
@@ -82,10 +83,10 @@ returns c = let a = c.at-a in
     let t = c.at-t in
     let m = c.mark_column-m in
     let x = c.scatter_columns in
-    let d = c.column_divisor-d in
+    let d = c.column_divisor-divisor in
     let w = c.write_column in
     route_column_lem c.requires.route_input.0 c.args.j c.requires.route_input.1 a.result s.result t.result m.result a.ensures s.ensures t.ensures
-    m.ensures.count (step_below c.args.with_pivots) (step_on c.args.with_pivots)
-    (told_table c.args.with_pivots c.args.n c.args.starts.now c.args.rows.now c.args.values.now c.args.pivots.now)
-    e.result d.result c.args.result_values.now _ c.args.marker.now c.args.weights.now c.args.sums.now _ _ _ _ _
-    e.ensures c.requires.work_rows refl c.requires.known m.ensures x.ensures d.ensures w.ensures c.unmark_column.ensures
+    m.ensures.count (step_below (is_pivot d.result)) (step_on (is_pivot d.result))
+    (told_table c.args.pivots d.ensures.kind c.args.n c.args.starts.now c.args.rows.now c.args.values.now)
+    e.result (number d.result) c.args.result_values.now _ c.args.marker.now c.args.weights.now c.args.sums.now _ _ _ _ _
+    e.ensures c.requires.work_rows refl c.requires.known m.ensures x.ensures d.ensures.value w.ensures c.unmark_column.ensures

@@ -1,4 +1,3 @@
-use Prim.Native.Nat.{◌-◌}
 use Rattle.file_lines.proofs.PlaceLaws.{end_none, end_here, end_not}
 use borrow.Author.Rules.{rules}
 use Rattle.file_lines.proofs.line_end.Goals as goal

@@ -1,14 +1,7 @@
-use native.Mathlib.Omega.{arith}
-use mathlib.Core.Path.{refl, ◌∙◌}
-use mathlib.Core.List.{[]}
-use Rattle.columns.specs.Kept.{nonzero}
-use Rattle.kept_entries.specs.KeptBy.{kept_at, kept_floats, factor_rows, factor_pairs_same}
+use mathlib.Core.Path.{sym, ◌∙◌}
+use Rattle.kept_entries.specs.Above.{factor_pairs_all}
 use Rattle.kept_entries.proofs.factor_pairs.Goals as goal
 
-pub factor_pairs_by-requires : goal.factor_pairs_by-requires
-factor_pairs_by-requires c = let F = c.requires in
-    (factor_rows F, record { by_floats = λ e. omega (arith, F.valued); by_wholes = λ h. absurd (omega arith) })
-
 pub returns : goal.returns
-returns c = let values = c.args.values.now in
-    c.factor_pairs_by.ensures ∙ factor_pairs_same c.requires (kept_at values []) (nonzero values) (λ p l. kept_floats values [] p refl)
+returns g c = let none = sym c.has_above.ensures ∙ c.if-has_above.false in
+    c.nonzero_between.ensures ∙ rw c.at.ensures (sym (factor_pairs_all c.requires.starts_rise none (g.T.StoredValue.kept c.args.values.now)))

@@ -8,7 +8,6 @@ use Rattle.lists.specs.Select.{select, select_none, select_join, select_gap, sel
 use Rattle.columns.specs.Kept.{kept}
 use Rattle.columns.specs.Factor.{Column, FirstFrom}
 use Rattle.columns.proofs.Diagonal.{first_from_from, first_from_dropped}
-use Rattle.kept_entries.specs.KeptBy.{kept_at}
 use Rattle.kept_entries.proofs.kept_between.Goals as goal
 
 module _ {c : ℕ} {rows : List ℕ} {count s e p : ℕ} (C : Column rows count s e) (F : FirstFrom c rows s e p) (nz : ℕ → Bool) where
@@ -20,11 +19,5 @@ module _ {c : ℕ} {rows : List ℕ} {count s e p : ℕ} (C : Column rows count 
       let b = select_cong (kept rows nz c) nz p e (λ k lo hi. rw (le-leb _ _ (first_from_from C F k lo hi))) in
       rw (select_join (kept rows nz c) s p e F.from F.upto, a, b)
 
-pub nonzero_between-requires : goal.nonzero_between-requires
-nonzero_between-requires c = let given = c.requires.1 in
-    let C = c.requires.0 in
-    let F = c.first_from-first.ensures in
-    (F.upto, record { by_floats = λ e. omega (arith, C.stored, given.by_floats e); by_wholes = λ h. omega (arith, C.stored, given.by_wholes h) })
-
 pub returns : goal.returns
-returns c = c.nonzero_between.ensures ∙ sym (kept_from c.requires.0 c.first_from-first.ensures (kept_at c.args.floats.now c.args.wholes.now))
+returns g c = c.nonzero_between.ensures ∙ sym (kept_from c.requires c.first_from-first.ensures (g.T.StoredValue.kept c.args.values.now))

@@ -1,18 +1,16 @@
-use borrow.Author.Rules.{rules}
 use native.Mathlib.Omega.{arith}
 use native.Mathlib.Numerals.{add-one}
 use Prim.Native.Nat.{ℕ, ◌≤◌, ◌-◌, ◌+◌}
-use mathlib.Core.Path.{◌≡◌, refl, ap, ap₂, sym, ◌∙◌}
+use mathlib.Core.Path.{◌≡◌, ap, ap₂, sym, ◌∙◌}
 use mathlib.Core.Bool.{Bool}
-use mathlib.Core.List.{List, []}
+use mathlib.Core.List.{List}
 use lib.ListN.{length, get_or, length-map}
 use Rattle.lists.specs.Select.{tally, tally_most}
 use Rattle.columns.specs.Columns.{start, row}
 use Rattle.columns.specs.Kept.{nonzero, kept, desc_places, pattern}
 use Rattle.columns.proofs.Factor.{factor_column, starts_end}
 use Rattle.columns.specs.Form.{pattern_pairs}
-use Rattle.columns.proofs.Form.{pattern_pairs_none, pattern_pairs_next, pattern_pairs_cong}
-use Rattle.kept_entries.specs.KeptBy.{kept_at, kept_floats, factor_rows, pattern_same}
+use Rattle.columns.proofs.Form.{pattern_pairs_none, pattern_pairs_next}
 use Rattle.kept_entries.proofs.pattern_pairs.Goals as goal
 
 -- the entries kept in column c from the row c + 1 on are its descendants
@@ -36,19 +34,16 @@ end c = starts_end c.requires.starts_rise (c.loop-c.c + 1) (omega arith)
 
 -- what is added counts column c
 counted : (c : goal.After-kept_between-below) →
-    c.kept_between-below.result ≡ length (pattern c.args.starts.now c.args.rows.now (kept_at c.args.values.now []) c.loop-c.c)
+    c.kept_between-below.result ≡ length (pattern c.args.starts.now c.args.rows.now (nonzero c.args.values.now) c.loop-c.c)
 counted c =
     (rw (c.at.ensures, c.at-in-loop-c.ensures) at c.kept_between-below.ensures)
-    ∙ descendants c.args.starts.now c.args.rows.now (kept_at c.args.values.now []) c.loop-c.c
+    ∙ descendants c.args.starts.now c.args.rows.now (nonzero c.args.values.now) c.loop-c.c
 
 pub loop-c-init : goal.loop-c-init
-loop-c-init c = (search rules, search rules, sym (pattern_pairs_none _))
+loop-c-init c = (omega arith, sym (pattern_pairs_none _))
 
 pub kept_between-below-requires : goal.kept_between-below-requires
-kept_between-below-requires c = let F = c.requires in (
-  rw (c.at.ensures, c.at-in-loop-c.ensures) (factor_column (factor_rows F) c.loop-c.c (omega arith)),
-  record { by_floats = λ e. omega (arith, F.valued); by_wholes = λ h. absurd (omega arith) },
-)
+kept_between-below-requires c = rw (c.at.ensures, c.at-in-loop-c.ensures) (factor_column c.requires c.loop-c.c (omega arith))
 
 pub overflow_add-count : goal.overflow_add-count
 overflow_add-count c = omega (arith, bound c, end c, c.requires.starts_rise.columns)
@@ -57,15 +52,9 @@ pub overflow_add-count-in-loop-c : goal.overflow_add-count-in-loop-c
 overflow_add-count-in-loop-c c = omega (arith, bound c, end c, c.requires.starts_rise.columns)
 
 pub loop-c-preserved : goal.loop-c-preserved
-loop-c-preserved c = let i = c.loop-c in
-    (search rules, bound c, rw pattern_pairs_next (ap₂ ◌+◌ i.invariant.2 (ap (λ (k : ℕ). 1 + k) (counted c))))
+loop-c-preserved c = (bound c, rw pattern_pairs_next (ap₂ ◌+◌ c.loop-c.invariant.1 (ap (λ (k : ℕ). 1 + k) (counted c))))
 
 pub returns : goal.returns
-returns c = let i = c.loop-c in
-    let values = c.args.values.now in
-    let starts = c.args.starts.now in
-    let rows = c.args.rows.now in
-    let q : i.c ≡ c.args.n = omega arith in
-    i.invariant.2 ∙ ap (λ (k : ℕ). pattern_pairs k (pattern starts rows (kept_at values []))) q
-    ∙ pattern_pairs_cong c.args.n (pattern starts rows (kept_at values [])) (pattern starts rows (nonzero values))
-    (pattern_same c.requires (kept_at values []) (nonzero values) (λ p l. kept_floats values [] p refl))
+returns c =
+    let q : c.loop-c.c ≡ c.args.n = omega arith in
+    c.loop-c.invariant.1 ∙ ap (λ (k : ℕ). pattern_pairs k (pattern c.args.starts.now c.args.rows.now (nonzero c.args.values.now))) q

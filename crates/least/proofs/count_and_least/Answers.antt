@@ -5,7 +5,6 @@ use Rattle.least.specs.Least.{negative, least_of, least_of_none, least_of_next}
 use Rattle.lists.specs.Select.{tally, tally_none, tally_next, tally_most}
 use borrow.Author.Rules.{rules}
 use native.Mathlib.Omega.{arith}
-use Prim.Native.Nat.{◌-◌}
 use mathlib.Core.Path.{◌≡◌, ap, sym, ◌∙◌}
 use lib.ListN.{length}
 use Rattle.least.proofs.count_and_least.Goals as goal
@@ -17,21 +16,25 @@ pub float_from_bits-min_value : goal.float_from_bits-min_value
 unfolding nan_bits
 float_from_bits-min_value c = search rules
 
-pub loop-i-init : goal.loop-i-init
+pub loop-x-init : goal.loop-x-init
 unfolding of_bits
-loop-i-init c = (search rules, sym (tally_none _ _), sym (least_of_none _))
+loop-x-init c = (sym (tally_none _ _), sym (least_of_none _))
 
 pub overflow_add-num_negative : goal.overflow_add-num_negative
-overflow_add-num_negative c = let l = c.loop-i in
-    let a = c.args in
-    omega (arith, c.negative_bit-num_negative.ensures, bit_most (negative a.values.now l.i), tally_most (negative a.values.now) 0 l.i)
-
-pub loop-i-preserved : goal.loop-i-preserved
-loop-i-preserved c = let l = c.loop-i in
+overflow_add-num_negative c =
     let v = c.args.values.now in
-    (search rules, cc (tally_next (negative v) 0 l.i (omega arith), l.invariant.1, c.negative_bit-num_negative.ensures), cc (least_of_next v l.i, l.invariant.2, c.min-min_value.ensures))
+    let i = c.loop-x.x-index in
+    omega (arith, c.negative_bit-num_negative.ensures, bit_most (negative v i), tally_most (negative v) 0 i)
+
+pub loop-x-preserved : goal.loop-x-preserved
+loop-x-preserved c =
+    let l = c.loop-x in
+    let v = c.args.values.now in
+    (cc (tally_next (negative v) 0 l.x-index (omega arith), l.invariant.0, c.negative_bit-num_negative.ensures), cc (least_of_next v l.x-index, l.invariant.1, c.min-min_value.ensures))
 
 pub returns : goal.returns
-returns c = let l = c.loop-i in
-    let e : l.i ≡ length c.args.values.now = omega arith in
-    count_and_least_some _ c.if-values-eq0.false (l.invariant.1 ∙ ap (tally (negative c.args.values.now) 0) e) (l.invariant.2 ∙ ap (least_of c.args.values.now) e)
+returns c =
+    let l = c.loop-x in
+    let v = c.args.values.now in
+    let e : l.x-index ≡ length v = omega arith in
+    count_and_least_some _ c.if-values-eq0.false (l.invariant.0 ∙ ap (tally (negative v) 0) e) (l.invariant.1 ∙ ap (least_of v) e)

@@ -1,4 +1,3 @@
-use Prim.Native.Nat.{◌-◌}
 use Rattle.least.proofs.min.Goals as goal
 
 pub returns-then-x-m : goal.returns-then-x-m

@@ -1,4 +1,3 @@
-use Prim.Native.Nat.{◌-◌}
 use Rattle.least.proofs.negative_bit.Goals as goal
 
 pub returns-then-x : goal.returns-then-x

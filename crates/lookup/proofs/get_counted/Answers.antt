@@ -15,7 +15,7 @@ value_at-requires c = let a = c.args in
 
 pub returns : goal.returns
 returns c = let a = c.args in record {
-  result_value = c.value_at.ensures ∙ ap (value_at nan a.values.now) c.pair_place-found.ensures.place_value
+  result_value = c.value_at.ensures nan ∙ ap (value_at nan a.values.now) c.pair_place-found.ensures.place_value
       ∙ sym (lookup_place_lem nan a.starts.now a.rows.now a.values.now a.row a.col);
   looks_value = c.pair_place-found.ensures.looks_value;
 }

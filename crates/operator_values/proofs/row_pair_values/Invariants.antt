@@ -1,7 +1,7 @@
-use Prim.Native.Nat.{ℕ, ◌≤◌, ◌-◌}
+use Prim.Native.Nat.{ℕ}
 use mathlib.Core.Path.{◌≡◌}
 use mathlib.Core.List.{List}
-use lib.ListN.{length, get_or}
+use lib.ListN.{get_or}
 use lib.Ieee.{Float, nan}
 use Rattle.lists.specs.Overwrite.{filled}
 use Rattle.pairs.specs.Positions.{inverse_at}
@@ -13,8 +13,4 @@ abbrev pub pair_value : List ℕ → List ℕ → List Float → List ℕ → Li
 pair_value ast ac aw bst bc bw ar br Z p = row_pair_value ast ac aw bst bc bw Z (get_or ar p 0) (get_or br p 0)
 
 abbrev pub invariant-loop-p : goal.invariant-loop-p
-invariant-loop-p l = (l.p ≤ length l.a_rows) × (length l.output ≡ length l.initial.output)
-    × (l.output ≡ filled (pair_value l.a_row_starts l.a_columns l.a_weights l.b_row_starts l.b_columns l.b_weights l.a_rows l.b_rows (inverse_at nan l.n l.scratch l.result_values)) l.p l.initial.output)
-
-abbrev pub decreases-loop-p : goal.decreases-loop-p
-decreases-loop-p l = length l.a_rows - l.p
+invariant-loop-p l = l.output ≡ filled (pair_value l.a_row_starts l.a_columns l.a_weights l.b_row_starts l.b_columns l.b_weights l.a_rows l.b_rows (inverse_at nan l.n l.scratch l.result_values)) l.p l.initial.output

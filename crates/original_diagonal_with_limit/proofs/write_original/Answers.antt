@@ -1,8 +1,8 @@
-use Prim.Native.Nat.{ℕ, ◌<◌, ◌-◌}
+use Prim.Native.Nat.{ℕ, ◌<◌}
 use native.Mathlib.Omega.{arith}
-use mathlib.Core.Path.{◌≡◌, refl, ap, ◌∙◌}
+use mathlib.Core.Path.{◌≡◌, ap, ◌∙◌}
 use mathlib.Core.List.{List}
-use lib.ListN.{length, get_or, set, length-set}
+use lib.ListN.{length, get_or, set}
 use lib.Ieee.{Float, nan}
 use borrow.Author.Rules.{rules}
 use Rattle.lists.specs.Overwrite.{filled, filled_none, filled_more}
@@ -28,49 +28,31 @@ inside-After-shared_slice_known-in-loop-i-1 : (c : goal.After-shared_slice_known
 inside-After-shared_slice_known-in-loop-i-1 c =
     omega (arith, place_is-After-shared_slice_known-in-loop-i-1 c, c.requires.places c.loop-i.i c.loop-i-test.true)
 
--- src/lib.rt:83:5
 pub loop-i-init : goal.loop-i-init
-loop-i-init c = (omega arith, refl, filled_none _ _)
+loop-i-init c = filled_none _ _
 
--- src/lib.rt:84:13
-pub at-p-requires : goal.at-p-requires
-at-p-requires c = omega (arith, c.loop-i-test.true, c.requires.long)
-
--- src/lib.rt:85:13
-pub at-place-requires : goal.at-place-requires
-at-place-requires c = omega (arith, c.at-p.ensures, c.requires.columns c.loop-i.i c.loop-i-test.true)
-
--- src/lib.rt:86:21
 pub offset_bounds-result_values-place : goal.offset_bounds-result_values-place
 offset_bounds-result_values-place c = let h = inside-After-at-place c in
     search rules
 
--- src/lib.rt:86:21
 pub bounds-result_values-place : goal.bounds-result_values-place
 bounds-result_values-place c = inside-After-shared_slice_known-in-loop-i-1 c
 
--- src/lib.rt:86:9
 pub bounds-output-i : goal.bounds-output-i
-bounds-output-i c = omega (arith, c.loop-i-test.true, c.requires.room, c.loop-i.invariant.1)
+bounds-output-i c = omega (arith, c.loop-i-test.true, c.requires.room, c.loop-i.auto.output)
 
--- src/lib.rt:83:5
 pub loop-i-preserved : goal.loop-i-preserved
 loop-i-preserved c = let l = c.loop-i in
     let a = c.args in
-    let taken = c.loop-i-test.true in
     let f = entry a.orig_to_perm.now a.result_starts.now a.result_values.now in
-    let room : l.i < length a.output.now = omega (arith, taken, c.requires.room) in (
-      omega (arith, taken),
-      length-set l.output l.i (get_or a.result_values.now c.at-place.result nan) ∙ l.invariant.1,
-      ap (λ (k : ℕ). set l.output l.i (get_or a.result_values.now k nan)) (place_is-After-shared_slice_known-in-loop-i-1 c)
-          ∙ ap (λ (x : List Float). set x l.i (f l.i)) l.invariant.2
-          ∙ filled_more f a.output.now l.i room,
-    )
+    let room : l.i < length a.output.now = omega (arith, c.loop-i-test.true, c.requires.room) in
+    ap (λ (k : ℕ). set l.output l.i (get_or a.result_values.now k nan)) (place_is-After-shared_slice_known-in-loop-i-1 c)
+    ∙ ap (λ (x : List Float). set x l.i (f l.i)) l.invariant
+    ∙ filled_more f a.output.now l.i room
 
--- src/lib.rt:71:1
 pub returns : goal.returns
 unfolding filled
 returns c = let l = c.loop-i in
     let a = c.args in
-    let e : l.i ≡ a.n = omega (arith, c.loop-i-test.false, l.invariant.0) in
-    l.invariant.2 ∙ ap (λ (k : ℕ). filled (entry a.orig_to_perm.now a.result_starts.now a.result_values.now) k a.output.now) e
+    let e : l.i ≡ a.n = omega (arith, c.loop-i-test.false, l.auto.i-end) in
+    l.invariant ∙ ap (λ (k : ℕ). filled (entry a.orig_to_perm.now a.result_starts.now a.result_values.now) k a.output.now) e

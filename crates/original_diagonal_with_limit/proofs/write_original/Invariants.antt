@@ -1,7 +1,7 @@
-use Prim.Native.Nat.{ℕ, ◌≤◌, ◌-◌}
+use Prim.Native.Nat.{ℕ}
 use mathlib.Core.Path.{◌≡◌}
 use mathlib.Core.List.{List}
-use lib.ListN.{length, get_or}
+use lib.ListN.{get_or}
 use lib.Ieee.{Float, nan}
 use Rattle.lists.specs.Overwrite.{filled}
 use Rattle.factor_order.specs.Permutation.{index}
@@ -12,7 +12,4 @@ abbrev pub entry : List ℕ → List ℕ → List Float → ℕ → Float
 entry perm starts values i = get_or values (index starts (index perm i)) nan
 
 abbrev pub invariant-loop-i : goal.invariant-loop-i
-invariant-loop-i l = (l.i ≤ l.n) × (length l.output ≡ length l.initial.output) × (l.output ≡ filled (entry l.orig_to_perm l.result_starts l.result_values) l.i l.initial.output)
-
-abbrev pub decreases-loop-i : goal.decreases-loop-i
-decreases-loop-i l = l.n - l.i
+invariant-loop-i l = l.output ≡ filled (entry l.orig_to_perm l.result_starts l.result_values) l.i l.initial.output

@@ -1,79 +1,39 @@
-use mathlib.Core.Path.{ap, sym, ◌∙◌}
-use Rattle.refusal.specs.Steps.{Passed}
-use Rattle.refusal.specs.Refusal.{reply_of}
+use Rattle.std.proofs.Common.{sym}
+use Rattle.refusal.proofs.Returned.{returned_is}
 use Rattle.pairs.proofs.Scratch.{scratch_words_room}
-use Rattle.selection.specs.Selection.{Lent, lists, room_of}
-use Rattle.selection.specs.Call.{Call, call, selected_steps}
+use Rattle.selection.specs.Selection.{lists, room_of}
+use Rattle.selection.specs.Call.{call, selected_steps}
 use Rattle.selection.proofs.Call.{accepted, accepted_requests}
 use Rattle.fill.specs.Fill.{marked_input, marked_answer, marked_lists}
 use Rattle.selected.proofs.Reply.{entries_refused, entries_answered}
 use Rattle.selected.proofs.selected_inverse_entries_with_limit.Goals as goal
 
--- the call and the lists that it is lent
-abbrev handed-After-mark_requests-arg-1 : goal.After-mark_requests-arg-1 → Call
-handed-After-mark_requests-arg-1 s =
-    let a = s.args in
-    call a.n a.starts.now a.rows.now a.values.now a.dimension a.request_rows.now a.request_columns.now a.limit
-
--- the call and the lists that it is lent
-abbrev handed-After-fill_entries-arg-in-Accepted-3-1 : goal.After-fill_entries-arg-in-Accepted-3-1 → Call
-handed-After-fill_entries-arg-in-Accepted-3-1 s =
-    let a = s.args in
-    call a.n a.starts.now a.rows.now a.values.now a.dimension a.request_rows.now a.request_columns.now a.limit
-
--- the call and the lists that it is lent
-abbrev handed-In-Refused : goal.In-Refused → Call
-handed-In-Refused s =
-    let a = s.args in
-    call a.n a.starts.now a.rows.now a.values.now a.dimension a.request_rows.now a.request_columns.now a.limit
-
--- the call and the lists that it is lent
-abbrev handed-After-slice_known-in-Accepted-5-1 : goal.After-slice_known-in-Accepted-5-1 → Call
-handed-After-slice_known-in-Accepted-5-1 s =
-    let a = s.args in
-    call a.n a.starts.now a.rows.now a.values.now a.dimension a.request_rows.now a.request_columns.now a.limit
-
-abbrev lent-After-mark_requests-arg-1 : goal.After-mark_requests-arg-1 → Lent
-lent-After-mark_requests-arg-1 s = let a = s.args in lists a.result_starts.now a.result_rows.now a.result_values.now a.scratch.now
-
-abbrev lent-After-fill_entries-arg-in-Accepted-3-1 : goal.After-fill_entries-arg-in-Accepted-3-1 → Lent
-lent-After-fill_entries-arg-in-Accepted-3-1 s = let a = s.args in lists a.result_starts.now a.result_rows.now a.result_values.now a.scratch.now
-
-abbrev lent-In-Refused : goal.In-Refused → Lent
-lent-In-Refused s = let a = s.args in lists a.result_starts.now a.result_rows.now a.result_values.now a.scratch.now
-
-abbrev lent-After-slice_known-in-Accepted-5-1 : goal.After-slice_known-in-Accepted-5-1 → Lent
-lent-After-slice_known-in-Accepted-5-1 s = let a = s.args in lists a.result_starts.now a.result_rows.now a.result_values.now a.scratch.now
-
-passed-After-mark_requests-arg-1 : (t : goal.After-mark_requests-arg-1) → Passed (selected_steps (handed-After-mark_requests-arg-1 t) (room_of (lent-After-mark_requests-arg-1 t)))
-passed-After-mark_requests-arg-1 t = sym t.check_selected.ensures ∙ ap reply_of t.in-Accepted.is
-
-passed-After-fill_entries-arg-in-Accepted-3-1 : (t : goal.After-fill_entries-arg-in-Accepted-3-1) → Passed (selected_steps (handed-After-fill_entries-arg-in-Accepted-3-1 t) (room_of (lent-After-fill_entries-arg-in-Accepted-3-1 t)))
-passed-After-fill_entries-arg-in-Accepted-3-1 t = sym t.check_selected.ensures ∙ ap reply_of t.in-Accepted.is
-
-passed-After-slice_known-in-Accepted-5-1 : (t : goal.After-slice_known-in-Accepted-5-1) → Passed (selected_steps (handed-After-slice_known-in-Accepted-5-1 t) (room_of (lent-After-slice_known-in-Accepted-5-1 t)))
-passed-After-slice_known-in-Accepted-5-1 t = sym t.check_selected.ensures ∙ ap reply_of t.in-Accepted.is
-
 pub mark_requests-requested_pairs-requires : goal.mark_requests-requested_pairs-requires
-mark_requests-requested_pairs-requires c = let x = handed-After-mark_requests-arg-1 c in
-    let r = room_of (lent-After-mark_requests-arg-1 c) in
-    let A = accepted x r (passed-After-mark_requests-arg-1 c) in
-    record { small = A.small; requests = accepted_requests x r (passed-After-mark_requests-arg-1 c); room = scratch_words_room x.factor.n A.scratch_room }
+mark_requests-requested_pairs-requires c = let a = c.args in
+    let x = call a.n a.starts.now a.rows.now a.values.now a.dimension a.request_rows.now a.request_columns.now a.limit in
+    let r = room_of (lists a.result_starts.now a.result_rows.now a.result_values.now a.scratch.now) in
+    let p = sym c.in_ok-check_selected.ensures in
+    let A = accepted x r p in
+    record { small = A.small; requests = accepted_requests x r p; room = scratch_words_room x.factor.n A.scratch_room }
 
 pub fill_entries-diagnosis-requires : goal.fill_entries-diagnosis-requires
-fill_entries-diagnosis-requires c = let x = handed-After-fill_entries-arg-in-Accepted-3-1 c in
-    let l = lent-After-fill_entries-arg-in-Accepted-3-1 c in
-    marked_input l.result_starts l.result_rows l.result_values (accepted x (room_of l) (passed-After-fill_entries-arg-in-Accepted-3-1 c)) c.mark_requests-requested_pairs.ensures
+fill_entries-diagnosis-requires c = let a = c.args in
+    let x = call a.n a.starts.now a.rows.now a.values.now a.dimension a.request_rows.now a.request_columns.now a.limit in
+    let r = room_of (lists a.result_starts.now a.result_rows.now a.result_values.now a.scratch.now) in
+    marked_input a.result_starts.now a.result_rows.now a.result_values.now (accepted x r (sym c.in_ok-check_selected.ensures)) c.mark_requests-requested_pairs.ensures
 
--- src/lib.rt:79:1
-pub returns-in-Refused : goal.returns-in-Refused
-returns-in-Refused c = entries_refused (handed-In-Refused c) (lent-In-Refused c) (sym c.check_selected.ensures ∙ ap reply_of c.in-Refused.is)
+pub returns-in_err-check_selected : goal.returns-in_err-check_selected
+returns-in_err-check_selected c = let a = c.args in
+    rw (returned_is _ _ c.from_residual.ensures.1)
+    (entries_refused (call a.n a.starts.now a.rows.now a.values.now a.dimension a.request_rows.now a.request_columns.now a.limit)
+    (lists a.result_starts.now a.result_rows.now a.result_values.now a.scratch.now) (sym c.in_err-check_selected.ensures))
 
--- src/lib.rt:79:1
-pub returns-in-Accepted : goal.returns-in-Accepted
-returns-in-Accepted c = let x = handed-After-slice_known-in-Accepted-5-1 c in
-    let l = lent-After-slice_known-in-Accepted-5-1 c in
-    let A = accepted x (room_of l) (passed-After-slice_known-in-Accepted-5-1 c) in
-    entries_answered x l (passed-After-slice_known-in-Accepted-5-1 c)
+pub returns : goal.returns
+returns c = let a = c.args in
+    let x = call a.n a.starts.now a.rows.now a.values.now a.dimension a.request_rows.now a.request_columns.now a.limit in
+    let l = lists a.result_starts.now a.result_rows.now a.result_values.now a.scratch.now in
+    let p = sym c.in_ok-check_selected.ensures in
+    let A = accepted x (room_of l) p in
+    entries_answered x l p
     (marked_answer l.result_starts l.result_rows l.result_values A c.mark_requests-requested_pairs.ensures c.fill_entries-diagnosis.ensures)
-    (marked_lists l.result_starts l.result_rows l.result_values A c.mark_requests-requested_pairs.ensures c.fill_entries-diagnosis.ensures (selected_steps x (room_of l)) (passed-After-slice_known-in-Accepted-5-1 c))
+    (marked_lists l.result_starts l.result_rows l.result_values A c.mark_requests-requested_pairs.ensures c.fill_entries-diagnosis.ensures (selected_steps x (room_of l)) p)

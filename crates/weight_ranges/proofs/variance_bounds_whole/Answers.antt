@@ -1,13 +1,13 @@
 use native.Mathlib.Omega.{arith}
 use native.Mathlib.Nat.{le_refl}
-use mathlib.Core.Path.{ap, ap₂, sym, ◌∙◌}
+use mathlib.Core.Path.{ap₂, sym, ◌∙◌}
 use lib.ListN.{length}
 use lib.IntN.{ℤ}
 use Rattle.integers.proofs.Size.{size_more}
 use Rattle.whole_steps.specs.Machine.{held}
 use Rattle.refusal.specs.Steps.{answered}
+use Rattle.refusal.proofs.Returned.{returned}
 use Rattle.refusal.proofs.Steps.{first_refused, first_passed}
-use Rattle.refusal.specs.Refusal.{reply_of}
 use Rattle.weight_ranges.specs.Ranges.{range_steps}
 use Rattle.weight_ranges.proofs.Sizes.{least_sums_size, greatest_sums_size}
 use Rattle.weight_ranges.proofs.Laws.{ranges_ready}
@@ -15,18 +15,18 @@ use Rattle.weight_ranges.proofs.variance_bounds_whole.Goals as goal
 
 pub row_bounds-b-requires : goal.row_bounds-b-requires
 row_bounds-b-requires c =
-    let passed = sym c.check_call.ensures ∙ ap reply_of c.in-Accepted.is in
+    let passed = sym c.in_ok-check_call.ensures in
     let is-ranges-ready = ranges_ready _ _ _ _ _ _ passed in
     is-ranges-ready
 
-pub returns-in-Refused : goal.returns-in-Refused
-returns-in-Refused c =
+pub returns-in_err-check_call : goal.returns-in_err-check_call
+returns-in_err-check_call c =
     let steps = range_steps c.args.starts.now c.args.rows.now c.args.values.now c.args.columns.now c.args.lows.now c.args.highs.now in
-    sym (first_refused steps _ _ (sym c.check_call.ensures ∙ ap reply_of c.in-Refused.is))
+    returned _ _ c.from_residual.ensures.1 (first_refused steps _ _ (sym c.in_err-check_call.ensures))
 
-pub returns-in-Accepted : goal.returns-in-Accepted
-returns-in-Accepted c =
-    let passed = sym c.check_call.ensures ∙ ap reply_of c.in-Accepted.is in
+pub returns : goal.returns
+returns c =
+    let passed = sym c.in_ok-check_call.ensures in
     let R = ranges_ready _ _ _ _ _ _ passed in
     let steps = range_steps c.args.starts.now c.args.rows.now c.args.values.now c.args.columns.now c.args.lows.now c.args.highs.now in
     let n = length c.args.columns.now in

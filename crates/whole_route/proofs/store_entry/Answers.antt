@@ -4,7 +4,6 @@ use mir.Val.{to_z, of_z}
 use mir.ValLaws.{to_z-of_z}
 use Rattle.exact.specs.Checked.{beyond}
 use Rattle.whole_route.specs.Route.{last_step}
-use Prim.Native.Nat.{◌-◌}
 use mathlib.Core.Path.{◌≡◌, refl, ap, sym, ◌∙◌}
 use Rattle.whole_route.proofs.store_entry.Goals as goal
 

@@ -18,60 +18,23 @@ use Rattle.whole_route.specs.Route.{last_step}
 use Rattle.whole_route.proofs.EntryLaws.{entry_sum_input, entry_stopped, entry_number}
 use borrow.Author.Rules.{rules}
 use native.Mathlib.Omega.{arith}
-use Prim.Native.Nat.{ℕ, ◌-◌, ◌+◌}
+use Prim.Native.Nat.{ℕ, ◌+◌}
 use mathlib.Core.Path.{◌≡◌, refl, ap, sym, ◌∙◌}
 use Rattle.whole_route.proofs.whole_entry.Goals as goal
+use Rattle.whole_route.proofs.whole_entry.Goals.{After-entry_sum-sum, In-Some}
 
 -- the sum's reply, by the column's own ends
-sum_is-After-store_entry-arg-1 : (m : goal.After-store_entry-arg-1) →
-    let a = m.args in
-    number_reply m.entry_sum-sum.result
+sum_is : (c : After-entry_sum-sum) →
+    let a = c.args in
+    number_reply c.entry_sum-sum.result
     ≡ whole_sum a.rows.now a.values.now a.j (whole_inverse_at a.n a.scratch.now a.work.now a.i) (start a.starts.now a.j) (start a.starts.now (a.j + 1))
-sum_is-After-store_entry-arg-1 m =
-    let a = m.args in
-    m.entry_sum-sum.ensures
-    ∙ ap₂ (whole_sum a.rows.now a.values.now a.j (whole_inverse_at a.n a.scratch.now a.work.now a.i)) m.requires.start_is m.requires.end_is
+sum_is c =
+    let a = c.args in
+    c.entry_sum-sum.ensures
+    ∙ ap₂ (whole_sum a.rows.now a.values.now a.j (whole_inverse_at a.n a.scratch.now a.work.now a.i)) c.requires.start_is c.requires.end_is
 
--- the sum's reply, by the column's own ends
-sum_is-In-Beyond : (m : goal.In-Beyond) →
-    let a = m.args in
-    number_reply m.entry_sum-sum.result
-    ≡ whole_sum a.rows.now a.values.now a.j (whole_inverse_at a.n a.scratch.now a.work.now a.i) (start a.starts.now a.j) (start a.starts.now (a.j + 1))
-sum_is-In-Beyond m =
-    let a = m.args in
-    m.entry_sum-sum.ensures
-    ∙ ap₂ (whole_sum a.rows.now a.values.now a.j (whole_inverse_at a.n a.scratch.now a.work.now a.i)) m.requires.start_is m.requires.end_is
-
--- the sum's reply, by the column's own ends
-sum_is-After-work-1 : (m : goal.After-work-1) →
-    let a = m.args in
-    number_reply m.entry_sum-sum.result
-    ≡ whole_sum a.rows.now a.values.now a.j (whole_inverse_at a.n a.scratch.now a.work.now a.i) (start a.starts.now a.j) (start a.starts.now (a.j + 1))
-sum_is-After-work-1 m =
-    let a = m.args in
-    m.entry_sum-sum.ensures
-    ∙ ap₂ (whole_sum a.rows.now a.values.now a.j (whole_inverse_at a.n a.scratch.now a.work.now a.i)) m.requires.start_is m.requires.end_is
-
--- where it is a number
-abbrev number-After-store_entry-arg-1 : goal.After-store_entry-arg-1 → ℤ
-number-After-store_entry-arg-1 t = t.in-Value.x
-
--- where it is a number
-abbrev number-After-work-1 : goal.After-work-1 → ℤ
-number-After-work-1 t = t.in-Value.x
-
-fits-number-After-store_entry-arg-1 : (t : goal.After-store_entry-arg-1) → SFits w64 (number-After-store_entry-arg-1 t)
-fits-number-After-store_entry-arg-1 t = search rules
-
-fits-number-After-work-1 : (t : goal.After-work-1) → SFits w64 (number-After-work-1 t)
-fits-number-After-work-1 t = search rules
-
-number_small : (t : goal.After-store_entry-arg-1) → Small (number-After-store_entry-arg-1 t)
-number_small t =
-    let a = t.args in
-    subst SmallNumber (ap number_reply t.in-Value.is)
-    (subst SmallNumber (sym (sum_is-After-store_entry-arg-1 t))
-    (sum_small a.rows.now a.values.now a.j (whole_inverse_at a.n a.scratch.now a.work.now a.i) (start a.starts.now a.j) (start a.starts.now (a.j + 1))))
+fits_number : (c : In-Some) → SFits w64 c.in-Some.x
+fits_number c = search rules
 
 pub entry_sum-sum-requires : goal.entry_sum-sum-requires
 entry_sum-sum-requires c = let a = c.args in
@@ -82,17 +45,22 @@ entry_sum-sum-requires c = let a = c.args in
 pub store_entry-requires : goal.store_entry-requires
 store_entry-requires c = let a = c.args in
     let E = c.requires in
+    let t = goal.at.store_entry-requires c in
     let b = position_below a.n (column_marking a.n a.scratch.now) a.i a.j a.n E.ordered E.inside (omega (arith, E.ordered, E.inside)) E.member in
-    record { small = subst Small (sym (to_z-of_z w64 (number-After-store_entry-arg-1 c) (fits-number-After-store_entry-arg-1 c))) (number_small c); fits = omega (arith, b, E.position_is, E.fits) }
+    let small = subst SmallNumber (ap number_reply c.in-Some.is)
+    (subst SmallNumber (sym (sum_is t.After-entry_sum-sum))
+    (sum_small a.rows.now a.values.now a.j (whole_inverse_at a.n a.scratch.now a.work.now a.i) (start a.starts.now a.j) (start a.starts.now (a.j + 1)))) in
+    record { small = subst Small (sym (to_z-of_z w64 c.in-Some.x (fits_number t.In-Some))) small; fits = omega (arith, b, E.position_is, E.fits) }
 
-pub returns-in-Beyond : goal.returns-in-Beyond
-returns-in-Beyond c = record { tells = entry_stopped c.requires (sum_is-In-Beyond c) (ap number_reply c.in-Beyond.is); leaves = refl }
+pub returns-in-None : goal.returns-in-None
+returns-in-None c = record { tells = entry_stopped c.requires (sum_is (goal.at.returns-in-None c).After-entry_sum-sum) (ap number_reply c.in-None.is); leaves = refl }
 
-pub returns-in-Value : goal.returns-in-Value
-returns-in-Value c = let a = c.args in
-    let N = entry_number c.requires (sym (ap number_reply c.in-Value.is) ∙ sum_is-After-work-1 c) in
-    let z : last_step a.i a.j (to_z w64 (of_z w64 (number-After-work-1 c))) ≡ whole_table a.n a.starts.now a.rows.now a.values.now a.i a.j =
-    ap (last_step a.i a.j) (to_z-of_z w64 (number-After-work-1 c) (fits-number-After-work-1 c)) ∙ N.0 in
+pub returns-in-Some : goal.returns-in-Some
+returns-in-Some c = let a = c.args in
+    let t = goal.at.returns-in-Some c in
+    let N = entry_number c.requires (sym (ap number_reply c.in-Some.is) ∙ sum_is t.After-entry_sum-sum) in
+    let z : last_step a.i a.j (to_z w64 (of_z w64 c.in-Some.x)) ≡ whole_table a.n a.starts.now a.rows.now a.values.now a.i a.j =
+    ap (last_step a.i a.j) (to_z-of_z w64 c.in-Some.x (fits_number t.In-Some)) ∙ N.0 in
     record {
       tells = c.store_entry.ensures.tells ∙ ap beyond z ∙ N.1;
       leaves = c.store_entry.ensures.leaves ∙ ap (λ (x : ℤ). cond c.store_entry.result a.work.now (set a.work.now a.q x)) z;

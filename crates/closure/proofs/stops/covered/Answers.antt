@@ -1,7 +1,7 @@
 use Rattle.closure.proofs.stops.covered.Goals as goal
 
 pub returns-then-covered_in_order : goal.returns-then-covered_in_order
-returns-then-covered_in_order c t = c.covered_in_order.ensures c.if-covered_in_order.true
+returns-then-covered_in_order g c t = c.covered_in_order.ensures c.if-covered_in_order.true
 
 pub returns : goal.returns
-returns c = c.covered_apart.ensures
+returns g c = c.covered_apart.ensures

@@ -1,5 +1,4 @@
 use mathlib.Core.Path.{subst, sym, refl}
-use Rattle.kept_entries.specs.KeptBy.{kept_at}
 use Rattle.closure.specs.Nested.{Stop}
 use Rattle.closure.specs.Covered.{stop_found, stop_one}
 use native.Mathlib.Omega.{arith}
@@ -7,7 +6,7 @@ use Prim.Native.Nat.{ℕ, ◌+◌}
 use Rattle.closure.proofs.stops.find_stop.Goals as goal
 
 pub returns-then-listed-gt0 : goal.returns-then-listed-gt0
-returns-then-listed-gt0 c = let e = c.at-listed.ensures in
+returns-then-listed-gt0 g c = let e = c.at-listed.ensures in
     let S = c.requires.stop_input.reached in
     let T = S.stop c.args.c c.requires.stop_input.inside (omega (arith, e, c.if-listed-gt0.true)) in
     record {
@@ -15,14 +14,14 @@ returns-then-listed-gt0 c = let e = c.at-listed.ensures in
       reached = S;
       kept = λ a h. h;
       here = omega (arith, e, c.if-listed-gt0.true);
-      stop = subst (λ (k : ℕ). Stop c.args.starts.now c.args.rows.now (kept_at c.args.floats.now c.args.wholes.now) c.args.c k) (sym e) T;
+      stop = subst (λ (k : ℕ). Stop c.args.starts.now c.args.rows.now (g.T.StoredValue.kept c.args.values.now) c.args.c k) (sym e) T;
     }
 
 pub column_stop-requires : goal.column_stop-requires
-column_stop-requires c = record { factor = (c.requires.stop_input.factor, c.requires.stop_input.inside); values_lent = c.requires.values_lent }
+column_stop-requires g c = record { factor = (c.requires.stop_input.factor, c.requires.stop_input.inside); values_lent = c.requires.values_lent }
 
 pub overflow_cast-stops : goal.overflow_cast-stops
-overflow_cast-stops c = omega (
+overflow_cast-stops g c = omega (
   arith,
   c.at_least_one-stop.ensures,
   c.column_stop.ensures.upto,
@@ -30,7 +29,7 @@ overflow_cast-stops c = omega (
 )
 
 pub returns : goal.returns
-returns c = let e = c.at_least_one-stop.ensures in
+returns g c = let e = c.at_least_one-stop.ensures in
     stop_found c.requires.stop_input.inside c.requires.stop_input.reached (omega (arith, c.at-listed.ensures, c.if-listed-gt0.false)) (omega (arith, e))
-    (subst (λ (k : ℕ). Stop c.args.starts.now c.args.rows.now (kept_at c.args.floats.now c.args.wholes.now) c.args.c k) (sym e)
+    (subst (λ (k : ℕ). Stop c.args.starts.now c.args.rows.now (g.T.StoredValue.kept c.args.values.now) c.args.c k) (sym e)
     (stop_one c.column_stop.ensures))

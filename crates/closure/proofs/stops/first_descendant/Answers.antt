@@ -1,26 +1,24 @@
-use mathlib.Core.Bool.{false}
 use Rattle.lists.specs.Test.{any_in_none, any_in_more}
-use Rattle.kept_entries.specs.KeptBy.{lent_within}
-use borrow.Author.Rules.{rules}
 use native.Mathlib.Omega.{arith}
-use Prim.Native.Nat.{◌-◌}
-use mathlib.Core.Path.{sym, ◌∙◌}
+use mathlib.Core.Path.{◌≡◌, sym, ◌∙◌}
 use Rattle.closure.proofs.stops.first_descendant.Goals as goal
 
 pub loop-q-init : goal.loop-q-init
-loop-q-init c = (search rules, search rules, any_in_none _ _)
+loop-q-init g c = any_in_none _ _
 
-pub kept_below_by-requires : goal.kept_below_by-requires
-kept_below_by-requires c = (omega (arith, c.requires.column.stored), lent_within c.requires.values_lent _ (omega (arith, c.requires.column.stored)))
+pub kept_below-requires : goal.kept_below-requires
+kept_below-requires g c = (omega (arith, c.requires.column.stored), omega (arith, c.requires.column.stored, c.requires.values_lent))
 
-pub returns-then-kept_below_by : goal.returns-then-kept_below_by
-returns-then-kept_below_by c = let i = c.loop-q in
-    record { from = i.invariant.0; upto = i.invariant.1; before = i.invariant.2; kept = λ l. sym c.kept_below_by.ensures ∙ c.if-kept_below_by.true }
+pub returns-then-kept_below : goal.returns-then-kept_below
+returns-then-kept_below g c = let i = c.loop-q in
+    record { from = i.auto.q; upto = omega arith; before = i.invariant; kept = λ l. sym c.kept_below.ensures ∙ c.if-kept_below.true }
 
 pub loop-q-preserved : goal.loop-q-preserved
-loop-q-preserved c = let i = c.loop-q in
-    (search rules, search rules, any_in_more _ _ _ i.invariant.0 i.invariant.2 (sym c.kept_below_by.ensures ∙ c.if-kept_below_by.false))
+loop-q-preserved g c = let i = c.loop-q in
+    any_in_more _ _ _ i.auto.q i.invariant (sym c.kept_below.ensures ∙ c.if-kept_below.false)
 
 pub returns : goal.returns
-returns c = let i = c.loop-q in
-    record { from = i.invariant.0; upto = i.invariant.1; before = i.invariant.2; kept = λ l. absurd (omega arith) }
+returns g c = let i = c.loop-q in
+    let h = c.requires.column.ordered in
+    let e : i.q ≡ c.args.e = omega arith in
+    record { from = h; upto = omega arith; before = rw e at i.invariant; kept = λ l. absurd (omega arith) }

@@ -1,19 +1,11 @@
-use Prim.Native.Nat.{◌≤◌, ◌-◌}
-use mathlib.Core.Path.{◌≡◌}
-use lib.ListN.{length}
+use Prim.Native.Nat.{◌≤◌}
 use Rattle.closure_route.specs.Column.{sum_column}
 use Rattle.closure_route.specs.Lower.{ProductsAdded}
 use Rattle.closure_route.proofs.LowerLaws.{RowsBefore}
 use Rattle.closure_route.proofs.stored_sums.add_products.Given as goal
 
 abbrev pub invariant-loop-p : goal.invariant-loop-p
-invariant-loop-p l = (length l.result_values ≡ length l.initial.result_values)
-    × (l.s ≤ l.p)
-    × (l.p ≤ l.e)
-    × (l.first ≤ l.q)
+invariant-loop-p l = (l.first ≤ l.q)
     × (l.q ≤ l.last)
     × RowsBefore (sum_column l.n l.j l.first l.last l.s l.e l.rows l.values l.result_rows l.scratch) l.q l.p
     × ProductsAdded (sum_column l.n l.j l.first l.last l.s l.e l.rows l.values l.result_rows l.scratch) l.p l.initial.result_values l.result_values
-
-abbrev pub decreases-loop-p : goal.decreases-loop-p
-decreases-loop-p l = l.e - l.p

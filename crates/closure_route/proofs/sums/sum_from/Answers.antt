@@ -1,10 +1,8 @@
-use Prim.Native.Nat.{ℕ, ◌-◌}
 use native.Mathlib.Omega.{arith}
-use mathlib.Core.Path.{◌≡◌, sym, ap, subst, ◌∙◌}
+use mathlib.Core.Path.{sym, ap, ◌∙◌}
 use lib.Ieee.{Float, nan}
 use Rattle.pair_places.specs.Position.{shift_fits}
-use Rattle.closure_route.specs.Column.{SumTerms, sum_terms}
-use Rattle.closure_route.specs.Sums.{inverse_at, SumContinued, with_product}
+use Rattle.closure_route.specs.Sums.{inverse_at, with_product}
 use Rattle.closure_route.proofs.SumsLaws.{sum_between_next}
 use Rattle.closure_route.proofs.SumLaws.{term_input}
 use Rattle.closure_route.proofs.sums.sum_from.Goals as goal
@@ -16,27 +14,17 @@ pub overflow_add-base : goal.overflow_add-base
 overflow_add-base c = omega (arith, c.queue_start-positions.ensures.0, shift_fits c.args.n c.args.i c.column_shift.result c.requires.small c.requires.left c.column_shift.ensures)
 
 pub loop-p-init : goal.loop-p-init
-loop-p-init c = (omega arith, omega (arith, c.requires.column.ordered), λ s h q. q)
+loop-p-init c = λ s h q. q
 
 pub add_product-sum-requires : goal.add_product-sum-requires
 add_product-sum-requires c = let l = c.loop-p in
     let u = c.queue_start-positions.ensures.0 in
-    record { positions_value = (u, omega (arith, u, c.column_shift.ensures)); add_product_input = term_input c.requires l.p l.invariant.0 c.loop-p-test.true }
+    record { positions_value = (u, omega (arith, u, c.column_shift.ensures)); add_product_input = term_input c.requires l.p l.auto.p c.loop-p-test.true }
 
 pub loop-p-preserved : goal.loop-p-preserved
 loop-p-preserved c = let l = c.loop-p in
     let a = c.args in
-    let r = inverse_at nan a.n a.scratch.now a.result_values.now a.i in (
-      omega (arith, l.invariant.0),
-      omega (arith, c.loop-p-test.true),
-      λ s h q.
-          c.add_product-sum.ensures ∙ ap (λ (x : Float). with_product a.rows.now a.values.now a.j r l.p x) (l.invariant.2 s h q)
-          ∙ sym (sum_between_next a.rows.now a.values.now a.j r s l.p (omega (arith, l.invariant.0))),
-    )
-
-pub returns : goal.returns
-returns c = let l = c.loop-p in
-    let a = c.args in
-    let e : l.p ≡ a.e = omega (arith, c.loop-p-test.false, l.invariant.1) in
-    let t : ℕ → SumTerms = λ k. sum_terms a.n a.j a.first k a.rows.now a.values.now a.scratch.now in
-    subst (λ (k : ℕ). SumContinued (t k) a.result_values.now a.i a.start l.sum) e l.invariant.2
+    let r = inverse_at nan a.n a.scratch.now a.result_values.now a.i in
+    λ s h q.
+    c.add_product-sum.ensures ∙ ap (λ (x : Float). with_product a.rows.now a.values.now a.j r l.p x) (l.invariant s h q)
+    ∙ sym (sum_between_next a.rows.now a.values.now a.j r s l.p (omega (arith, l.auto.p)))

@@ -20,24 +20,24 @@ pub returns-then-n-r : goal.returns-then-n-r
 returns-then-n-r c =
     let m : 0 < length c.args.starts.now = omega arith in
     let a = c.args in
-    let passed = sym c.check_column.ensures ∙ ap reply_of c.in-Accepted.is in
+    let passed = sym c.check_column.ensures ∙ ap reply_of c.in-Ok.is in
     let inside : a.c < length a.starts.now - 1 = omega (arith, c.if-n-c.false) in
     record { place_value = c.unsearched-then-n-r.ensures.0 ∙ sym (entry_place_row _ _ _ _ _ m inside passed c.if-n-r.true); looks_value = c.unsearched-then-n-r.ensures.1 ∙ sym (entry_looks_row _ _ _ _ _ m inside passed c.if-n-r.true) }
 
 pub find_in_column-found-requires : goal.find_in_column-found-requires
-find_in_column-found-requires c = record { c_in_bounds = omega (arith, c.if-n-c.false); column = column_rows_lem (column_faults-sound _ _ _ _ (sym c.check_column.ensures ∙ ap reply_of c.in-Accepted.is)) }
+find_in_column-found-requires c = record { c_in_bounds = omega (arith, c.if-n-c.false); column = column_rows_lem (column_faults-sound _ _ _ _ (sym c.check_column.ensures ∙ ap reply_of c.in-Ok.is)) }
 
-pub returns-in-Refused : goal.returns-in-Refused
-returns-in-Refused c =
+pub returns-in-Err : goal.returns-in-Err
+returns-in-Err c =
     let m : 0 < length c.args.starts.now = omega arith in
     let a = c.args in
     let inside : a.c < length a.starts.now - 1 = omega (arith, c.if-n-c.false) in
-    let broken = sym c.check_column.ensures ∙ ap reply_of c.in-Refused.is in record { place_value = c.unsearched-in-Refused.ensures.0 ∙ sym (entry_place_broken _ _ _ _ _ m inside _ broken); looks_value = c.unsearched-in-Refused.ensures.1 ∙ sym (entry_looks_broken _ _ _ _ _ m inside _ broken) }
+    let broken = sym c.check_column.ensures ∙ ap reply_of c.in-Err.is in record { place_value = c.unsearched-in-Err.ensures.0 ∙ sym (entry_place_broken _ _ _ _ _ m inside _ broken); looks_value = c.unsearched-in-Err.ensures.1 ∙ sym (entry_looks_broken _ _ _ _ _ m inside _ broken) }
 
 pub returns-else-n-r : goal.returns-else-n-r
 returns-else-n-r c =
     let m : 0 < length c.args.starts.now = omega arith in
     let a = c.args in
-    let passed = sym c.check_column.ensures ∙ ap reply_of c.in-Accepted.is in
+    let passed = sym c.check_column.ensures ∙ ap reply_of c.in-Ok.is in
     let inside : a.c < length a.starts.now - 1 = omega (arith, c.if-n-c.false) in
     let below : a.r < length a.starts.now - 1 = omega (arith, c.if-n-r.false) in record { place_value = c.of_row.ensures ∙ c.find_in_column-found.ensures.place_value ∙ sym (entry_place_column _ _ _ _ _ m inside passed below); looks_value = c.find_in_column-found.ensures.looks_value ∙ sym (entry_looks_searched _ _ _ _ _ m inside passed below) }

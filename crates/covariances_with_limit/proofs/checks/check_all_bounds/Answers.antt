@@ -1,17 +1,26 @@
-use mathlib.Core.List.{List, [], ◌∷◌, ◌++◌}
-use lib.Dec.{ltb}
-use Rattle.refusal.specs.Bounds.{max_entries}
-use Rattle.refusal.specs.Steps.{Step}
-use Rattle.refusal.proofs.FirstOf.{verdicts}
-use Rattle.columns.specs.Columns.{bound_steps}
-use Rattle.columns.specs.Operator.{operator_bound_steps}
+use Rattle.std.proofs.Common.{sym, ◌∙◌}
+use Rattle.refusal.proofs.Returned.{returned}
+use Rattle.refusal.proofs.Steps.{append-refused, append_passed}
 use Rattle.covariances_with_limit.proofs.checks.check_all_bounds.Goals as goal
 
+pub returns-in_err-check_bounds : goal.returns-in_err-check_bounds
+returns-in_err-check_bounds c = returned _ _ c.from_residual.ensures.1
+    (append-refused _ _ _ tt (sym c.in_err-check_bounds.ensures))
+
+pub returns-in_err-check_operator_bounds : goal.returns-in_err-check_operator_bounds
+returns-in_err-check_operator_bounds c = returned _ _ c.from_residual-in_err-check_operator_bounds.ensures.1
+    (append_passed _ _ tt (sym c.in_ok-check_bounds.ensures)
+    ∙ append-refused _ _ _ tt (sym c.in_err-check_operator_bounds.ensures))
+
+pub returns-in_err-check_operator_bounds-2 : goal.returns-in_err-check_operator_bounds-2
+returns-in_err-check_operator_bounds-2 c = returned _ _ c.from_residual-in_err-check_operator_bounds-2.ensures.1
+    (append_passed _ _ tt (sym c.in_ok-check_bounds.ensures)
+    ∙ append_passed _ _ tt (sym c.in_ok-check_operator_bounds.ensures)
+    ∙ append-refused _ _ _ tt (sym c.in_err-check_operator_bounds-2.ensures))
+
 pub returns : goal.returns
-returns c = let a = c.args in
-    let firsts : List Step = operator_bound_steps a.a_row_starts.now a.a_columns.now in
-    let seconds : List Step = operator_bound_steps a.b_row_starts.now a.b_columns.now in
-    let counts : List Step = (1, ltb max_entries a.pairs) ∷ [] in
-    verdicts (bound_steps a.n a.entries) (firsts ++ (seconds ++ counts)) c.first_of-2.ensures c.check_bounds-factor.ensures
-    (verdicts firsts (seconds ++ counts) c.first_of.ensures c.check_operator_bounds-first.ensures
-    (verdicts seconds counts c.first_of-later.ensures c.check_operator_bounds-second.ensures c.check_pair_bound.ensures))
+returns c = c.check_pair_bound.ensures
+    ∙ sym
+    (append_passed _ _ tt (sym c.in_ok-check_bounds.ensures)
+    ∙ append_passed _ _ tt (sym c.in_ok-check_operator_bounds.ensures)
+    ∙ append_passed _ _ tt (sym c.in_ok-check_operator_bounds-2.ensures))

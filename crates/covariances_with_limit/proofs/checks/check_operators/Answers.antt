@@ -1,16 +1,19 @@
-use mathlib.Core.List.{List, [], ◌∷◌, ◌++◌}
-use Rattle.refusal.specs.Steps.{Step}
-use Rattle.refusal.proofs.FirstOf.{verdicts}
-use Rattle.columns.specs.Columns.{outside}
-use Rattle.columns.specs.Operator.{operator_rows, operator_steps}
+use Rattle.std.proofs.Common.{sym, ◌∙◌}
+use Rattle.refusal.proofs.Returned.{returned}
+use Rattle.refusal.proofs.Steps.{append-refused, append_passed}
 use Rattle.covariances_with_limit.proofs.checks.check_operators.Goals as goal
 
+pub returns-in_err-check_operator : goal.returns-in_err-check_operator
+returns-in_err-check_operator c = returned _ _ c.from_residual.ensures.1
+    (append-refused _ _ _ tt (sym c.in_err-check_operator.ensures))
+
+pub returns-in_err-check_operator-2 : goal.returns-in_err-check_operator-2
+returns-in_err-check_operator-2 c = returned _ _ c.from_residual-in_err-check_operator-2.ensures.1
+    (append_passed _ _ tt (sym c.in_ok-check_operator.ensures)
+    ∙ append-refused _ _ _ tt (sym c.in_err-check_operator-2.ensures))
+
 pub returns : goal.returns
-returns c = let a = c.args in
-    let firsts : List Step = operator_steps a.n a.a_row_starts.now a.a_columns.now a.a_weights in
-    let seconds : List Step = operator_steps a.n a.b_row_starts.now a.b_columns.now a.b_weights in
-    let rows : List Step =
-    (9, outside (operator_rows a.a_row_starts.now) a.a_rows.now) ∷ (9, outside (operator_rows a.b_row_starts.now) a.b_rows.now) ∷ [] in
-    verdicts firsts (seconds ++ rows) c.first_of-2.ensures c.check_operator-first.ensures
-    (verdicts seconds rows c.first_of.ensures c.check_operator-second.ensures
-    (rw (c.operator_rows.ensures, c.operator_rows-2.ensures) at c.check_rows-rows.ensures))
+returns c = (rw (c.operator_rows.ensures, c.operator_rows-2.ensures) at c.check_rows.ensures)
+    ∙ sym
+    (append_passed _ _ tt (sym c.in_ok-check_operator.ensures)
+    ∙ append_passed _ _ tt (sym c.in_ok-check_operator-2.ensures))

@@ -6,7 +6,6 @@ use mathlib.Core.Path.{◌≡◌, refl, sym, ap, ◌∙◌}
 use native.Mathlib.Nat.{eq-or-lt_of_le}
 use native.Mathlib.Omega.{arith}
 use Prim.Native.Nat.{ℕ, ◌≤◌, ◌<◌, ◌-◌, ◌+◌}
-use borrow.Author.Rules.{rules}
 use lib.Dec.{ltb}
 use lib.ListN.{length}
 use Rattle.lists.specs.Test.{any, any_none, any-hit, any_below, any_all, any_less, any_in_below, and_left, and_right}
@@ -43,7 +42,7 @@ module _ (n : ℕ) (starts rows : List ℕ) (c : ℕ) (sorted : unsorted starts 
       by_place k l false t = lt-leb _ _ (column_inside k (ltb-false _ _ t) l)
 
 pub loop-c-init : goal.loop-c-init
-loop-c-init c = (search rules, rw c.requires.0.zero (any_none _))
+loop-c-init c = rw c.requires.0.zero (any_none _)
 
 pub last_outside-requires : goal.last_outside-requires
 last_outside-requires c = rw c.at.ensures (starts_end c.requires.0 _ (omega arith))
@@ -56,15 +55,13 @@ returns-then-last_outside c = let e = c.at.result in
     sym (any-hit (outside_at c.args.n c.args.rows.now) (length c.args.rows.now) (e - 1) (omega arith) (and_right (ltb 0 e) _ t))
 
 pub loop-c-preserved : goal.loop-c-preserved
-loop-c-preserved c = (
-  search rules,
-  next-inside c.args.n c.args.starts.now c.args.rows.now c.loop-c.c
-      (any_below (unsorted c.args.starts.now c.args.rows.now) c.args.n c.loop-c.c c.requires.1 (omega arith))
-      (rw c.at.ensures at (sym c.last_outside.ensures ∙ c.if-last_outside.false))
-      c.loop-c.invariant.1,
-)
+loop-c-preserved c =
+    next-inside c.args.n c.args.starts.now c.args.rows.now c.loop-c.c
+    (any_below (unsorted c.args.starts.now c.args.rows.now) c.args.n c.loop-c.c c.requires.1 (omega arith))
+    (rw c.at.ensures at (sym c.last_outside.ensures ∙ c.if-last_outside.false))
+    c.loop-c.invariant
 
 pub returns : goal.returns
-returns c = let i = c.loop-c in
-    let q : i.c ≡ c.args.n = omega arith in
-    sym (any_less _ _ _ i.invariant.1 (omega (arith, c.requires.0.last, ap (start c.args.starts.now) q)))
+returns c =
+    let q : c.loop-c.c ≡ c.args.n = omega arith in
+    sym (any_less _ _ _ c.loop-c.invariant (omega (arith, c.requires.0.last, ap (start c.args.starts.now) q)))

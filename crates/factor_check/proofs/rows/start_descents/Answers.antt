@@ -1,12 +1,11 @@
 use borrow.Author.Tests.{ltb-true, ltb-false, lt-ltb, le-ltb}
 use mathlib.Core.Bool.{Bool, true, false, ◌||◌}
 use mathlib.Core.Logic.{⊎_elim}
-use mathlib.Core.Path.{◌≡◌, refl, sym, ap, ap₂, subst, ◌∙◌}
+use mathlib.Core.Path.{◌≡◌, refl, sym, ap, ap₂, ◌∙◌}
 use native.Mathlib.Omega.{arith}
-use Prim.Native.Nat.{ℕ, ◌≤◌, ◌<◌, ◌-◌, ◌+◌}
-use borrow.Author.Rules.{rules}
+use Prim.Native.Nat.{ℕ, ◌≤◌, ◌<◌, ◌+◌}
 use lib.Dec.{ltb}
-use Rattle.lists.specs.Test.{any, any_none, any_next, or_cases, or_left, or_right, same_truth}
+use Rattle.lists.specs.Test.{any_none, any_next, or_cases, or_left, or_right, same_truth}
 use Rattle.lists.specs.Select.{tally, tally_most, any_in-tally}
 use Rattle.columns.specs.Columns.{start, not_above, unsorted}
 use Rattle.columns.proofs.Factor.{starts_end}
@@ -36,8 +35,7 @@ gain c = rw (c.at.ensures, c.at-in-loop-c.ensures) at c.start_descent-count.ensu
 
 pub loop-c-init : goal.loop-c-init
 loop-c-init c = (
-  search rules,
-  search rules,
+  omega arith,
   any_none _
       ∙ sym (le-ltb 0 (tally (not_above c.args.rows.now) 1 (start c.args.starts.now 0))
       (omega (arith, tally_most (not_above c.args.rows.now) 1 (start c.args.starts.now 0), c.requires.zero))),
@@ -57,17 +55,9 @@ overflow_add-count c = omega (
 
 pub loop-c-preserved : goal.loop-c-preserved
 loop-c-preserved c = (
-  search rules,
   omega (arith, gain c),
   any_next (unsorted c.args.starts.now c.args.rows.now) c.loop-c.c
-      ∙ ap₂ ◌||◌ c.loop-c.invariant.2 (any_in-tally (not_above c.args.rows.now) _ _)
-      ∙ falls-short c.loop-c.count _ c.start_descent-count.result _ c.loop-c.invariant.1
+      ∙ ap₂ ◌||◌ c.loop-c.invariant.1 (any_in-tally (not_above c.args.rows.now) _ _)
+      ∙ falls-short c.loop-c.count _ c.start_descent-count.result _ c.loop-c.invariant.0
       ∙ ap (ltb (c.loop-c.count + c.start_descent-count.result)) (sym (gain c)),
 )
-
-pub returns : goal.returns
-returns c = let i = c.loop-c in
-    let q : i.c ≡ c.args.n = omega arith in
-    subst
-    (λ (k : ℕ). any (unsorted c.args.starts.now c.args.rows.now) k ≡ ltb i.count (tally (not_above c.args.rows.now) 1 (start c.args.starts.now k)))
-    q i.invariant.2

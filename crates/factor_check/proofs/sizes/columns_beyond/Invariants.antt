@@ -1,12 +1,8 @@
 use mathlib.Core.Bool.{false}
 use mathlib.Core.Path.{◌≡◌}
-use Prim.Native.Nat.{◌≤◌, ◌-◌}
 use Rattle.lists.specs.Test.{any}
 use Rattle.entries.specs.WholeTable.{kept_exceeds}
 use Rattle.factor_check.proofs.sizes.columns_beyond.Given as goal
 
 abbrev pub invariant-loop-c : goal.invariant-loop-c
-invariant-loop-c l = (l.c ≤ l.n) × (any (kept_exceeds l.starts l.rows l.values) l.c ≡ false)
-
-abbrev pub decreases-loop-c : goal.decreases-loop-c
-decreases-loop-c l = l.n - l.c
+invariant-loop-c l = any (kept_exceeds l.starts l.rows l.values) l.c ≡ false

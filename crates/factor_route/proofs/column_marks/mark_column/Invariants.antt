@@ -1,9 +1,5 @@
 use Rattle.factor_route.specs.ColumnMarks.{desc_between, ColumnMarked}
-use Prim.Native.Nat.{◌≤◌, ◌-◌}
 use Rattle.factor_route.proofs.column_marks.mark_column.Given as goal
 
 abbrev pub invariant-loop-p : goal.invariant-loop-p
-invariant-loop-p l = (l.s ≤ l.p) × (l.p ≤ l.e) × ColumnMarked (desc_between l.rows l.values l.c l.s l.p) l.m l.initial.marker l.initial.weights l.initial.sums l.marker l.weights l.sums
-
-abbrev pub decreases-loop-p : goal.decreases-loop-p
-decreases-loop-p l = l.e - l.p
+invariant-loop-p l = ColumnMarked (desc_between l.rows l.values l.c l.s l.p) l.m l.initial.marker l.initial.weights l.initial.sums l.marker l.weights l.sums

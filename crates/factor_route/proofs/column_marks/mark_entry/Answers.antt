@@ -1,5 +1,4 @@
 use Rattle.factor_route.proofs.MarkLaws.{entry_above, entry_zero, entry_kept}
-use Prim.Native.Nat.{◌-◌}
 use Rattle.factor_route.proofs.column_marks.mark_entry.Goals as goal
 
 pub returns-then-r-c : goal.returns-then-r-c

@@ -1,6 +1,5 @@
 use Rattle.factor_route.proofs.ScatterLaws.{ahead_mark, column_start, column_next, column_end_lem}
 use native.Mathlib.Omega.{arith}
-use Prim.Native.Nat.{◌-◌}
 use Rattle.factor_route.proofs.column_scatter.scatter_column.Goals as goal
 
 pub loop-t-init : goal.loop-t-init

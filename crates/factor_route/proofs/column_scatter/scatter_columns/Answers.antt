@@ -1,7 +1,6 @@
 use Rattle.factor_route.proofs.WalkLaws.{scattered_none, scattered_next, scattered_end}
 use borrow.Author.Rules.{rules}
 use native.Mathlib.Omega.{arith}
-use Prim.Native.Nat.{◌-◌}
 use Rattle.factor_route.proofs.column_scatter.scatter_columns.Goals as goal
 
 pub loop-c-init : goal.loop-c-init

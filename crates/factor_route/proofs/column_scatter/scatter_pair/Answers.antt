@@ -1,6 +1,5 @@
 use Rattle.factor_route.proofs.ScatterLaws.{ahead_mark, pair_second, pair_start, pair_next, pair_end}
 use native.Mathlib.Omega.{arith}
-use Prim.Native.Nat.{◌-◌}
 use Rattle.factor_route.proofs.column_scatter.scatter_pair.Goals as goal
 
 pub bounds-values-a : goal.bounds-values-a

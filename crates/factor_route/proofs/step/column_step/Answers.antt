@@ -1,5 +1,4 @@
 use Rattle.scatter.specs.Scatter.{stepped}
-use Prim.Native.Nat.{◌-◌}
 use Rattle.factor_route.proofs.step.column_step.Goals as goal
 
 pub returns : goal.returns

@@ -2,30 +2,22 @@ use Rattle.fill.proofs.KeptLaws.{unmarked_column, choice_starts, choice_column, 
 use Rattle.lists.specs.Test.{any, any_none, any_more}
 use mathlib.Core.Path.{subst, ◌≡◌, sym, ◌∙◌}
 use mathlib.Core.Bool.{false}
-use borrow.Author.Rules.{rules}
 use native.Mathlib.Omega.{arith}
-use Prim.Native.Nat.{ℕ, ◌-◌}
+use Prim.Native.Nat.{ℕ}
 use Rattle.fill.proofs.kept_pattern.closure_is_cholesky_factor_pattern.Goals as goal
+use Rattle.fill.proofs.kept_pattern.closure_is_cholesky_factor_pattern.Goals.{After-unmarked_pattern}
 
 -- what the call says of the column
-column-Then-unmarked_pattern : (c : goal.Then-unmarked_pattern) →
+column : (c : After-unmarked_pattern) →
     let z = c.args in
-    c.unmarked_pattern.result ≡ unmarked_column z.n z.scratch.now z.starts.now z.rows.now z.values.now
-    c.loop-c.c
-column-Then-unmarked_pattern c = rw (← c.at.ensures, ← c.at-in-loop-c.ensures) c.unmarked_pattern.ensures
-
--- what the call says of the column
-column-Else-unmarked_pattern : (c : goal.Else-unmarked_pattern) →
-    let z = c.args in
-    c.unmarked_pattern.result ≡ unmarked_column z.n z.scratch.now z.starts.now z.rows.now z.values.now
-    c.loop-c.c
-column-Else-unmarked_pattern c = rw (← c.at.ensures, ← c.at-in-loop-c.ensures) c.unmarked_pattern.ensures
+    c.unmarked_pattern.result ≡ unmarked_column z.n z.scratch.now z.starts.now z.rows.now z.values.now c.loop-c.c
+column c = rw (← c.at.ensures, ← c.at-in-loop-c.ensures) c.unmarked_pattern.ensures
 
 pub returns-then-closure_pairs-factor_pairs : goal.returns-then-closure_pairs-factor_pairs
 returns-then-closure_pairs-factor_pairs c = sym (choice_sizes c.requires c.if-closure_pairs-factor_pairs.true)
 
 pub loop-c-init : goal.loop-c-init
-loop-c-init c = (search rules, any_none _)
+loop-c-init c = any_none _
 
 pub at-requires : goal.at-requires
 at-requires c = let h = choice_starts c.requires c.loop-c.c (omega arith) in
@@ -43,19 +35,16 @@ unmarked_pattern-requires c = (choice_column c.requires c.loop-c.c c.at.result c
 
 pub returns-then-unmarked_pattern : goal.returns-then-unmarked_pattern
 returns-then-unmarked_pattern c = let i = c.loop-c in
-    sym (choice_missing c.requires i.c (omega arith) (sym (column-Then-unmarked_pattern c) ∙ c.if-unmarked_pattern.true))
+    sym (choice_missing c.requires i.c (omega arith) (sym (column (goal.at.returns-then-unmarked_pattern c).After-unmarked_pattern) ∙ c.if-unmarked_pattern.true))
 
 pub loop-c-preserved : goal.loop-c-preserved
 loop-c-preserved c = let z = c.args in
-    let i = c.loop-c in (
-      omega arith,
-      any_more (unmarked_column z.n z.scratch.now z.starts.now z.rows.now z.values.now) i.c i.invariant.1
-          (sym (column-Else-unmarked_pattern c) ∙ c.if-unmarked_pattern.false),
-    )
+    let i = c.loop-c in any_more (unmarked_column z.n z.scratch.now z.starts.now z.rows.now z.values.now) i.c i.invariant
+    (sym (column (goal.at.loop-c-preserved c).After-unmarked_pattern) ∙ c.if-unmarked_pattern.false)
 
 pub returns : goal.returns
 returns c = let i = c.loop-c in
     let q : i.c ≡ c.args.n = omega arith in
     sym (choice_same c.requires c.if-closure_pairs-factor_pairs.false
     (subst (λ (k : ℕ). any (unmarked_column c.args.n c.args.scratch.now c.args.starts.now c.args.rows.now c.args.values.now) k
-    ≡ false) q i.invariant.1))
+    ≡ false) q i.invariant))

@@ -2,7 +2,6 @@ use Rattle.fill.proofs.KeptLaws.{unmarked_above, unmarked_zero, unmarked_kept}
 use Rattle.pairs.proofs.Scratch.{queue_start_mark}
 use Rattle.pairs.proofs.ColumnOrder.{column_place_below}
 use native.Mathlib.Omega.{arith}
-use Prim.Native.Nat.{◌-◌}
 use Rattle.fill.proofs.kept_pattern.unmarked_entry.Goals as goal
 
 pub returns-then-r-c : goal.returns-then-r-c

@@ -9,8 +9,7 @@ pub loop-i-init : goal.loop-i-init
 loop-i-init c = applied_none _ _ _
 
 pub overflow_add-floor_hits : goal.overflow_add-floor_hits
-overflow_add-floor_hits c = let a = c.args in
-    omega (arith, c.loop-i.invariant.counted, c.loop-i.invariant.within, tally_most (hit a.floor_value a.values.now) 0 c.loop-i.i)
+overflow_add-floor_hits c = omega (arith, c.loop-i.invariant.counted, tally_most (hit c.args.floor_value c.args.values.now) 0 c.loop-i.i)
 
 pub loop-i-preserved : goal.loop-i-preserved
 loop-i-preserved c = let a = c.args in
@@ -20,5 +19,6 @@ loop-i-preserved c = let a = c.args in
 
 pub returns : goal.returns
 returns c =
-    let p = applied_all c.args.floor_value c.args.values.now c.args.output.now c.loop-i.invariant c.loop-i-test.false in
+    let a = c.args in
+    let p = applied_all a.floor_value a.values.now a.output.now c.loop-i.invariant (omega arith) in
     record { value = p.0; output_after = p.1 }

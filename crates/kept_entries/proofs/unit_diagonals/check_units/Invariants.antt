@@ -1,4 +1,4 @@
-use Prim.Native.Nat.{ℕ, ◌-◌, ◌≤◌}
+use Prim.Native.Nat.{ℕ}
 use mathlib.Core.Path.{◌≡◌}
 use mathlib.Core.Bool.{Bool, false}
 use mathlib.Core.List.{List}
@@ -17,7 +17,4 @@ abbrev pub none : List ℕ → List ℕ → List ℤ → ℕ → Bool
 none starts rows values = no_diagonal starts rows (whole_nonzero values)
 
 abbrev pub invariant-loop-c : goal.invariant-loop-c
-invariant-loop-c l = (l.c ≤ l.n) × (any (other l.starts l.rows l.values) l.c ≡ false) × (l.missing ≡ any (none l.starts l.rows l.values) l.c)
-
-abbrev pub decreases-loop-c : goal.decreases-loop-c
-decreases-loop-c l = l.n - l.c
+invariant-loop-c l = (any (other l.starts l.rows l.values) l.c ≡ false) × (l.missing ≡ any (none l.starts l.rows l.values) l.c)

@@ -1,4 +1,3 @@
-use Prim.Native.Nat.{◌≤◌, ◌-◌}
 use mathlib.Core.Path.{◌≡◌}
 use mathlib.Core.Bool.{false}
 use Rattle.lists.specs.Test.{any}
@@ -8,7 +7,4 @@ use Rattle.levels.proofs.BackLaws.{either}
 use Rattle.levels.proofs.chain.pair_before.Given as goal
 
 abbrev pub invariant-loop-j : goal.invariant-loop-j
-invariant-loop-j l = (l.j ≤ l.c) × (any (either (pattern l.starts l.rows (nonzero l.values)) (level_word l.n l.scratch) l.level l.r l.c) l.j ≡ false)
-
-abbrev pub decreases-loop-j : goal.decreases-loop-j
-decreases-loop-j l = l.c - l.j
+invariant-loop-j l = any (either (pattern l.starts l.rows (nonzero l.values)) (level_word l.n l.scratch) l.level l.r l.c) l.j ≡ false

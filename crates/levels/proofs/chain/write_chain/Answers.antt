@@ -1,13 +1,12 @@
 use native.Mathlib.Omega.{arith}
-use Prim.Native.Nat.{◌<◌, ◌-◌}
+use Prim.Native.Nat.{◌-◌, ◌+◌}
 use mathlib.Core.Path.{◌≡◌, ◌∙◌}
-use lib.ListN.{length-set}
 use Rattle.columns.specs.Kept.{nonzero, pattern}
 use Rattle.levels.specs.Levels.{level_word}
 use Rattle.levels.specs.Back.{levels_back, levels_back-length}
 use Rattle.levels.specs.Written.{rows_of, columns_of}
 use Rattle.levels.proofs.BackLaws.{back_range}
-use Rattle.levels.proofs.WriteLaws.{overwrite_set, map_long, whole_length, writing_rows, writing_columns, writing_row_room, writing_column_room, writing_last, writing_step, writing_end}
+use Rattle.levels.proofs.WriteLaws.{overwrite_set, map_long, writing_last, writing_step, writing_end}
 use Rattle.levels.proofs.chain.write_chain.Goals as goal
 
 pub loop-k-init : goal.loop-k-init
@@ -24,67 +23,29 @@ pair_before-before-requires c = let B = c.requires.back in
 pub overflow_cast-chain_rows-in-loop-k : goal.overflow_cast-chain_rows-in-loop-k
 overflow_cast-chain_rows-in-loop-k c = let a = c.args in
     let desc = pattern a.starts.now a.rows.now (nonzero a.values.now) in
-    let g = back_range desc (level_word a.n a.scratch.now) c.loop-k.k c.loop-k.row c.loop-k.column c.loop-k.invariant.ordered in
+    let g = back_range desc (level_word a.n a.scratch.now) (c.loop-k.k - 1 + 1) c.loop-k.row c.loop-k.column c.loop-k.invariant.ordered in
     omega (arith, c.pair_before-before.ensures.row_value, g.1, c.loop-k.invariant.inside, c.requires.back.small)
-
-pub offset_bounds-chain_rows-k-in-loop-k : goal.offset_bounds-chain_rows-k-in-loop-k
-offset_bounds-chain_rows-k-in-loop-k c = let a = c.args in
-    let desc = pattern a.starts.now a.rows.now (nonzero a.values.now) in
-    let W = level_word a.n a.scratch.now in
-    let m : c.loop-k.k < a.level = omega (arith, whole_length desc W c.loop-k.invariant, levels_back-length desc W (a.level - 1) a.r a.c, c.requires.positive) in
-    omega (arith, m, c.requires.short, c.requires.back.small)
-
-pub bounds-chain_rows-k-in-loop-k : goal.bounds-chain_rows-k-in-loop-k
-bounds-chain_rows-k-in-loop-k c = let a = c.args in
-    let desc = pattern a.starts.now a.rows.now (nonzero a.values.now) in
-    let h = writing_row_room desc (level_word a.n a.scratch.now) c.loop-k.invariant in
-    omega (arith, h)
 
 pub overflow_cast-chain_columns-in-loop-k : goal.overflow_cast-chain_columns-in-loop-k
 overflow_cast-chain_columns-in-loop-k c = let a = c.args in
     let desc = pattern a.starts.now a.rows.now (nonzero a.values.now) in
-    let g = back_range desc (level_word a.n a.scratch.now) c.loop-k.k c.loop-k.row c.loop-k.column c.loop-k.invariant.ordered in
+    let g = back_range desc (level_word a.n a.scratch.now) (c.loop-k.k - 1 + 1) c.loop-k.row c.loop-k.column c.loop-k.invariant.ordered in
     omega (arith, c.pair_before-before.ensures.row_value, c.pair_before-before.ensures.column_value, g.0, g.1, c.loop-k.invariant.inside, c.requires.back.small)
-
-pub offset_bounds-chain_columns-k-in-loop-k : goal.offset_bounds-chain_columns-k-in-loop-k
-offset_bounds-chain_columns-k-in-loop-k c = let a = c.args in
-    let desc = pattern a.starts.now a.rows.now (nonzero a.values.now) in
-    let W = level_word a.n a.scratch.now in
-    let m : c.loop-k.k < a.level = omega (arith, whole_length desc W c.loop-k.invariant, levels_back-length desc W (a.level - 1) a.r a.c, c.requires.positive) in
-    omega (arith, m, c.requires.short, c.requires.back.small)
-
-pub bounds-chain_columns-k-in-loop-k : goal.bounds-chain_columns-k-in-loop-k
-bounds-chain_columns-k-in-loop-k c = let a = c.args in
-    let desc = pattern a.starts.now a.rows.now (nonzero a.values.now) in
-    let h = writing_column_room desc (level_word a.n a.scratch.now) c.loop-k.invariant in
-    omega (arith, h)
 
 pub loop-k-preserved : goal.loop-k-preserved
 loop-k-preserved c = let a = c.args in
     let desc = pattern a.starts.now a.rows.now (nonzero a.values.now) in
     let W = level_word a.n a.scratch.now in
-    let g = back_range desc W c.loop-k.k c.loop-k.row c.loop-k.column c.loop-k.invariant.ordered in
+    let g = back_range desc W (c.loop-k.k - 1 + 1) c.loop-k.row c.loop-k.column c.loop-k.invariant.ordered in
     writing_step desc W c.loop-k.invariant c.loop-k-test.true c.pair_before-before.result.row c.pair_before-before.result.column c.pair_before-before.ensures.row_value c.pair_before-before.ensures.column_value
     (omega (arith, c.pair_before-before.ensures.row_value, c.pair_before-before.ensures.column_value, g.0))
     (omega (arith, c.pair_before-before.ensures.row_value, g.1, c.loop-k.invariant.inside))
-
-pub shape_of-chain_rows : goal.shape_of-chain_rows
-shape_of-chain_rows c = let a = c.args in
-    let desc = pattern a.starts.now a.rows.now (nonzero a.values.now) in
-    let W = level_word a.n a.scratch.now in
-    writing_rows desc W c.loop-k.invariant ∙ length-set a.chain_rows.now _ _
-
-pub shape_of-chain_columns : goal.shape_of-chain_columns
-shape_of-chain_columns c = let a = c.args in
-    let desc = pattern a.starts.now a.rows.now (nonzero a.values.now) in
-    let W = level_word a.n a.scratch.now in
-    writing_columns desc W c.loop-k.invariant ∙ length-set a.chain_columns.now _ _
 
 pub returns : goal.returns
 returns c = let a = c.args in
     let desc = pattern a.starts.now a.rows.now (nonzero a.values.now) in
     let W = level_word a.n a.scratch.now in
     let whole = levels_back desc W (a.level - 1) a.r a.c in
-    let e : c.loop-k.k ≡ 0 = omega (arith, c.loop-k-test.false) in
+    let e : c.loop-k.k ≡ 0 = omega arith in
     let n = levels_back-length desc W (a.level - 1) a.r a.c in
     let T = writing_end desc W e c.loop-k.invariant in record { chain_rows_after = T.0 ∙ overwrite_set (rows_of whole) a.chain_rows.now (a.level - 1) a.r (omega (arith, n, map_long (λ p. p.0) whole)); chain_columns_after = T.1 ∙ overwrite_set (columns_of whole) a.chain_columns.now (a.level - 1) a.c (omega (arith, n, map_long (λ p. p.1) whole)) }

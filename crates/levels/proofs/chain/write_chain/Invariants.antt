@@ -8,6 +8,3 @@ use Rattle.levels.proofs.chain.write_chain.Given as goal
 abbrev pub invariant-loop-k : goal.invariant-loop-k
 invariant-loop-k l = Writing (pattern l.starts l.rows (nonzero l.values)) (level_word l.n l.scratch) (levels_back (pattern l.starts l.rows (nonzero l.values)) (level_word l.n l.scratch) (l.level - 1) l.r l.c) l.n l.row l.column l.k
     l.initial.chain_rows l.initial.chain_columns l.chain_rows l.chain_columns
-
-abbrev pub decreases-loop-k : goal.decreases-loop-k
-decreases-loop-k l = l.k

@@ -1,4 +1,3 @@
-use Prim.Native.Nat.{◌≤◌, ◌-◌}
 use Rattle.lists.specs.Test.{any_in}
 use Rattle.columns.specs.Kept.{nonzero, pattern}
 use Rattle.levels.specs.Levels.{level_queue, Raised}
@@ -6,7 +5,4 @@ use Rattle.levels.specs.Closing.{word_depends}
 use Rattle.levels.proofs.closing.close_level.Given as goal
 
 abbrev pub invariant-loop-j : goal.invariant-loop-j
-invariant-loop-j l = (l.lo ≤ l.j) × (l.j ≤ l.hi) × Raised l.n l.level (λ x y. any_in (λ i. word_depends (pattern l.starts l.rows (nonzero l.values)) (level_queue l.n l.initial.scratch i) x y) l.lo l.j) l.initial.scratch l.hi l.scratch l.count
-
-abbrev pub decreases-loop-j : goal.decreases-loop-j
-decreases-loop-j l = l.hi - l.j
+invariant-loop-j l = Raised l.n l.level (λ x y. any_in (λ i. word_depends (pattern l.starts l.rows (nonzero l.values)) (level_queue l.n l.initial.scratch i) x y) l.lo l.j) l.initial.scratch l.hi l.scratch l.count

@@ -1,4 +1,4 @@
-use Prim.Native.Nat.{ℕ, ◌≤◌, ◌-◌}
+use Prim.Native.Nat.{ℕ}
 use mathlib.Core.Bool.{Bool, ◌&&◌}
 use mathlib.Core.List.{List}
 use lib.Ieee.{Float}
@@ -14,7 +14,4 @@ abbrev pub entry_depends : List ℕ → List Float → ℕ → ℕ → ℕ → �
 entry_depends rows values r c p x y = kept_below rows (nonzero values) c p && ordered r (row rows p) x y
 
 abbrev pub invariant-loop-p : goal.invariant-loop-p
-invariant-loop-p l = (l.initial.p ≤ l.p) × (l.p ≤ l.end) × Raised l.n l.level (λ x y. any_in (λ q. entry_depends l.rows l.values l.r l.c q x y) l.initial.p l.p) l.initial.scratch l.count l.scratch l.total
-
-abbrev pub decreases-loop-p : goal.decreases-loop-p
-decreases-loop-p l = l.end - l.p
+invariant-loop-p l = Raised l.n l.level (λ x y. any_in (λ q. entry_depends l.rows l.values l.r l.c q x y) l.start l.p) l.initial.scratch l.count l.scratch l.total

@@ -1,5 +1,5 @@
 use native.Mathlib.Omega.{arith}
-use Prim.Native.Nat.{ℕ, ◌-◌}
+use Prim.Native.Nat.{ℕ}
 use mathlib.Core.Path.{◌≡◌, refl, ap, ◌∙◌}
 use lib.ListN.{length, get_or}
 use mathlib.Core.Bool.{Bool, cond}
@@ -13,29 +13,19 @@ use Rattle.levels.specs.Levels.{raised_none, raised_more, raised_cong}
 use Rattle.levels.proofs.InsertLaws.{levels_none}
 use Rattle.levels.proofs.closing.mark_levels.Invariants.{before}
 use Rattle.levels.proofs.closing.mark_levels.Goals as goal
+use Rattle.levels.proofs.closing.mark_levels.Goals.{After-clear}
 
 -- raised from words without a level
 from-none : {w : ℕ} → w ≡ 0 → (b : Bool) → cond (ltb 0 w) w (cond b 1 0) ≡ cond b 1 0
 from-none e b = rw e refl
 
 -- the words that were cleared
-words-cleared-After-slice_known-2-1 : (d : goal.After-slice_known-2-1) →
-    let a = d.args in
-    cleared d.pair_total.result a.scratch.now ≡ cleared (pair_total a.n) a.scratch.now
-words-cleared-After-slice_known-2-1 d = let a = d.args in ap (λ (m : ℕ). cleared m a.scratch.now) d.pair_total.ensures.0
-
--- the words that were cleared
-words-cleared-After-loop-i : (d : goal.After-loop-i) →
-    let a = d.args in
-    cleared d.pair_total.result a.scratch.now ≡ cleared (pair_total a.n) a.scratch.now
-words-cleared-After-loop-i d = let a = d.args in ap (λ (m : ℕ). cleared m a.scratch.now) d.pair_total.ensures.0
+words-cleared : (c : After-clear) → c.clear.new.words ≡ cleared (pair_total c.args.n) c.args.scratch.now
+words-cleared c = c.clear.ensures ∙ ap (λ (m : ℕ). cleared m c.args.scratch.now) c.pair_total.ensures.0
 
 pub loop-i-init : goal.loop-i-init
-loop-i-init c = let w = levels_none c.args.n _ _ c.requires.room (c.clear.ensures ∙ words-cleared-After-slice_known-2-1 (c)) in
-    (omega arith, raised_none _ (λ r k. any_none _) w.levels)
-
-pub at-requires-in-loop-i : goal.at-requires-in-loop-i
-at-requires-in-loop-i c = omega (arith, c.loop-i-test.true, c.requires.requests.equal)
+loop-i-init c = let w = levels_none c.args.n _ _ c.requires.room (words-cleared (goal.at.loop-i-init c).After-clear) in
+    raised_none _ (λ r k. any_none _) w.levels
 
 pub insert_level-count-requires : goal.insert_level-count-requires
 insert_level-count-requires c = let R = c.requires.requests in
@@ -44,28 +34,21 @@ insert_level-count-requires c = let R = c.requires.requests in
       first = omega (arith, c.at.ensures, R.rows_inside c.loop-i.i c.loop-i-test.true);
       second = omega (arith, c.at-in-loop-i.ensures, R.columns_inside c.loop-i.i (omega (arith, c.loop-i-test.true, R.equal)));
       positive = omega arith;
-      levels = c.loop-i.invariant.1.levels;
+      levels = c.loop-i.invariant.levels;
     }
 
 pub loop-i-preserved : goal.loop-i-preserved
 loop-i-preserved c = let rs = c.args.request_rows.now in
-    let cs = c.args.request_columns.now in (
-      omega (arith, c.loop-i-test.true),
-      raised_more (omega arith) (λ k. ordered (get_or rs k 0) (get_or cs k 0)) c.loop-i.i c.loop-i.invariant.1
-          (raised_cong (λ r k h l. ap₂ (λ (x y : ℕ). ordered x y r k) c.at.ensures c.at-in-loop-i.ensures) c.insert_level-count.ensures),
-    )
-
-pub shape_of-scratch : goal.shape_of-scratch
-shape_of-scratch c = let w = levels_none c.args.n _ _ c.requires.room (c.clear.ensures ∙ words-cleared-After-loop-i (c)) in
-    c.loop-i.invariant.1.long ∙ w.long
+    let cs = c.args.request_columns.now in raised_more (omega arith) (λ k. ordered (get_or rs k 0) (get_or cs k 0)) c.loop-i.i c.loop-i.invariant
+    (raised_cong (λ r k h l. ap₂ (λ (x y : ℕ). ordered x y r k) c.at.ensures c.at-in-loop-i.ensures) c.insert_level-count.ensures)
 
 pub returns : goal.returns
 unfolding requested
-returns c = let w = levels_none c.args.n _ _ c.requires.room (c.clear.ensures ∙ words-cleared-After-loop-i (c)) in
+returns c = let w = levels_none c.args.n _ _ c.requires.room (words-cleared (goal.at.returns c).After-clear) in
     let rs = c.args.request_rows.now in
     let cs = c.args.request_columns.now in
-    let e : c.loop-i.i ≡ length rs = omega (arith, c.loop-i-test.false, c.loop-i.invariant.0) in
-    let A = raised_cong (λ r k h l. ap (λ (j : ℕ). before rs cs j r k) e) c.loop-i.invariant.1 in
+    let e : c.loop-i.i ≡ length rs = omega arith in
+    let A = raised_cong (λ r k h l. ap (λ (j : ℕ). before rs cs j r k) e) c.loop-i.invariant in
     record {
       long = A.long ∙ w.long;
       words = λ r k h l. A.words r k h l ∙ from-none (w.words r k h l) (before rs cs (length rs) r k);

@@ -43,27 +43,27 @@ find_in_column-found-requires c = record { c_in_bounds = omega (arith, c.require
 pub offset_bounds-values-p : goal.offset_bounds-values-p
 offset_bounds-values-p c =
     let a = c.args in
-    let h = inside a.starts.now a.rows.now (length a.values.now) c.requires.well_formed a.c c.requires.c_bound c.in-At.p (sym c.find_in_column-found.ensures.place_value ∙ ap place_reply c.in-At.is) in
+    let h = inside a.starts.now a.rows.now (length a.values.now) c.requires.well_formed a.c c.requires.c_bound c.in-Some.p (sym c.find_in_column-found.ensures.place_value ∙ ap place_reply c.in-Some.is) in
     search rules
 
 pub bounds-values-p : goal.bounds-values-p
 bounds-values-p c =
     let a = c.args in
-    inside a.starts.now a.rows.now (length a.values.now) c.requires.well_formed a.c c.requires.c_bound c.in-At.p (sym c.find_in_column-found.ensures.place_value ∙ ap place_reply c.in-At.is)
+    inside a.starts.now a.rows.now (length a.values.now) c.requires.well_formed a.c c.requires.c_bound c.in-Some.p (sym c.find_in_column-found.ensures.place_value ∙ ap place_reply c.in-Some.is)
 
-pub returns-in-At : goal.returns-in-At
-returns-in-At c =
+pub returns-in-Some : goal.returns-in-Some
+returns-in-Some c =
     let a = c.args in
-    let e = sym c.find_in_column-found.ensures.place_value ∙ ap place_reply c.in-At.is in
+    let e = sym c.find_in_column-found.ensures.place_value ∙ ap place_reply c.in-Some.is in
     record {
-      value_value = found_value a.starts.now a.rows.now a.values.now c.requires.well_formed a.c c.requires.c_bound (answered c.in-At.p) e;
-      mark_value = found_mark a.starts.now a.rows.now a.values.now c.requires.well_formed a.c c.requires.c_bound (answered c.in-At.p) e;
+      value_value = found_value a.starts.now a.rows.now a.values.now c.requires.well_formed a.c c.requires.c_bound (answered c.in-Some.p) e;
+      mark_value = found_mark a.starts.now a.rows.now a.values.now c.requires.well_formed a.c c.requires.c_bound (answered c.in-Some.p) e;
     }
 
-pub returns-in-Absent : goal.returns-in-Absent
-returns-in-Absent c =
+pub returns-in-None : goal.returns-in-None
+returns-in-None c =
     let a = c.args in
-    let e = sym c.find_in_column-found.ensures.place_value ∙ ap place_reply c.in-Absent.is in
+    let e = sym c.find_in_column-found.ensures.place_value ∙ ap place_reply c.in-None.is in
     record {
       value_value = found_value a.starts.now a.rows.now a.values.now c.requires.well_formed a.c c.requires.c_bound (refused 8) e;
       mark_value = found_mark a.starts.now a.rows.now a.values.now c.requires.well_formed a.c c.requires.c_bound (refused 8) e;

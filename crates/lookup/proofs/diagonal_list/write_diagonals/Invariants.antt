@@ -1,15 +1,10 @@
-use Prim.Native.Nat.{◌≤◌, ◌-◌}
 use mathlib.Core.Path.{◌≡◌}
-use lib.ListN.{length}
 use lib.Ieee.{nan}
 use Rattle.lists.specs.Overwrite.{filled}
 use Rattle.columns.specs.Kept.{f0}
-use Rattle.result.specs.Lookup.{dimension, diagonal_of, mark_of}
+use Rattle.result.specs.Lookup.{diagonal_of, mark_of}
 use Rattle.lookup.proofs.diagonal_list.write_diagonals.Given as goal
 
 abbrev pub invariant-loop-c : goal.invariant-loop-c
-invariant-loop-c l = (l.c ≤ dimension l.starts) × (length l.output ≡ length l.initial.output) × (length l.marks ≡ length l.initial.marks) × (l.output ≡ filled (diagonal_of nan f0 l.starts l.rows l.values) l.c l.initial.output)
+invariant-loop-c l = (l.output ≡ filled (diagonal_of nan f0 l.starts l.rows l.values) l.c l.initial.output)
     × (l.marks ≡ filled (mark_of nan l.starts l.rows l.values) l.c l.initial.marks)
-
-abbrev pub decreases-loop-c : goal.decreases-loop-c
-decreases-loop-c l = dimension l.starts - l.c

@@ -1,22 +1,20 @@
-use mathlib.Core.Path.{ap, sym}
-use lib.Ieee.{nan}
-use borrow.Author.Rules.{rules}
+use Rattle.std.specs.Prelude.{ℕ, Result}
+use Rattle.std.proofs.Common.{refl, ap, sym, ◌∙◌}
+use Rattle.std.proofs.lemmas.List.{get_or_read_under}
 use Rattle.result.specs.Lookup.{value_at}
-use Rattle.column_search.specs.Reply.{pair_reply}
-use Rattle.column_search.specs.declared.pair_place.PairPlace.{PairPlace}
+use Rattle.refusal.specs.declared.Refusal.{Refusal}
+use Rattle.refusal.specs.Steps.{answered}
+use Rattle.refusal.specs.Refusal.{reply_of}
+use Rattle.refusal.proofs.Returned.{returned}
 use Rattle.lookup.proofs.ordered.value_at.Goals as goal
 
-pub offset_bounds-values-p : goal.offset_bounds-values-p
-offset_bounds-values-p c =
-    let h = c.requires.below c.in-At.p (ap pair_reply c.in-At.is) in
-    search rules
-
 pub bounds-values-p : goal.bounds-values-p
-bounds-values-p c =
-    c.requires.below c.in-At.p (ap pair_reply c.in-At.is)
+bounds-values-p g c = c.requires.below c.in_ok-p.p (ap reply_of c.in_ok-p.was)
 
-pub returns-in-At : goal.returns-in-At
-returns-in-At c = sym (ap (λ (q : PairPlace). value_at nan c.args.values.now (pair_reply q)) c.in-At.is)
+pub returns-in_err-p : goal.returns-in_err-p
+returns-in_err-p g c blank = returned _ _ c.from_residual.ensures.1 (ap (λ (q : Result ℕ Refusal). value_at blank c.args.values.now (reply_of q)) c.in_err-p.was)
 
-pub returns-in-Refused : goal.returns-in-Refused
-returns-in-Refused c = sym (ap (λ (q : PairPlace). value_at nan c.args.values.now (pair_reply q)) c.in-Refused.is)
+pub returns : goal.returns
+returns g c blank =
+    ap answered (get_or_read_under _ _ _ _ blank c.index-values-p.is (c.requires.below c.in_ok-p.p (ap reply_of c.in_ok-p.was)) refl)
+    ∙ sym (ap (λ (q : Result ℕ Refusal). value_at blank c.args.values.now (reply_of q)) c.in_ok-p.was)

@@ -15,4 +15,4 @@ value_at-requires c = let a = c.args in
     }
 
 pub returns : goal.returns
-returns c = c.value_at.ensures ∙ ap (value_at nan c.args.values.now) c.pair_place_within.ensures
+returns c = c.value_at.ensures nan ∙ ap (value_at nan c.args.values.now) c.pair_place_within.ensures

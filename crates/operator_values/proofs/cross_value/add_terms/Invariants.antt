@@ -1,4 +1,3 @@
-use Prim.Native.Nat.{◌≤◌, ◌-◌}
 use mathlib.Core.Path.{◌≡◌}
 use lib.Ieee.{nan}
 use Rattle.pairs.specs.Positions.{inverse_at}
@@ -9,7 +8,4 @@ use Rattle.quadratic_form.specs.RowValue.{term_column}
 use Rattle.operator_values.proofs.cross_value.add_terms.Given as goal
 
 abbrev pub invariant-loop-b : goal.invariant-loop-b
-invariant-loop-b l = (l.t ≤ l.b) × (l.b ≤ l.f) × (l.sum ≡ with_terms floats (term_column l.a_columns) (term_column l.b_columns) (value l.a_weights) (value l.b_weights) (inverse_at nan l.n l.scratch l.result_values) l.t l.b l.a l.first)
-
-abbrev pub decreases-loop-b : goal.decreases-loop-b
-decreases-loop-b l = l.f - l.b
+invariant-loop-b l = l.sum ≡ with_terms floats (term_column l.a_columns) (term_column l.b_columns) (value l.a_weights) (value l.b_weights) (inverse_at nan l.n l.scratch l.result_values) l.t l.b l.a l.first

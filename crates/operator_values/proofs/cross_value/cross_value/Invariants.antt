@@ -1,4 +1,3 @@
-use Prim.Native.Nat.{◌≤◌, ◌-◌}
 use mathlib.Core.Path.{◌≡◌}
 use lib.Ieee.{nan}
 use Rattle.pairs.specs.Positions.{inverse_at}
@@ -9,7 +8,4 @@ use Rattle.quadratic_form.specs.RowValue.{term_column}
 use Rattle.operator_values.proofs.cross_value.cross_value.Given as goal
 
 abbrev pub invariant-loop-a : goal.invariant-loop-a
-invariant-loop-a l = (l.s ≤ l.a) × (l.a ≤ l.e) × (l.sum ≡ sum_before floats (term_column l.a_columns) (term_column l.b_columns) (value l.a_weights) (value l.b_weights) (inverse_at nan l.n l.scratch l.result_values) l.s l.t l.f l.a)
-
-abbrev pub decreases-loop-a : goal.decreases-loop-a
-decreases-loop-a l = l.e - l.a
+invariant-loop-a l = l.sum ≡ sum_before floats (term_column l.a_columns) (term_column l.b_columns) (value l.a_weights) (value l.b_weights) (inverse_at nan l.n l.scratch l.result_values) l.s l.t l.f l.a

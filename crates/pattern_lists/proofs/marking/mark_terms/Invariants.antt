@@ -1,13 +1,7 @@
-use Prim.Native.Nat.{◌≤◌, ◌-◌, ◌+◌}
-use mathlib.Core.Path.{◌≡◌}
-use lib.ListN.{length}
 use Rattle.lists.specs.Test.{any_in}
 use Rattle.pairs.specs.Marks.{Added}
 use Rattle.pattern_lists.specs.PatternMarks.{term_set}
 use Rattle.pattern_lists.proofs.marking.mark_terms.Given as goal
 
 abbrev pub invariant-loop-b : goal.invariant-loop-b
-invariant-loop-b l = (length l.marks ≡ length l.initial.marks) × (l.s ≤ l.b) × (l.b ≤ l.a + 1) × Added (λ r c. any_in (λ b. term_set l.columns l.a b r c) l.s l.b) l.initial.marks l.marks
-
-abbrev pub decreases-loop-b : goal.decreases-loop-b
-decreases-loop-b l = l.a + 1 - l.b
+invariant-loop-b l = Added (λ r c. any_in (λ b. term_set l.columns l.a b r c) l.s l.b) l.initial.marks l.marks

@@ -1,6 +1,6 @@
-use Prim.Native.Nat.{ℕ, ◌-◌}
+use Prim.Native.Nat.{ℕ}
 use native.Mathlib.Omega.{arith}
-use mathlib.Core.Path.{◌≡◌, sym, subst, ◌∙◌}
+use mathlib.Core.Path.{◌≡◌, refl, sym, subst, ◌∙◌}
 use lib.ListN.{length}
 use Rattle.refusal.specs.Steps.{Passed, each}
 use Rattle.refusal.proofs.Steps.{each_refused}
@@ -9,44 +9,39 @@ use Rattle.permutation.proofs.ElementLaws.{looked_none, looked_more, element_lar
 use Rattle.permutation.proofs.elements.check_elements.Goals as goal
 
 pub loop-i-init : goal.loop-i-init
-loop-i-init c = (omega arith, looked_none _ _ _)
+loop-i-init c = looked_none _ _ _
 
 pub returns-then-n-p : goal.returns-then-n-p
-returns-then-n-p c = let l = c.loop-i in
-    let a = c.args in
-    sym
-    (each_refused (element_steps a.compared a.orig_to_perm.now a.perm_to_orig.now) _ l.i 10 tt c.loop-i-test.true l.invariant.1.passed
-    (element_large a.compared a.orig_to_perm.now a.perm_to_orig.now l.i l.seen l.invariant.1 (omega (arith, c.if-n-p.true, c.at-p.ensures))))
+returns-then-n-p c =
+    let l = c.loop-i in
+    sym (each_refused _ _ l.i 10 tt c.loop-i-test.true l.invariant.passed (element_large _ _ _ l.i l.seen l.invariant c.if-n-p.true))
 
 pub returns-then-seen-p : goal.returns-then-seen-p
-returns-then-seen-p c = let l = c.loop-i in
-    let a = c.args in
+returns-then-seen-p c =
+    let l = c.loop-i in
     sym
-    (each_refused (element_steps a.compared a.orig_to_perm.now a.perm_to_orig.now) _ l.i 11 tt c.loop-i-test.true l.invariant.1.passed
-    (element_repeated a.compared a.orig_to_perm.now a.perm_to_orig.now l.i l.seen l.invariant.1 c.at-p.result c.at-p.ensures
-    (omega (arith, c.if-n-p.false, c.at-p.ensures)) c.requires.orig_to_perm_len_bound c.if-seen-p.true))
+    (each_refused _ _ l.i 11 tt c.loop-i-test.true l.invariant.passed
+    (element_repeated _ _ _ l.i l.seen l.invariant _ refl c.if-n-p.false c.requires.orig_to_perm_len_bound c.if-seen-p.true))
 
 pub disagrees-requires : goal.disagrees-requires
-disagrees-requires c = λ e. let q = c.requires.orig_to_perm_in_bounds e in omega (arith, c.if-n-p.false)
+disagrees-requires c = λ e. omega (arith, c.requires.orig_to_perm_in_bounds e, c.if-n-p.false)
 
 pub returns-then-disagrees : goal.returns-then-disagrees
-returns-then-disagrees c = let l = c.loop-i in
-    let a = c.args in
+returns-then-disagrees c =
+    let l = c.loop-i in
     sym
-    (each_refused (element_steps a.compared a.orig_to_perm.now a.perm_to_orig.now) _ l.i 12 tt c.loop-i-test.true l.invariant.1.passed
-    (element_disagrees a.compared a.orig_to_perm.now a.perm_to_orig.now l.i l.seen l.invariant.1 c.at-p.result c.at-p.ensures
-    (omega (arith, c.if-n-p.false, c.at-p.ensures)) c.requires.orig_to_perm_len_bound c.if-seen-p.false (sym c.disagrees.ensures ∙ c.if-disagrees.true)))
+    (each_refused _ _ l.i 12 tt c.loop-i-test.true l.invariant.passed
+    (element_disagrees _ _ _ l.i l.seen l.invariant _ refl c.if-n-p.false c.requires.orig_to_perm_len_bound c.if-seen-p.false
+    (sym c.disagrees.ensures ∙ c.if-disagrees.true)))
 
 pub loop-i-preserved : goal.loop-i-preserved
-loop-i-preserved c = let l = c.loop-i in
-    let a = c.args in (
-      omega (arith, c.loop-i-test.true),
-      looked_more a.compared a.orig_to_perm.now a.perm_to_orig.now l.i l.seen l.invariant.1 c.at-p.result c.at-p.ensures
-          (omega (arith, c.if-n-p.false, c.at-p.ensures)) c.requires.orig_to_perm_len_bound c.if-seen-p.false (sym c.disagrees.ensures ∙ c.if-disagrees.false),
-    )
+loop-i-preserved c =
+    let l = c.loop-i in
+    looked_more _ _ _ l.i l.seen l.invariant _ refl c.if-n-p.false c.requires.orig_to_perm_len_bound c.if-seen-p.false
+    (sym c.disagrees.ensures ∙ c.if-disagrees.false)
 
 pub returns : goal.returns
-returns c = let l = c.loop-i in
+returns c =
     let a = c.args in
-    let e : l.i ≡ length a.orig_to_perm.now = omega (arith, c.loop-i-test.false, l.invariant.0) in
-    sym (subst (λ (k : ℕ). Passed (each (element_steps a.compared a.orig_to_perm.now a.perm_to_orig.now) k)) e l.invariant.1.passed)
+    let e : c.loop-i.i ≡ length a.orig_to_perm.now = omega (arith, c.loop-i-test.false, c.loop-i.auto.i-end) in
+    sym (subst (λ (k : ℕ). Passed (each (element_steps a.compared a.orig_to_perm.now a.perm_to_orig.now) k)) e c.loop-i.invariant.passed)

@@ -2,4 +2,4 @@ use Rattle.redstartgilt.proofs.dependency_chains.redstartgilt_dependency_chain.G
 
 pub returns : goal.returns
 returns c = let d = c.dependency_chain in
-    record { answer = d.result; shown = c.chain_numbers.ensures; called = d.ensures }
+    record { answer = d.result; shown = c.from.ensures; called = d.ensures }

@@ -3,4 +3,4 @@ use mathlib.Core.Path.{ap, ◌∙◌}
 use Rattle.redstartgilt.proofs.results.redstartgilt_get.Goals as goal
 
 pub returns : goal.returns
-returns c = c.entry_numbers.ensures ∙ ap entry_numbers c.get.ensures
+returns c = c.from.ensures ∙ ap entry_numbers c.get.ensures

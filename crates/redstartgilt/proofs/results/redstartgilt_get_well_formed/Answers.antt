@@ -3,4 +3,4 @@ use Rattle.c_replies.specs.Numbers.{entry_numbers}
 use Rattle.redstartgilt.proofs.results.redstartgilt_get_well_formed.Goals as goal
 
 pub returns : goal.returns
-returns c = c.entry_numbers.ensures ∙ ap entry_numbers c.get_well_formed.ensures
+returns c = c.from.ensures ∙ ap entry_numbers c.get_well_formed.ensures

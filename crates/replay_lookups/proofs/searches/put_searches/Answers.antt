@@ -6,8 +6,8 @@ use Rattle.replay_lookups.proofs.searches.put_searches.Goals as goal
 
 pub put_places-requires-clause-column : goal.put_places-requires-clause-column
 put_places-requires-clause-column _ c =
-    column_faults-sound _ _ _ 0 (sym c.check_column.ensures ∙ ap reply_of c.in-Accepted.is)
+    column_faults-sound _ _ _ 0 (sym c.check_column.ensures ∙ ap reply_of c.in-Ok.is)
 
 pub put_looks-requires-clause-column : goal.put_looks-requires-clause-column
 put_looks-requires-clause-column _ c =
-    column_faults-sound _ _ _ 0 (sym c.check_column.ensures ∙ ap reply_of c.in-Accepted.is)
+    column_faults-sound _ _ _ 0 (sym c.check_column.ensures ∙ ap reply_of c.in-Ok.is)

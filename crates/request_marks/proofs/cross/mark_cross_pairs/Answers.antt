@@ -1,6 +1,6 @@
-use Prim.Native.Nat.{ℕ, ◌<◌, ◌-◌, ◌+◌}
+use Prim.Native.Nat.{ℕ, ◌+◌}
 use native.Mathlib.Omega.{arith}
-use mathlib.Core.Path.{◌≡◌, sym, ap, ◌∙◌}
+use mathlib.Core.Path.{◌≡◌, sym, ap}
 use mathlib.Core.List.{List}
 use lib.ListN.{length, get_or}
 use Rattle.lists.specs.Test.{any, any_none}
@@ -22,38 +22,24 @@ same-marked : {n : ℕ} (as' ac bs' bc : List ℕ) {w w' : List ℕ} {count i j 
 same-marked as' ac bs' bc x y M = rw (sym x, sym y) M
 
 pub loop-p-init : goal.loop-p-init
-loop-p-init c = (omega arith, also_none _ (λ r k. any_none _) c.clear_pairs.ensures.marked)
-
-pub at-requires : goal.at-requires
-at-requires c = c.loop-p-test.true
-
-pub at-requires-in-loop-p : goal.at-requires-in-loop-p
-at-requires-in-loop-p c = omega (arith, c.loop-p-test.true, c.requires.pairs.paired)
+loop-p-init c = also_none _ (λ r k. any_none _) c.clear_pairs.ensures.marked
 
 pub mark_row_pair-count-requires : goal.mark_row_pair-count-requires
 mark_row_pair-count-requires c = let l = c.loop-p in
     let O = c.requires.pairs in
     let i< = O.inside l.p c.loop-p-test.true in
-    let j< = O.inside₂ l.p c.loop-p-test.true in record { i_bound = (omega (arith, c.at.ensures), omega (arith, c.at-in-loop-p.ensures)); row_input = same-input c.args.a_row_starts.now c.at.ensures (row_input c.requires.small O.first l.invariant.1.marked (get_or c.args.a_rows.now l.p 0) i<); row_input_2 = same-input c.args.b_row_starts.now c.at-in-loop-p.ensures (row_input c.requires.small O.second l.invariant.1.marked (get_or c.args.b_rows.now l.p 0) j<) }
-
-pub loop-p-smaller : goal.loop-p-smaller
-loop-p-smaller c = omega (arith, c.loop-p-test.true)
+    let j< = O.inside₂ l.p c.loop-p-test.true in record { i_bound = (omega (arith, c.at.ensures), omega (arith, c.at-in-loop-p.ensures)); row_input = same-input c.args.a_row_starts.now c.at.ensures (row_input c.requires.small O.first l.invariant.marked (get_or c.args.a_rows.now l.p 0) i<); row_input_2 = same-input c.args.b_row_starts.now c.at-in-loop-p.ensures (row_input c.requires.small O.second l.invariant.marked (get_or c.args.b_rows.now l.p 0) j<) }
 
 pub loop-p-preserved : goal.loop-p-preserved
 loop-p-preserved c = let l = c.loop-p in
     let a = c.args in
-    let step = same-marked a.a_row_starts.now a.a_columns.now a.b_row_starts.now a.b_columns.now c.at.ensures c.at-in-loop-p.ensures c.mark_row_pair-count.ensures in (
-      omega (arith, c.loop-p-test.true),
-      also_more (pair_set a.a_row_starts.now a.a_columns.now a.b_row_starts.now a.b_columns.now a.a_rows.now a.b_rows.now) l.p l.invariant.1 step,
-    )
-
-pub shape_of-scratch : goal.shape_of-scratch
-shape_of-scratch c = c.loop-p.invariant.1.gained.long ∙ c.clear_pairs.ensures.long
+    let step = same-marked a.a_row_starts.now a.a_columns.now a.b_row_starts.now a.b_columns.now c.at.ensures c.at-in-loop-p.ensures c.mark_row_pair-count.ensures in
+    also_more (pair_set a.a_row_starts.now a.a_columns.now a.b_row_starts.now a.b_columns.now a.a_rows.now a.b_rows.now) l.p l.invariant step
 
 pub returns : goal.returns
 unfolding cross_requested
 returns c = let a = c.args in
-    let e : c.loop-p.p ≡ length a.a_rows.now = omega (arith, c.loop-p-test.false, c.loop-p.invariant.0) in
+    let e : c.loop-p.p ≡ length a.a_rows.now = omega arith in
     pairs_cong
     (λ r k h l. ap (λ (j : ℕ). any (λ p. pair_set a.a_row_starts.now a.a_columns.now a.b_row_starts.now a.b_columns.now a.a_rows.now a.b_rows.now p r k) j) e)
-    (pairs_also c.clear_pairs.ensures c.loop-p.invariant.1)
+    (pairs_also c.clear_pairs.ensures c.loop-p.invariant)

@@ -1,5 +1,4 @@
-use Prim.Native.Nat.{ℕ, ◌-◌}
-use native.Mathlib.Omega.{arith}
+use Prim.Native.Nat.{ℕ}
 use mathlib.Core.Path.{◌≡◌, sym}
 use mathlib.Core.List.{List}
 use Rattle.marked_pairs.specs.MarkedPairs.{AlsoMarked}
@@ -15,29 +14,8 @@ same-marked : {n : ℕ} (ac bc : List ℕ) {w w' : List ℕ} {count s e t f s' e
     → AlsoMarked n (cross_set ac bc s e t f) w w' count → AlsoMarked n (cross_set ac bc s' e' t' f') w w' count
 same-marked ac bc x y z u M = rw (sym x, sym y, sym z, sym u) M
 
-pub at-s-requires : goal.at-s-requires
-at-s-requires c = omega (arith, c.requires.i_bound.0)
-
-pub overflow_add-i : goal.overflow_add-i
-overflow_add-i c = omega (arith, c.requires.i_bound.0)
-
-pub at-e-requires : goal.at-e-requires
-at-e-requires c = omega (arith, c.requires.i_bound.0)
-
-pub at-t-requires : goal.at-t-requires
-at-t-requires c = omega (arith, c.requires.i_bound.1)
-
-pub overflow_add-j : goal.overflow_add-j
-overflow_add-j c = omega (arith, c.requires.i_bound.1)
-
-pub at-f-requires : goal.at-f-requires
-at-f-requires c = omega (arith, c.requires.i_bound.1)
-
 pub mark_rows-requires : goal.mark_rows-requires
 mark_rows-requires c = record { row_input = same-input c.at-s.ensures c.at-e.ensures c.requires.row_input; row_input_2 = same-input c.at-t.ensures c.at-f.ensures c.requires.row_input_2 }
-
-pub shape_of-scratch : goal.shape_of-scratch
-shape_of-scratch c = c.mark_rows.ensures.gained.long
 
 pub returns : goal.returns
 returns c = let a = c.args in

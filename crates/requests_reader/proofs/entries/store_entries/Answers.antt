@@ -13,22 +13,9 @@ pub lowered-requires : goal.lowered-requires
 lowered-requires c = let fit = store_fits _ _ _ _ _ _ _ _ _ c.loop-k.invariant (search rules) _ _ _ c.known_entry-entry.ensures in
     (omega (arith, fit.0, fit.2), omega (arith, fit.1, fit.3))
 
-pub offset_bounds-rows-k : goal.offset_bounds-rows-k
-offset_bounds-rows-k c = let at = c.loop-k in omega (arith, at.invariant.rows_are.long)
-
-pub bounds-rows-k : goal.bounds-rows-k
-bounds-rows-k c = let at = c.loop-k in omega (arith, at.invariant.rows_are.long)
-
 pub lowered-requires-in-loop-k : goal.lowered-requires-in-loop-k
 lowered-requires-in-loop-k c = let fit = store_fits _ _ _ _ _ _ _ _ _ c.loop-k.invariant (search rules) _ _ _ c.known_entry-entry.ensures in
     (omega (arith, fit.0, fit.2), omega (arith, fit.1, fit.3))
-
-pub offset_bounds-columns-k : goal.offset_bounds-columns-k
-offset_bounds-columns-k c = let at = c.loop-k in omega (arith, at.invariant.columns_are.long)
-
-pub bounds-columns-k : goal.bounds-columns-k
-bounds-columns-k c = let at = c.loop-k in
-    omega (arith, at.invariant.columns_are.long)
 
 pub loop-k-preserved : goal.loop-k-preserved
 loop-k-preserved c = store_more _ _ _ _ _ _ _ _ _ c.loop-k.invariant (search rules) _ _ _ c.known_entry-entry.ensures _ _ c.lowered.ensures c.lowered-in-loop-k.ensures

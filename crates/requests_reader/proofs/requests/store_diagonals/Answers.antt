@@ -10,4 +10,4 @@ loop-k-preserved c = let l = c.loop-k in
     diagonal_more _ _ _ _ _ _ l.invariant c.loop-k-test.true c.requires.1 c.requires.2
 
 pub returns : goal.returns
-returns c = diagonal_end _ _ _ _ _ _ c.loop-k.invariant (search rules)
+returns c = diagonal_end _ _ _ _ _ _ c.loop-k.invariant (search rules) (search rules)

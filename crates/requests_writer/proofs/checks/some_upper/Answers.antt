@@ -9,7 +9,7 @@ use Rattle.requests_writer.specs.Writer.{some_upper}
 use Rattle.requests_writer.proofs.checks.some_upper.Goals as goal
 
 pub loop-k-init : goal.loop-k-init
-loop-k-init c = (search rules, any_none _)
+loop-k-init c = any_none _
 
 pub returns-then-at : goal.returns-then-at
 unfolding some_upper
@@ -22,8 +22,8 @@ pub loop-k-preserved : goal.loop-k-preserved
 loop-k-preserved c = let l = c.loop-k in
     let a = c.args in
     let h : get_or a.columns.now l.k 0 ≤ get_or a.rows.now l.k 0 = omega (arith, c.if-at.false, c.at.ensures, c.at-in-loop-k.ensures) in
-    (search rules, any_more _ _ l.invariant.1 (le-ltb _ _ h))
+    any_more _ _ l.invariant (le-ltb _ _ h)
 
 pub returns : goal.returns
 unfolding some_upper
-returns c = sym (any_less _ _ _ c.loop-k.invariant.1 (search rules))
+returns c = sym (any_less _ _ _ c.loop-k.invariant (search rules))

@@ -4,15 +4,15 @@ use Rattle.requests_writer.specs.Lines.{Wrote}
 use mathlib.Core.Bool.{Bool}
 use native.Mathlib.Omega.{arith}
 use Prim.Native.Nat.{◌≤◌, ◌+◌}
-use mathlib.Core.Path.{◌≡◌, refl, ap, sym, ◌∙◌}
+use mathlib.Core.Path.{◌≡◌, ap, sym}
 use lib.ListN.{length}
 use mathlib.Core.List.{◌++◌}
 use lib.ListN.{length-append}
 use Rattle.pairs.specs.ColumnOrder.{column_marking}
 use Rattle.pairs.proofs.ColumnOrder.{col_start_none, col_start_next}
 use Rattle.requests_writer.specs.Lines.{rows_bytes, columns_bytes}
-use Rattle.requests_writer.proofs.ByteLaws.{wrote_none, wrote_more, wrote_cong, wrote_length, columns_none, columns_mono}
-use Rattle.requests_writer.proofs.ColumnLaws.{column_input, rows_inside, columns_more, list_long, column_small}
+use Rattle.requests_writer.proofs.ByteLaws.{wrote_none, wrote_more, wrote_cong, columns_none, columns_mono}
+use Rattle.requests_writer.proofs.ColumnLaws.{column_input, rows_inside, columns_more, column_small}
 use Rattle.requests_writer.proofs.lines.write_lines.Goals as goal
 
 -- there is room for the column's lines
@@ -27,51 +27,37 @@ room_for n c S rows start next text₀ text h more room W long =
 
 pub loop-c-init : goal.loop-c-init
 loop-c-init c = let a = c.args in
-    (wrote_cong (sym (columns_none a.n (column_marking a.n a.marks.now))) (wrote_none a.start a.text.now), sym (col_start_none _), omega arith, refl, refl)
+    record { wrote = wrote_cong (sym (columns_none a.n (column_marking a.n a.marks.now))) (wrote_none a.start a.text.now); place_is = sym (col_start_none _) }
 
 pub list_bits-count-requires : goal.list_bits-count-requires
 list_bits-count-requires c = let P = c.requires.0 in
-    column_input _ _ _ _ P.small P.all c.loop-c.invariant.1 c.loop-c-test.true _ (omega (arith, P.room, c.loop-c.invariant.3))
+    column_input _ _ _ _ P.small P.all c.loop-c.invariant.place_is c.loop-c-test.true _ (omega (arith, P.room, c.loop-c.auto.list))
 
 pub write_rows-next-requires : goal.write_rows-next-requires
 write_rows-next-requires c =
     let a = c.args in
     let l = c.loop-c in
     let P = c.requires.0 in
-    let room : a.n ≤ length l.list = omega (arith, P.room, l.invariant.3) in
-    let more = columns_more _ _ _ _ P.small P.all l.invariant.1 c.loop-c-test.true _ _ _ room c.list_bits-count.ensures in
-    let behind = room_for a.n l.c (column_marking a.n a.marks.now) _ a.start l.next a.text.now l.text c.loop-c-test.true more c.requires.1 l.invariant.0 l.invariant.4 in
-    (rows_inside _ _ _ _ P.small P.all l.invariant.1 c.loop-c-test.true _ _ _ room c.list_bits-count.ensures, behind)
+    let room : a.n ≤ length l.list = omega (arith, P.room, l.auto.list) in
+    let more = columns_more _ _ _ _ P.small P.all l.invariant.place_is c.loop-c-test.true _ _ _ room c.list_bits-count.ensures in
+    let behind = room_for a.n l.c (column_marking a.n a.marks.now) _ a.start l.next a.text.now l.text c.loop-c-test.true more c.requires.1 l.invariant.wrote l.auto.text in
+    (rows_inside _ _ _ _ P.small P.all l.invariant.place_is c.loop-c-test.true _ _ _ room c.list_bits-count.ensures, behind)
 
 pub overflow_add-place : goal.overflow_add-place
 overflow_add-place c =
     let a = c.args in
     let l = c.loop-c in
     let P = c.requires.0 in
-    omega (arith, column_small a.n a.marks.now l.c l.place P.small P.all l.invariant.1 c.loop-c-test.true)
+    omega (arith, column_small a.n a.marks.now l.c l.place P.small P.all l.invariant.place_is c.loop-c-test.true)
 
 pub loop-c-preserved : goal.loop-c-preserved
 loop-c-preserved c =
     let a = c.args in
     let l = c.loop-c in
     let P = c.requires.0 in
-    let room : a.n ≤ length l.list = omega (arith, P.room, l.invariant.3) in
-    let more = columns_more _ _ _ _ P.small P.all l.invariant.1 c.loop-c-test.true _ _ _ room c.list_bits-count.ensures in
-    let behind = room_for a.n l.c (column_marking a.n a.marks.now) _ a.start l.next a.text.now l.text c.loop-c-test.true more c.requires.1 l.invariant.0 l.invariant.4 in (
-      wrote_cong more (wrote_more (omega (arith, c.requires.1)) l.invariant.0 c.write_rows-next.ensures),
-      omega (arith, l.invariant.1, col_start_next a.n l.c),
-      omega (arith, c.loop-c-test.true),
-      list_long _ _ _ _ P.small P.all l.invariant.1 c.loop-c-test.true _ _ _ room c.list_bits-count.ensures ∙ l.invariant.3,
-      wrote_length behind c.write_rows-next.ensures ∙ l.invariant.4,
-    )
-
-pub shape_of-list : goal.shape_of-list
-shape_of-list c = c.loop-c.invariant.3
-
-pub shape_of-text : goal.shape_of-text
-shape_of-text c = c.loop-c.invariant.4
-
-pub returns : goal.returns
-returns c = let l = c.loop-c in
-    let e : l.c ≡ c.args.n = omega (arith, c.loop-c-test.false, l.invariant.2) in
-    wrote_cong (ap (columns_bytes c.args.n (column_marking c.args.n c.args.marks.now)) e) l.invariant.0
+    let room : a.n ≤ length l.list = omega (arith, P.room, l.auto.list) in
+    let more = columns_more _ _ _ _ P.small P.all l.invariant.place_is c.loop-c-test.true _ _ _ room c.list_bits-count.ensures in
+    record {
+      wrote = wrote_cong more (wrote_more (omega (arith, c.requires.1)) l.invariant.wrote c.write_rows-next.ensures);
+      place_is = omega (arith, l.invariant.place_is, col_start_next a.n l.c);
+    }

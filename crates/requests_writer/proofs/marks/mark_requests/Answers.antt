@@ -13,14 +13,6 @@ use Rattle.requests_writer.proofs.marks.mark_requests.Goals as goal
 pub loop-k-init : goal.loop-k-init
 loop-k-init c = marked_none _ _ _ _ c.requires _ c.clear.ensures
 
-pub at-requires-in-loop-k : goal.at-requires-in-loop-k
-at-requires-in-loop-k c = omega (arith, c.loop-k-test.true, c.requires.requests.equal)
-
-pub column_place-requires : goal.column_place-requires
-column_place-requires c = let I = c.requires in
-    let l = c.loop-k-test.true in
-    (I.small, omega (arith, c.at.ensures, c.at-in-loop-k.ensures, I.below c.loop-k.k l), omega (arith, c.at.ensures, I.requests.rows_inside c.loop-k.k l))
-
 pub set_bit-requires : goal.set_bit-requires
 set_bit-requires c =
     let place = c.column_place.ensures ∙ ap₂ (column_place c.args.n) c.at.ensures c.at-in-loop-k.ensures in
@@ -36,11 +28,8 @@ loop-k-preserved c =
     subst (λ (s : List ℕ). MarkedTo a.n a.rows.now a.columns.now clean s (c.loop-k.k + 1)) (sym (c.set_bit.ensures ∙ ap (with_bit c.loop-k.marks) place))
     (marked_more _ _ _ _ input _ _ c.loop-k.invariant c.loop-k-test.true)
 
-pub shape_of-marks : goal.shape_of-marks
-shape_of-marks c = c.loop-k.invariant.long ∙ clean_long _ _ _ _ c.requires _ c.clear.ensures
-
 pub returns : goal.returns
 returns c =
     let input = clean_input _ _ _ _ c.requires _ c.clear.ensures in
-    let M = marked_end _ _ _ _ input _ _ c.loop-k.invariant c.loop-k-test.false in
+    let M = marked_end _ _ _ _ input _ _ c.loop-k.invariant (omega arith) in
     record { marks_are = M.marks_are; long = M.long ∙ clean_long _ _ _ _ c.requires _ c.clear.ensures }

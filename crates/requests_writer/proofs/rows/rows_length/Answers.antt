@@ -13,13 +13,7 @@ pub overflow_add-width : goal.overflow_add-width
 overflow_add-width c = let a = c.args in omega (arith, c.number_length-width.ensures, decimal_most (a.c + 1), c.requires.column)
 
 pub loop-k-init : goal.loop-k-init
-loop-k-init c = (sym (ap length (rows_none c.args.c c.args.rows.now)), omega arith, omega arith)
-
-pub at-requires : goal.at-requires
-at-requires c = omega (arith, c.loop-k-test.true, c.requires.listed)
-
-pub overflow_add-at : goal.overflow_add-at
-overflow_add-at c = omega (arith, c.at.ensures, c.requires.inside c.loop-k.k c.loop-k-test.true)
+loop-k-init c = record { total_is = sym (ap length (rows_none c.args.c c.args.rows.now)); most = omega arith }
 
 pub overflow_add-total : goal.overflow_add-total
 overflow_add-total c = let l = c.loop-k in
@@ -43,7 +37,7 @@ overflow_add-total-in-loop-k c = let l = c.loop-k in
     let m = entry_most a.c r P.column (P.inside l.k c.loop-k-test.true) in
     let e = entry_length a.c r in
     let k< = c.loop-k-test.true in
-    omega (arith, w, c.number_length.ensures, g, m, e, l.invariant.1, l.invariant.2, P.few)
+    omega (arith, w, c.number_length.ensures, g, m, e, l.invariant.most, l.auto.k-end, P.few)
 
 pub loop-k-preserved : goal.loop-k-preserved
 loop-k-preserved c = let l = c.loop-k in
@@ -57,10 +51,4 @@ loop-k-preserved c = let l = c.loop-k in
     let k< = c.loop-k-test.true in
     let n = rows_next a.c a.rows.now l.k (omega (arith, k<, P.listed)) in
     let o = ap length n ∙ length-append (rows_bytes a.c (take l.k a.rows.now)) (entry_bytes a.c r) in
-    (omega (arith, w, c.number_length.ensures, g, e, o, l.invariant.0), omega (arith, w, c.number_length.ensures, g, m, e, l.invariant.1), omega (arith, k<))
-
-pub returns : goal.returns
-returns c = let l = c.loop-k in
-    let a = c.args in
-    let e : l.k ≡ a.count = omega (arith, c.loop-k-test.false, l.invariant.2) in
-    (l.invariant.0 ∙ ap (λ (k : ℕ). length (rows_bytes a.c (take k a.rows.now))) e, omega (arith, l.invariant.1, e))
+    record { total_is = omega (arith, w, c.number_length.ensures, g, e, o, l.invariant.total_is); most = omega (arith, w, c.number_length.ensures, g, m, e, l.invariant.most) }

@@ -3,12 +3,12 @@ use mathlib.Core.List.{List}
 use Rattle.requests_writer.specs.Lines.{Wrote}
 use native.Mathlib.Omega.{arith}
 use Prim.Native.Nat.{ℕ, ◌≤◌, ◌+◌}
-use mathlib.Core.Path.{◌≡◌, refl, ap, sym, ◌∙◌}
+use mathlib.Core.Path.{◌≡◌, ap, sym, ◌∙◌}
 use lib.ListN.{length, get_or}
 use mathlib.Core.List.{◌++◌}
 use lib.ListN.{take, length-append}
 use Rattle.requests_writer.specs.Lines.{entry_bytes, rows_bytes}
-use Rattle.requests_writer.proofs.ByteLaws.{wrote_none, wrote_more, wrote_cong, wrote_length, rows_none, rows_next, rows_mono}
+use Rattle.requests_writer.proofs.ByteLaws.{wrote_none, wrote_more, wrote_cong, rows_none, rows_next, rows_mono}
 use Rattle.requests_writer.proofs.rows.write_rows.Goals as goal
 
 -- there is room for the next line
@@ -24,10 +24,7 @@ room_for c k count rows place next text₀ text h listed room W long r e =
 
 pub loop-k-init : goal.loop-k-init
 loop-k-init c = let a = c.args in
-    (wrote_cong (sym (rows_none a.c a.rows.now)) (wrote_none a.place a.text.now), omega arith, refl)
-
-pub at-requires : goal.at-requires
-at-requires c = omega (arith, c.loop-k-test.true, c.requires.0.listed)
+    wrote_cong (sym (rows_none a.c a.rows.now)) (wrote_none a.place a.text.now)
 
 pub write_entry-next-requires : goal.write_entry-next-requires
 write_entry-next-requires c =
@@ -35,21 +32,10 @@ write_entry-next-requires c =
     let l = c.loop-k in
     let P = c.requires.0 in
     let h = P.inside c.loop-k.k c.loop-k-test.true in
-    (P.column, omega (arith, h, c.at.ensures), room_for a.c l.k a.count a.rows.now a.place l.next a.text.now l.text c.loop-k-test.true c.requires.0.listed c.requires.1 l.invariant.0 l.invariant.2 c.at.result c.at.ensures)
+    (P.column, omega (arith, h, c.at.ensures), room_for a.c l.k a.count a.rows.now a.place l.next a.text.now l.text c.loop-k-test.true c.requires.0.listed c.requires.1 l.invariant l.auto.text c.at.result c.at.ensures)
 
 pub loop-k-preserved : goal.loop-k-preserved
 loop-k-preserved c = let l = c.loop-k in
     let a = c.args in
     let e = ap (λ (r : ℕ). rows_bytes a.c (take l.k a.rows.now) ++ entry_bytes a.c r) c.at.ensures ∙ sym (rows_next a.c a.rows.now l.k (omega (arith, c.loop-k-test.true, c.requires.0.listed))) in
-    let w = wrote_cong e (wrote_more (omega (arith, c.requires.1)) l.invariant.0 c.write_entry-next.ensures) in
-    let n = wrote_length (room_for a.c l.k a.count a.rows.now a.place l.next a.text.now l.text c.loop-k-test.true c.requires.0.listed c.requires.1 l.invariant.0 l.invariant.2 c.at.result c.at.ensures) c.write_entry-next.ensures in
-    (w, omega (arith, c.loop-k-test.true), n ∙ l.invariant.2)
-
-pub shape_of-text : goal.shape_of-text
-shape_of-text c = c.loop-k.invariant.2
-
-pub returns : goal.returns
-returns c = let l = c.loop-k in
-    let a = c.args in
-    let e : l.k ≡ a.count = omega (arith, c.loop-k-test.false, l.invariant.1) in
-    wrote_cong (ap (λ (k : ℕ). rows_bytes a.c (take k a.rows.now)) e) l.invariant.0
+    wrote_cong e (wrote_more (omega (arith, c.requires.1)) l.invariant c.write_entry-next.ensures)

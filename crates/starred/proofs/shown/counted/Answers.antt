@@ -1,4 +1,4 @@
 use Rattle.starred.proofs.shown.counted.Goals as goal
 
-pub returns-in-Answered : goal.returns-in-Answered
-returns-in-Answered c = rw (c.in-Answered.is, c.shows.ensures)
+pub returns-in-Ok : goal.returns-in-Ok
+returns-in-Ok c = rw (c.in-Ok.is, c.shows.ensures)

@@ -1,4 +1,4 @@
 use Rattle.starred.proofs.shown.has_ratio.Goals as goal
 
-pub returns-in-Answered : goal.returns-in-Answered
-returns-in-Answered c = rw c.in-Answered.is
+pub returns-in-Ok : goal.returns-in-Ok
+returns-in-Ok c = rw c.in-Ok.is

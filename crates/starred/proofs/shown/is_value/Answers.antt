@@ -1,4 +1,4 @@
 use Rattle.starred.proofs.shown.is_value.Goals as goal
 
-pub returns-in-Value : goal.returns-in-Value
-returns-in-Value c = rw (c.in-Found.is, c.in-Value.is)
+pub returns-in-Ok : goal.returns-in-Ok
+returns-in-Ok c = rw (c.in-Found.is, c.in-Ok.is)

@@ -14,7 +14,7 @@ use Rattle.run_sums.specs.Slide.{line_sum}
 use Rattle.track_variances.specs.Track.{track_entry, max_track_entry}
 use Rattle.track_variances.proofs.Sizes.{later_small, before_line}
 use Rattle.track_variances.specs.Slots.{MayCome, Met, Come}
-use Rattle.track_variances.proofs.Slots.{met_none, met_more, met_all, slot_small}
+use Rattle.track_variances.proofs.Slots.{met_more, met_all, slot_small}
 use Rattle.track_variances.proofs.cells.come.Goals as goal
 
 module _ {starts rows : List ℕ} {values : List ℤ} {track : List ℕ} {k c f : ℕ} {list : List ℤ} (M : MayCome starts rows values track k c list) (e : f ≡ c + 1 - k) where
@@ -57,24 +57,15 @@ module _ {starts rows : List ℕ} {values : List ℤ} {track : List ℕ} {k c f 
         let w = M.ready.wide in
         size_is (sym (N.back (p + 1) (omega arith))) (slot_small M (p + 1) (omega (arith, from)) (omega (arith, below)))
 
-pub loop-p-init : goal.loop-p-init
-loop-p-init c =
-    let a = c.args in
-    let M = c.requires.may_come in
-    let e = c.requires.f_value in
-    let E = track_entry a.starts.now a.rows.now a.values.now a.track.now in
-    let z : a.f - a.f ≡ 0 = omega arith in
-    (le_refl _, (in_order M e).0, sym (ap (line_sum E a.c a.f) z), met_none _ _ _ _)
-
 pub sum-line-requires : goal.sum-line-requires
 sum-line-requires c =
     let a = c.args in
     let M = c.requires.may_come in
     let e = c.requires.f_value in
     let below = c.loop-p-test.true in
-    let from = c.loop-p.invariant.0 in
+    let from = c.loop-p.auto.p in
     let z = held (omega arith) (c.entry_or_zero-z.ensures ∙ ap₂ (entry_or_zero a.starts.now a.rows.now a.values.now) c.at-row.ensures c.at.ensures) (entry_small M e c.loop-p.p below from) in
-    fits_both ◌+ℤ◌ c.loop-p.invariant.2 z (omega arith) (line_fits_next M e c.loop-p.p below from)
+    fits_both ◌+ℤ◌ c.loop-p.invariant.line_is z (omega arith) (line_fits_next M e c.loop-p.p below from)
 
 pub add_twice-requires : goal.add_twice-requires
 add_twice-requires c =
@@ -82,9 +73,9 @@ add_twice-requires c =
     let M = c.requires.may_come in
     let e = c.requires.f_value in
     let below = c.loop-p-test.true in
-    let from = c.loop-p.invariant.0 in
+    let from = c.loop-p.auto.p in
     let z = held (omega arith) (c.entry_or_zero-z.ensures ∙ ap₂ (entry_or_zero a.starts.now a.rows.now a.values.now) c.at-row.ensures c.at.ensures) (entry_small M e c.loop-p.p below from) in
-    (slot_fits M e c.loop-p.p below from c.loop-p.list c.loop-p.invariant.3, size_is (sym z) (entry_small M e c.loop-p.p below from))
+    (slot_fits M e c.loop-p.p below from c.loop-p.list c.loop-p.invariant.met, size_is (sym z) (entry_small M e c.loop-p.p below from))
 
 pub loop-p-preserved : goal.loop-p-preserved
 loop-p-preserved c =
@@ -94,14 +85,13 @@ loop-p-preserved c =
     let E = track_entry a.starts.now a.rows.now a.values.now a.track.now in
     let l = c.loop-p in
     let below = c.loop-p-test.true in
-    let from = c.loop-p.invariant.0 in
-    let z = held (omega arith) (c.entry_or_zero-z.ensures ∙ ap₂ (entry_or_zero a.starts.now a.rows.now a.values.now) c.at-row.ensures c.at.ensures) (entry_small M e c.loop-p.p below from) in (
-      omega (arith, from),
-      omega (arith, below),
-      held (omega arith) (c.sum-line.ensures ∙ ap₂ ◌+ℤ◌ l.invariant.2 z) (line_fits_next M e l.p below from) ∙ line_next M e l.p below from,
-      subst (Met E a.c a.f (l.p + 1) a.list.now) (sym c.add_twice.ensures)
-          (met_more E a.c a.f l.p a.list.now l.list l.invariant.3 from _ (ap (λ (x : ℤ). whole_value l.list (l.p + 1) +ℤ (x +ℤ x)) z)),
-    )
+    let from = c.loop-p.auto.p in
+    let z = held (omega arith) (c.entry_or_zero-z.ensures ∙ ap₂ (entry_or_zero a.starts.now a.rows.now a.values.now) c.at-row.ensures c.at.ensures) (entry_small M e c.loop-p.p below from) in
+    record {
+      line_is = held (omega arith) (c.sum-line.ensures ∙ ap₂ ◌+ℤ◌ l.invariant.line_is z) (line_fits_next M e l.p below from) ∙ line_next M e l.p below from;
+      met = subst (Met E a.c a.f (l.p + 1) a.list.now) (sym c.add_twice.ensures)
+          (met_more E a.c a.f l.p a.list.now l.list l.invariant.met from _ (ap (λ (x : ℤ). whole_value l.list (l.p + 1) +ℤ (x +ℤ x)) z));
+    }
 
 pub sum-requires : goal.sum-requires
 sum-requires c =
@@ -109,8 +99,8 @@ sum-requires c =
     let M = c.requires.may_come in
     let e = c.requires.f_value in
     let E = track_entry a.starts.now a.rows.now a.values.now a.track.now in
-    let at_end : c.loop-p.p ≡ a.c = omega (arith, c.loop-p-test.false, c.loop-p.invariant.1) in
-    let line = c.loop-p.invariant.2 ∙ ap (λ (i : ℕ). line_sum E a.c a.f (i - a.f)) at_end in
+    let at_end : c.loop-p.p ≡ a.c = omega (arith, c.loop-p-test.false, c.loop-p.auto.p-end (in_order M e).0) in
+    let line = c.loop-p.invariant.line_is ∙ ap (λ (i : ℕ). line_sum E a.c a.f (i - a.f)) at_end in
     fits_both ◌+ℤ◌ line line (omega arith) (lines_fit M e)
 
 pub sum-requires-2 : goal.sum-requires-2
@@ -119,25 +109,20 @@ sum-requires-2 c =
     let M = c.requires.may_come in
     let e = c.requires.f_value in
     let E = track_entry a.starts.now a.rows.now a.values.now a.track.now in
-    let at_end : c.loop-p.p ≡ a.c = omega (arith, c.loop-p-test.false, c.loop-p.invariant.1) in
-    let line = c.loop-p.invariant.2 ∙ ap (λ (i : ℕ). line_sum E a.c a.f (i - a.f)) at_end in
+    let at_end : c.loop-p.p ≡ a.c = omega (arith, c.loop-p-test.false, c.loop-p.auto.p-end (in_order M e).0) in
+    let line = c.loop-p.invariant.line_is ∙ ap (λ (i : ℕ). line_sum E a.c a.f (i - a.f)) at_end in
     let own = held (omega arith) (c.entry_or_zero-own.ensures ∙ ap₂ (entry_or_zero a.starts.now a.rows.now a.values.now) c.at-row.ensures c.at-row.ensures) (own_small M e) in
     let lines = held (omega arith) (c.sum.ensures ∙ ap₂ ◌+ℤ◌ line line) (lines_fit M e) in
     fits_both ◌+ℤ◌ own lines (omega arith) (strip_fits M e)
 
-pub returns : goal.returns
-returns c =
+pub returns-clause-come : goal.returns-clause-come
+returns-clause-come c =
     let a = c.args in
     let M = c.requires.may_come in
     let e = c.requires.f_value in
     let E = track_entry a.starts.now a.rows.now a.values.now a.track.now in
     let l = c.loop-p in
-    let at_end : c.loop-p.p ≡ a.c = omega (arith, c.loop-p-test.false, c.loop-p.invariant.1) in
-    let line = c.loop-p.invariant.2 ∙ ap (λ (i : ℕ). line_sum E a.c a.f (i - a.f)) at_end in
+    let at_end : l.p ≡ a.c = omega (arith, c.loop-p-test.false, l.auto.p-end (in_order M e).0) in
     let own = held (omega arith) (c.entry_or_zero-own.ensures ∙ ap₂ (entry_or_zero a.starts.now a.rows.now a.values.now) c.at-row.ensures c.at-row.ensures) (own_small M e) in
-    let lines = held (omega arith) (c.sum.ensures ∙ ap₂ ◌+ℤ◌ line line) (lines_fit M e) in
-    record {
-      value = held (omega arith) (c.sum-2.ensures ∙ ap₂ ◌+ℤ◌ own lines) (strip_fits M e);
-      come = subst (Come E a.c a.f a.list.now) (sym c.put.ensures)
-          (met_all E a.c a.f a.list.now l.list (subst (λ (i : ℕ). Met E a.c a.f i a.list.now l.list) at_end l.invariant.3) (in_order M e).0 _ own);
-    }
+    subst (Come E a.c a.f a.list.now) (sym c.put.ensures)
+    (met_all E a.c a.f a.list.now l.list (subst (λ (i : ℕ). Met E a.c a.f i a.list.now l.list) at_end l.invariant.met) (in_order M e).0 _ own)

@@ -15,13 +15,13 @@ use Rattle.track_variances.proofs.checks.check_call.Goals as goal
 runs-passed : (c : goal.After-check_output) → let a = c.args in Passed (run_steps a.starts.now a.rows.now a.values.now a.track.now a.width)
 runs-passed c = sym c.check_runs.ensures ∙ ap reply_of c.in_default-check_runs.is
 
-pub returns-in-Refused : goal.returns-in-Refused
-returns-in-Refused c = track_result _ _ _ _ _ _ (sym c.check_result.ensures ∙ ap reply_of c.in-Refused.is)
+pub returns-in-Err : goal.returns-in-Err
+returns-in-Err c = track_result _ _ _ _ _ _ (sym c.check_result.ensures ∙ ap reply_of c.in-Err.is)
 
-pub returns-in-Refused-check_width : goal.returns-in-Refused-check_width
-returns-in-Refused-check_width c =
+pub returns-in-Err-check_width : goal.returns-in-Err-check_width
+returns-in-Err-check_width c =
     let result-passed = sym c.check_result.ensures ∙ ap reply_of c.in_default.is in
-    track_width _ _ _ _ _ _ result-passed (sym c.check_width.ensures ∙ ap reply_of c.in-Refused-check_width.is)
+    track_width _ _ _ _ _ _ result-passed (sym c.check_width.ensures ∙ ap reply_of c.in-Err-check_width.is)
 
 pub check_runs-requires : goal.check_runs-requires
 check_runs-requires c =
@@ -30,11 +30,11 @@ check_runs-requires c =
     let result-passed = sym c.check_result.ensures ∙ ap reply_of c.in_default.is in
     record { well_formed = result_steps-sound _ _ _ result-passed; width_nonzero = (w.wide, w.long) }
 
-pub returns-in-Refused-check_runs : goal.returns-in-Refused-check_runs
-returns-in-Refused-check_runs c =
+pub returns-in-Err-check_runs : goal.returns-in-Err-check_runs
+returns-in-Err-check_runs c =
     let result-passed = sym c.check_result.ensures ∙ ap reply_of c.in_default.is in
     let width_passed = sym c.check_width.ensures ∙ ap reply_of c.in_default-check_width.is in
-    track_runs _ _ _ _ _ _ result-passed width_passed (sym c.check_runs.ensures ∙ ap reply_of c.in-Refused-check_runs.is)
+    track_runs _ _ _ _ _ _ result-passed width_passed (sym c.check_runs.ensures ∙ ap reply_of c.in-Err-check_runs.is)
 
 pub overflow_sub-width : goal.overflow_sub-width
 overflow_sub-width c =

@@ -1,4 +1,4 @@
-use Prim.Native.Nat.{ℕ, ◌≤◌, ◌-◌, ◌+◌, min}
+use Prim.Native.Nat.{ℕ, ◌+◌, min}
 use mathlib.Core.Path.{◌≡◌}
 use mathlib.Core.List.{List}
 use lib.ListN.{length}
@@ -13,7 +13,4 @@ abbrev pub line : List ℕ → List ℕ → List ℤ → List ℕ → ℕ → �
 line starts rows values track width p = worst_in (cell_fault max_track_entry starts rows values track p) p (min (p + width) (length track))
 
 abbrev pub invariant-loop-p : goal.invariant-loop-p
-invariant-loop-p l = (l.p ≤ length l.track) × (l.found ≡ worst (line l.starts l.rows l.values l.track l.width) l.p)
-
-abbrev pub decreases-loop-p : goal.decreases-loop-p
-decreases-loop-p l = length l.track - l.p
+invariant-loop-p l = l.found ≡ worst (line l.starts l.rows l.values l.track l.width) l.p

@@ -1,4 +1,3 @@
-use borrow.Author.Rules.{rules}
 use native.Mathlib.Omega.{arith}
 use Prim.Native.Nat.{ℕ, ◌+◌, ◌-◌, ◌<◌}
 use mathlib.Core.Path.{◌≡◌, ap, ap₂, ◌∙◌}
@@ -43,14 +42,6 @@ pub sum-requires : goal.sum-requires
 sum-requires c =
     let M = c.requires in
     fits_both ◌+ℤ◌ (before_is M c.run_before-before.ensures) (strip_is M c.come-strip.ensures.value c.joined-f.ensures) (omega arith) (sum_fits M)
-
-pub offset_bounds-list-f : goal.offset_bounds-list-f
-offset_bounds-list-f c =
-    let h : c.joined-f.result < length c.come-strip.new.list = omega (arith, c.joined-f.ensures, place c.requires, c.come-strip.ensures.come.long) in
-    search rules
-
-pub bounds-list-f : goal.bounds-list-f
-bounds-list-f c = omega (arith, c.joined-f.ensures, place c.requires, c.come-strip.ensures.come.long)
 
 pub returns : goal.returns
 returns c =

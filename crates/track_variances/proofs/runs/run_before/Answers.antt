@@ -6,14 +6,13 @@ use mathlib.Core.List.{List}
 use lib.IntN.{ℤ, ◌-ℤ◌}
 use mir.Syntax.{w64}
 use mir.Val.{to_z, of_z}
-use mir.ValLaws.{to_z-of_z}
 use Rattle.integers.specs.Size.{SizeWithin}
 use Rattle.integers.proofs.Size.{size_minus}
 use Rattle.columns.specs.WholeFactor.{whole_value}
 use Rattle.whole_steps.specs.Machine.{held, fits_both}
 use Rattle.track_variances.specs.Track.{track_entry}
 use Rattle.track_variances.specs.Slots.{MayCome}
-use Rattle.track_variances.proofs.Slots.{before_growing, before_sliding, run_small, slot_small, joined_small}
+use Rattle.track_variances.proofs.Slots.{before_sliding, run_small, slot_small, joined_small}
 use Rattle.track_variances.proofs.Laws.{entries_symmetric}
 use Rattle.track_variances.proofs.runs.run_before.Goals as goal
 
@@ -33,22 +32,6 @@ module _ {starts rows : List ℕ} {values : List ℤ} {track : List ℕ} {k c : 
 
   strip_is : k ≤ c → {z : ℤ} → z ≡ whole_value list (c - k + 1) → to_z w64 (of_z w64 z) ≡ whole_value list (c - k + 1)
   strip_is h e = held (omega arith) e (strip_small h)
-
-pub whole_at-requires : goal.whole_at-requires
-whole_at-requires c = some c.requires
-
-pub returns-then-c-k : goal.returns-then-c-k
-returns-then-c-k c =
-    let a = c.args in
-    let M = c.requires in
-    to_z-of_z w64 c.whole_at.result (record { sfits = c.whole_at.type_inv }) ∙ c.whole_at.ensures
-    ∙ before_growing (track_entry a.starts.now a.rows.now a.values.now a.track.now) (entries_symmetric a.starts.now a.rows.now a.values.now a.track.now) a.k a.c a.list.now M.slots M.ready.wide c.if-c-k.true (some M)
-
-pub whole_at-requires-2 : goal.whole_at-requires-2
-whole_at-requires-2 c = omega (arith, room c.requires c.if-c-k.false)
-
-pub whole_at-requires-3 : goal.whole_at-requires-3
-whole_at-requires-3 c = room c.requires c.if-c-k.false
 
 pub minus-requires : goal.minus-requires
 minus-requires c =

@@ -12,18 +12,18 @@ use Rattle.weight_ranges.proofs.checks.check_call.Goals as goal
 weights_passed : (c : goal.After-check_pairs) → let a = c.args in Passed (weight_steps (length a.columns.now) a.lows.now a.highs.now)
 weights_passed c = sym c.check_weights.ensures ∙ ap reply_of c.in_default-check_weights.is
 
-pub returns-in-Refused : goal.returns-in-Refused
-returns-in-Refused c = range_result _ _ _ _ _ _ (sym c.check_result.ensures ∙ ap reply_of c.in-Refused.is)
+pub returns-in-Err : goal.returns-in-Err
+returns-in-Err c = range_result _ _ _ _ _ _ (sym c.check_result.ensures ∙ ap reply_of c.in-Err.is)
 
 pub overflow_sub-starts : goal.overflow_sub-starts
 overflow_sub-starts c =
     let result-passed = sym c.check_result.ensures ∙ ap reply_of c.in_default.is in
     let w = (result_steps-sound _ _ _ result-passed).some in search rules
 
-pub returns-in-Refused-check_row : goal.returns-in-Refused-check_row
-returns-in-Refused-check_row c =
+pub returns-in-Err-check_row : goal.returns-in-Err-check_row
+returns-in-Err-check_row c =
     let result-passed = sym c.check_result.ensures ∙ ap reply_of c.in_default.is in
-    range_row _ _ _ _ _ _ result-passed (sym c.check_row.ensures ∙ ap reply_of c.in-Refused-check_row.is)
+    range_row _ _ _ _ _ _ result-passed (sym c.check_row.ensures ∙ ap reply_of c.in-Err-check_row.is)
 
 pub check_weights-requires : goal.check_weights-requires
 check_weights-requires c =
@@ -32,11 +32,11 @@ check_weights-requires c =
     let e = equal_lengths a.starts.now a.rows.now a.values.now a.columns.now a.lows.now a.highs.now row_passed in
     (omega (arith, e.0), omega (arith, e.1))
 
-pub returns-in-Refused-check_weights : goal.returns-in-Refused-check_weights
-returns-in-Refused-check_weights c =
+pub returns-in-Err-check_weights : goal.returns-in-Err-check_weights
+returns-in-Err-check_weights c =
     let result-passed = sym c.check_result.ensures ∙ ap reply_of c.in_default.is in
     let row_passed = sym c.check_row.ensures ∙ ap reply_of c.in_default-check_row.is in
-    range_weights _ _ _ _ _ _ result-passed row_passed (sym c.check_weights.ensures ∙ ap reply_of c.in-Refused-check_weights.is)
+    range_weights _ _ _ _ _ _ result-passed row_passed (sym c.check_weights.ensures ∙ ap reply_of c.in-Err-check_weights.is)
 
 pub check_pairs-requires : goal.check_pairs-requires
 check_pairs-requires c =

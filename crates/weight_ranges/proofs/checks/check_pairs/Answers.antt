@@ -6,9 +6,6 @@ use Rattle.refusal.specs.Steps.{verdict}
 use Rattle.weight_ranges.proofs.Laws.{pair_steps-fault}
 use Rattle.weight_ranges.proofs.checks.check_pairs.Goals as goal
 
-pub row_fault-requires : goal.row_fault-requires
-row_fault-requires c = c.requires
-
 pub returns : goal.returns
 returns c = let a = c.args in
     c.fault_verdict.ensures ∙ ap (λ (f : ℕ). verdict ((8, leb 2 f) ∷ (20, leb 1 f) ∷ [])) c.row_fault.ensures

@@ -1,4 +1,4 @@
-use Prim.Native.Nat.{ℕ, ◌≤◌, ◌-◌}
+use Prim.Native.Nat.{ℕ}
 use mathlib.Core.Path.{◌≡◌}
 use mathlib.Core.List.{List}
 use lib.ListN.{length}
@@ -13,7 +13,4 @@ abbrev pub line : List ℕ → List ℕ → List ℤ → List ℕ → ℕ → �
 line starts rows values columns a = worst_in (cell_fault max_range_entry starts rows values columns a) 0 (length columns)
 
 abbrev pub invariant-loop-a : goal.invariant-loop-a
-invariant-loop-a l = (l.a ≤ length l.columns) × (l.found ≡ worst (line l.starts l.rows l.values l.columns) l.a)
-
-abbrev pub decreases-loop-a : goal.decreases-loop-a
-decreases-loop-a l = length l.columns - l.a
+invariant-loop-a l = l.found ≡ worst (line l.starts l.rows l.values l.columns) l.a

@@ -1,4 +1,3 @@
-use Prim.Native.Nat.{◌≤◌, ◌-◌}
 use mathlib.Core.Path.{◌≡◌}
 use mathlib.Core.Bool.{false}
 use lib.Dec.{eqb}
@@ -7,7 +6,4 @@ use Rattle.lists.specs.Test.{any}
 use Rattle.weight_ranges.proofs.checks.seen_before.Given as goal
 
 abbrev pub invariant-loop-b : goal.invariant-loop-b
-invariant-loop-b l = (l.b ≤ l.a) × (any (λ j. eqb (term_column l.columns j) (term_column l.columns l.a)) l.b ≡ false)
-
-abbrev pub decreases-loop-b : goal.decreases-loop-b
-decreases-loop-b l = l.a - l.b
+invariant-loop-b l = any (λ j. eqb (term_column l.columns j) (term_column l.columns l.a)) l.b ≡ false

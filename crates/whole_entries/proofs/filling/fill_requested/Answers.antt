@@ -1,3 +1,4 @@
+use Rattle.closure.proofs.KeptBy.{closure_rows}
 use Prim.Native.Nat.{ℕ}
 use native.Mathlib.Omega.{arith}
 use lib.ListN.{length-replicate}
@@ -9,8 +10,8 @@ use Rattle.whole_entries.proofs.ReplyLaws.{fill_closure, fill_kept, fill_set, fi
 use Rattle.whole_entries.proofs.filling.fill_requested.Goals as goal
 
 -- the call and the lists that it is lent
-abbrev handed-After-diagnose_whole-arg-1 : goal.After-diagnose_whole-arg-1 → WholeCall
-handed-After-diagnose_whole-arg-1 s =
+abbrev handed-After-diagnose-arg-1 : goal.After-diagnose-arg-1 → WholeCall
+handed-After-diagnose-arg-1 s =
     let a = s.args in
     whole_call a.n a.starts.now a.rows.now a.values.now a.dimension a.request_rows.now a.request_columns.now a.limit
 
@@ -38,8 +39,8 @@ handed-In-ClosureTooLarge s =
     let a = s.args in
     whole_call a.n a.starts.now a.rows.now a.values.now a.dimension a.request_rows.now a.request_columns.now a.limit
 
-abbrev lent-After-diagnose_whole-arg-1 : goal.After-diagnose_whole-arg-1 → WholeLent
-lent-After-diagnose_whole-arg-1 s = let a = s.args in whole_lent a.result_starts.now a.result_rows.now a.result_values.now a.scratch.now a.work.now
+abbrev lent-After-diagnose-arg-1 : goal.After-diagnose-arg-1 → WholeLent
+lent-After-diagnose-arg-1 s = let a = s.args in whole_lent a.result_starts.now a.result_rows.now a.result_values.now a.scratch.now a.work.now
 
 abbrev lent-After-fill_complete-arg-in-Complete-4-1 : goal.After-fill_complete-arg-in-Complete-4-1 → WholeLent
 lent-After-fill_complete-arg-in-Complete-4-1 s = let a = s.args in whole_lent a.result_starts.now a.result_rows.now a.result_values.now a.scratch.now a.work.now
@@ -56,21 +57,21 @@ lent-In-ClosureTooLarge s = let a = s.args in whole_lent a.result_starts.now a.r
 pub mark_requests-requested_pairs-requires : goal.mark_requests-requested_pairs-requires
 mark_requests-requested_pairs-requires c = record { small = c.requires.small; requests = c.requires.asked; room = scratch_words_room c.args.n c.requires.room.scratch_room }
 
-pub diagnose_whole-diagnosis-requires : goal.diagnose_whole-diagnosis-requires
-diagnose_whole-diagnosis-requires c = record { kept_pairs_le_max_count = fill_kept (handed-After-diagnose_whole-arg-1 c) (lent-After-diagnose_whole-arg-1 c) c.requires c.mark_requests-requested_pairs.ensures c.whole_factor_pairs-kept_pairs.ensures; closure_input = fill_closure (handed-After-diagnose_whole-arg-1 c) (lent-After-diagnose_whole-arg-1 c) c.requires c.mark_requests-requested_pairs.ensures (unlisted c.requires.small) }
+pub diagnose-diagnosis-requires : goal.diagnose-diagnosis-requires
+diagnose-diagnosis-requires c = record { kept_pairs_le_max_count = fill_kept (handed-After-diagnose-arg-1 c) (lent-After-diagnose-arg-1 c) c.requires c.mark_requests-requested_pairs.ensures c.factor_pairs-kept_pairs.ensures; closure_input = closure_rows (fill_closure (handed-After-diagnose-arg-1 c) (lent-After-diagnose-arg-1 c) c.requires c.mark_requests-requested_pairs.ensures (unlisted c.requires.small)); values_lent = omega (arith, c.requires.factor.valued) }
 
 pub fill_complete-requires : goal.fill_complete-requires
-fill_complete-requires c = fill_set (handed-After-fill_complete-arg-in-Complete-4-1 c) (lent-After-fill_complete-arg-in-Complete-4-1 c) c.requires c.mark_requests-requested_pairs.ensures c.whole_factor_pairs-kept_pairs.ensures c.diagnose_whole-diagnosis.ensures
-    c.in-Complete.is (omega (arith, c.requires.small, c.diagnose_whole-diagnosis.auto.stops, length-replicate {A = ℕ} max_dimension 0))
+fill_complete-requires c = fill_set (handed-After-fill_complete-arg-in-Complete-4-1 c) (lent-After-fill_complete-arg-in-Complete-4-1 c) c.requires c.mark_requests-requested_pairs.ensures c.factor_pairs-kept_pairs.ensures c.diagnose-diagnosis.ensures
+    c.in-Complete.is (omega (arith, c.requires.small, c.diagnose-diagnosis.auto.stops, length-replicate {A = ℕ} max_dimension 0))
 
 pub returns-then-fill_complete : goal.returns-then-fill_complete
-returns-then-fill_complete c = fill_exceeds (handed-Then-fill_complete c) (lent-Then-fill_complete c) c.requires c.mark_requests-requested_pairs.ensures c.whole_factor_pairs-kept_pairs.ensures c.diagnose_whole-diagnosis.ensures
+returns-then-fill_complete c = fill_exceeds (handed-Then-fill_complete c) (lent-Then-fill_complete c) c.requires c.mark_requests-requested_pairs.ensures c.factor_pairs-kept_pairs.ensures c.diagnose-diagnosis.ensures
     c.in-Complete.is c.fill_complete.ensures c.if-fill_complete.true
 
 pub returns-else-fill_complete : goal.returns-else-fill_complete
-returns-else-fill_complete c = fill_done (handed-Else-fill_complete c) (lent-Else-fill_complete c) c.requires c.mark_requests-requested_pairs.ensures c.whole_factor_pairs-kept_pairs.ensures c.diagnose_whole-diagnosis.ensures
+returns-else-fill_complete c = fill_done (handed-Else-fill_complete c) (lent-Else-fill_complete c) c.requires c.mark_requests-requested_pairs.ensures c.factor_pairs-kept_pairs.ensures c.diagnose-diagnosis.ensures
     c.in-Complete.is c.fill_complete.ensures c.if-fill_complete.false
 
 pub returns-in-ClosureTooLarge : goal.returns-in-ClosureTooLarge
-returns-in-ClosureTooLarge c = fill_large (handed-In-ClosureTooLarge c) (lent-In-ClosureTooLarge c) c.requires c.mark_requests-requested_pairs.ensures c.whole_factor_pairs-kept_pairs.ensures c.diagnose_whole-diagnosis.ensures
+returns-in-ClosureTooLarge c = fill_large (handed-In-ClosureTooLarge c) (lent-In-ClosureTooLarge c) c.requires c.mark_requests-requested_pairs.ensures c.factor_pairs-kept_pairs.ensures c.diagnose-diagnosis.ensures
     c.in-ClosureTooLarge.is

@@ -1,10 +1,6 @@
-use Prim.Native.Nat.{◌≤◌, ◌-◌}
 use mathlib.Core.Path.{◌≡◌}
 use Rattle.whole_route.specs.ColumnSums.{sum_from, word_term}
 use Rattle.whole_route.proofs.column_sums.high_sum.Given as goal
 
 abbrev pub invariant-loop-p : goal.invariant-loop-p
-invariant-loop-p l = (l.f ≤ l.p) × (l.p ≤ l.e) × (l.total ≡ sum_from (word_term l.base l.rows l.values l.scratch l.work) l.f l.p)
-
-abbrev pub decreases-loop-p : goal.decreases-loop-p
-decreases-loop-p l = l.e - l.p
+invariant-loop-p l = l.total ≡ sum_from (word_term l.base l.rows l.values l.scratch l.work) l.f l.p

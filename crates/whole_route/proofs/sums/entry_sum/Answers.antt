@@ -1,11 +1,10 @@
-use Prim.Native.Nat.{◌-◌}
 use native.Mathlib.Omega.{arith}
 use mathlib.Core.Path.{◌≡◌, sym, ap, subst, ◌∙◌}
 use lib.IntN.{ℤ}
 use Rattle.refusal.specs.Steps.{Reply}
 use Rattle.pair_places.specs.Position.{shift_fits}
 use Rattle.whole_route.specs.Number.{number_reply, SmallNumber}
-use Rattle.whole_route.specs.Sums.{whole_inverse_at, with_entry, whole_sum}
+use Rattle.whole_route.specs.Sums.{whole_inverse_at, with_entry}
 use Rattle.whole_route.proofs.SumLaws.{sum_none, sum_next, entry_small, term_input}
 use Rattle.whole_route.proofs.sums.entry_sum.Goals as goal
 
@@ -16,26 +15,23 @@ pub overflow_add-base : goal.overflow_add-base
 overflow_add-base c = omega (arith, c.queue_start-positions.ensures.0, shift_fits c.args.n c.args.i c.column_shift.result c.requires.small c.requires.left c.column_shift.ensures)
 
 pub loop-p-init : goal.loop-p-init
-loop-p-init c = (omega arith, omega (arith, c.requires.column.ordered), sum_none _ _ _ _ _, omega arith)
+loop-p-init c = (sum_none _ _ _ _ _, omega arith)
 
 pub add_entry-sum-requires : goal.add_entry-sum-requires
 add_entry-sum-requires c = let l = c.loop-p in
     let u = c.queue_start-positions.ensures.0 in
-    record { positions_value = (u, omega (arith, u, c.column_shift.ensures), l.invariant.3); term_input = term_input c.requires l.p l.invariant.0 c.loop-p-test.true }
+    record { positions_value = (u, omega (arith, u, c.column_shift.ensures), l.invariant.1); term_input = term_input c.requires l.p l.auto.p c.loop-p-test.true }
 
 pub loop-p-preserved : goal.loop-p-preserved
 loop-p-preserved c = let l = c.loop-p in
     let a = c.args in
     let r = whole_inverse_at a.n a.scratch.now a.inverse.now a.i in (
-      omega (arith, l.invariant.0),
-      omega (arith, c.loop-p-test.true),
-      c.add_entry-sum.ensures ∙ ap (λ (x : Reply ℤ). with_entry a.rows.now a.values.now a.j r l.p x) l.invariant.2
-          ∙ sym (sum_next a.rows.now a.values.now a.j r a.s l.p l.invariant.0),
-      subst SmallNumber (sym c.add_entry-sum.ensures) (entry_small a.rows.now a.values.now a.j r l.p (number_reply l.sum) l.invariant.3),
+      c.add_entry-sum.ensures ∙ ap (λ (x : Reply ℤ). with_entry a.rows.now a.values.now a.j r l.p x) l.invariant.0
+          ∙ sym (sum_next a.rows.now a.values.now a.j r a.s l.p l.auto.p),
+      subst SmallNumber (sym c.add_entry-sum.ensures) (entry_small a.rows.now a.values.now a.j r l.p (number_reply l.sum) l.invariant.1),
     )
 
 pub returns : goal.returns
 returns c = let l = c.loop-p in
-    let a = c.args in
-    let e : l.p ≡ a.e = omega (arith, c.loop-p-test.false, l.invariant.1) in
-    l.invariant.2 ∙ ap (whole_sum a.rows.now a.values.now a.j (whole_inverse_at a.n a.scratch.now a.inverse.now a.i) a.s) e
+    let e : l.p ≡ c.args.e = omega (arith, c.requires.column.ordered) in
+    rw e at l.invariant.0

@@ -1,7 +1,7 @@
 use mathlib.Core.Bool.{Bool}
 use mathlib.Core.List.{List}
 use mathlib.Core.Path.{◌≡◌}
-use Prim.Native.Nat.{ℕ, ◌≤◌, ◌-◌}
+use Prim.Native.Nat.{ℕ}
 use lib.IntN.{ℤ}
 use Rattle.lists.specs.Test.{any_in}
 use Rattle.columns.specs.WholeFactor.{whole_value}
@@ -12,7 +12,4 @@ abbrev pub test : List ℤ → ℕ → Bool
 test wholes p = beyond (whole_value wholes p)
 
 abbrev pub invariant-loop-p : goal.invariant-loop-p
-invariant-loop-p l = (l.s ≤ l.p) × (l.p ≤ l.e) × (l.found ≡ any_in (test l.wholes) l.s l.p)
-
-abbrev pub decreases-loop-p : goal.decreases-loop-p
-decreases-loop-p l = l.e - l.p
+invariant-loop-p l = l.found ≡ any_in (test l.wholes) l.s l.p

@@ -1,27 +1,14 @@
+use Prim.Native.Nat.{ℕ}
 use lib.IntN.{ℤ, pos}
-use Prim.Native.Nat.{ℕ, ◌<◌, ◌-◌}
-use native.Mathlib.Omega.{arith}
-use mathlib.Core.Path.{◌≡◌, refl, ap, ◌∙◌}
-use mathlib.Core.List.{List}
-use lib.ListN.{length, set, length-set}
-use borrow.Author.Rules.{rules}
-use Rattle.lists.specs.Overwrite.{filled, filled_none, filled_more}
+use Rattle.std.proofs.Common.{ap, ◌∙◌, List, ◌++◌, drop}
+use Rattle.std.proofs.Math.ListN.{replicate}
+use Rattle.std.proofs.lemmas.List.{length-take-le}
+use Rattle.lists.specs.Written.{filled-one}
 use Rattle.whole_steps.proofs.whole_lists.clear_wholes.Goals as goal
 
-pub loop-i-init : goal.loop-i-init
-loop-i-init c = (search rules, refl, filled_none _ _)
-
-pub loop-i-preserved : goal.loop-i-preserved
-loop-i-preserved c = let l = c.loop-i in
-    let a = c.args in
-    let room : l.i < length a.wholes.now = omega arith in (
-      omega arith,
-      length-set l.wholes l.i (pos 0) ∙ l.invariant.1,
-      ap (λ (x : List ℤ). set x l.i (pos 0)) l.invariant.2 ∙ filled_more (λ _. pos 0) a.wholes.now l.i room,
-    )
-
 pub returns : goal.returns
-returns c = let l = c.loop-i in
-    let a = c.args in
-    let e : l.i ≡ a.m = omega arith in
-    l.invariant.2 ∙ ap (λ (k : ℕ). filled (λ _. pos 0) k a.wholes.now) e
+returns c =
+    let wholes = c.args.wholes.now in
+    let m = c.args.m in
+    let new = c.fill.ensures.after (λ _ same. same) ∙ ap (λ (k : ℕ). replicate k (pos 0)) (length-take-le m wholes c.requires) in
+    ap (λ (l : List ℤ). l ++ drop m wholes) new ∙ filled-one (pos 0) m wholes

@@ -2,7 +2,6 @@ use Rattle.lists.specs.Select.{picked, select, tally_none, tally_next, tally_mos
 use Rattle.lists.specs.Sum.{bit}
 use Rattle.columns.specs.Columns.{not_above}
 use borrow.Author.Tests.{le-leb, lt-leb}
-use borrow.Author.Rules.{rules}
 use native.Mathlib.Omega.{arith}
 use Prim.Native.Nat.{ℕ, ◌-◌, ◌+◌}
 use mathlib.Core.Path.{◌≡◌, ap, sym, ◌∙◌}
@@ -11,27 +10,25 @@ use Rattle.words.proofs.order.descents.Goals as goal
 use Rattle.words.proofs.order.descents.Goals.{then-rows-p, else-rows-p}
 
 pub loop-p-init : goal.loop-p-init
-loop-p-init c = (search rules, search rules, sym (tally_none _ _))
+loop-p-init c = (omega arith, sym (tally_none _ _))
 
 pub overflow_add-count : goal.overflow_add-count
 overflow_add-count c = omega (arith, tally_most (not_above c.args.rows.now) (c.args.s + 1) c.loop-p.p)
 
 pub loop-p-preserved : goal.loop-p-preserved
-loop-p-preserved c = let n = tally_next (not_above c.args.rows.now) (c.args.s + 1) c.loop-p.p c.loop-p.invariant.0 in (
-  search rules,
-  search rules,
-  elim c.if-rows-p.branch [
-    | then-rows-p w ↦ omega (arith, n, ap bit (le-leb _ _ w.if-rows-p.true))
-    | else-rows-p w ↦ omega (arith, n, ap bit (lt-leb _ _ w.if-rows-p.false))
-  ],
-)
-
-pub overflow_cast-result : goal.overflow_cast-result
-overflow_cast-result c = omega (arith, tally_most (not_above c.args.rows.now) (c.args.s + 1) c.loop-p.p)
+loop-p-preserved c =
+    let n = tally_next (not_above c.args.rows.now) (c.args.s + 1) c.loop-p.p c.loop-p.auto.p in (
+      omega arith,
+      elim c.if-rows-p.branch [
+        | then-rows-p w ↦ omega (arith, n, ap bit (le-leb _ _ w.if-rows-p.true))
+        | else-rows-p w ↦ omega (arith, n, ap bit (lt-leb _ _ w.if-rows-p.false))
+      ],
+    )
 
 pub returns : goal.returns
 unfolding select
-returns c = let i = c.loop-p in
+returns c =
+    let p = c.loop-p.p in
     let a = c.args in
-    let q : i.p - (a.s + 1) ≡ a.e - (a.s + 1) = omega arith in
-    i.invariant.2 ∙ ap (λ (k : ℕ). length (picked (not_above a.rows.now) (a.s + 1) k)) q
+    let q : p - (a.s + 1) ≡ a.e - (a.s + 1) = omega arith in
+    c.loop-p.invariant.1 ∙ ap (λ (k : ℕ). length (picked (not_above a.rows.now) (a.s + 1) k)) q

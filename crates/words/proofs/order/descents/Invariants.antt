@@ -5,7 +5,4 @@ use mathlib.Core.Path.{◌≡◌}
 use Rattle.words.proofs.order.descents.Given as goal
 
 abbrev pub invariant-loop-p : goal.invariant-loop-p
-invariant-loop-p l = (l.s + 1 ≤ l.p) × (l.p - (l.s + 1) ≤ l.e - (l.s + 1)) × (l.count ≡ tally (not_above l.rows) (l.s + 1) l.p)
-
-abbrev pub decreases-loop-p : goal.decreases-loop-p
-decreases-loop-p l = l.e - l.p
+invariant-loop-p l = (l.p - (l.s + 1) ≤ l.e - (l.s + 1)) × (l.count ≡ tally (not_above l.rows) (l.s + 1) l.p)

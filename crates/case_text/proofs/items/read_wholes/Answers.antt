@@ -1,7 +1,0 @@
-use Rattle.case_text.specs.Items.{whole_at}
-use Rattle.case_text.proofs.ItemLaws.{listing}
-use Rattle.case_text.proofs.items.read_wholes.Goals as goal
-
-pub returns : goal.returns
-returns c = listing whole_at _ _ _ _ _ _ _ _ c.skip_blanks-at.ensures c.decimal-items.ensures c.skip_word.ensures
-    c.smaller-count.ensures c.put_wholes.ensures

@@ -1,0 +1,2 @@
+-- What a column's entries are finished with.
+pub mod DivisorParts
