@@ -8,7 +8,6 @@ use super::halving::find_by_halving;
 use super::pair_place::of_row;
 use refusal::Refusal;
 use words::at;
-use words::order::{larger, smaller};
 
 // The place of row r in column c; `values` is the number of values.
 fn column_within(starts: &[u32], rows: &[u32], values: usize, r: usize, c: usize) -> Option<usize>
@@ -55,5 +54,5 @@ pub fn pair_place_within(
 ) -> Result<usize, Refusal>
     ensures { reply_of result ≡ lookup_place_within starts.now rows.now values row col }
 {
-    ordered_place_within(starts, rows, values, larger(row, col), smaller(row, col))
+    ordered_place_within(starts, rows, values, row.max(col), row.min(col))
 }

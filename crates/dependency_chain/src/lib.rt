@@ -25,7 +25,6 @@ use pair_places::scratch::chain_words;
 use refusal::Refusal;
 use selected_checks::check_request_bound;
 use selected_checks::requests::check_requests;
-use words::order::{larger, smaller};
 use words::{at, clear};
 
 // 7 of the scratch and 5 of the pair.
@@ -195,8 +194,8 @@ pub fn dependency_chain(
         values,
         request_rows,
         request_columns,
-        larger(row, column),
-        smaller(row, column),
+        row.max(column),
+        row.min(column),
         scratch,
         chain_rows,
         chain_columns,

@@ -1,48 +1,33 @@
 // The kept entries of a factor's columns: refusal 18.
 ghost use Rattle.std.specs.Prelude.{◌≡◌, length};
-ghost use Rattle.lists.specs.Test.{any, any_in};
 ghost use Rattle.refusal.specs.Steps.{verdict};
 ghost use Rattle.refusal.specs.Refusal.{reply_of};
-ghost use Rattle.columns.specs.Factor.{Factor, Column};
-ghost use Rattle.columns.specs.Stored.{kept_not_finite, not_finite_column, finite_steps};
+ghost use Rattle.columns.specs.Factor.{Factor};
+ghost use Rattle.columns.specs.Kept.{not_finite};
+ghost use Rattle.columns.specs.Stored.{finite_steps};
+ghost use Rattle.factor_check.specs.Nonzero.{not_finite_nonzero};
 
-use finite_check::{any_not_finite, not_finite_between};
-use kept_entries::diagonal::first_from;
+use super::unfit::{CheckedValue, kept_unfit};
+use finite_check::not_finite_between;
 use refusal::Refusal;
-use words::at;
 
-// Whether an entry from s to e is kept in column c and not finite.
-// Rows ascend, so none is above the diagonal from the first place on whose row is c or more; what is not finite is not 0.0.
-fn column_not_finite(c: usize, rows: &[u32], values: &[f64], s: usize, e: usize) -> bool
-    requires { Column rows.now (length values.now) s e }
-    ensures { result ≡ any_in (kept_not_finite rows.now values.now c) s e }
-{
-    let first = first_from(c, rows, s, e);
-    not_finite_between(values, first, e)
-}
+// What is not finite.
+impl CheckedValue for f64 {
+    ghost unfit = { not_finite };
 
-// Whether one of the first n columns has such an entry.
-fn kept_not_finite(n: usize, starts: &[u32], rows: &[u32], values: &[f64]) -> bool
-    requires { Factor n starts.now rows.now (length values.now) }
-    ensures { result ≡ any (not_finite_column starts.now rows.now values.now) n }
-{
-    for c in 0..n {
-        if column_not_finite(c, rows, values, at(starts, c), at(starts, c + 1)) {
-            return true;
-        }
+    fn unfit_between(values: &[f64], s: usize, e: usize) -> bool {
+        not_finite_between(values, s, e)
     }
-    false
+
+    ghost unfit_kept = { not_finite_nonzero };
 }
 
-// 18: a kept entry that is not finite. Where all values are finite one look at them decides; the columns are looked at only where one is not.
+// 18: a kept entry that is not finite.
 pub fn check_finite(n: usize, starts: &[u32], rows: &[u32], values: &[f64]) -> Result<(), Refusal>
     requires { Factor n starts.now rows.now (length values.now) }
     ensures { reply_of result ≡ verdict (finite_steps n starts.now rows.now values.now) }
 {
-    if !any_not_finite(values) {
-        return Ok(());
-    }
-    if kept_not_finite(n, starts, rows, values) {
+    if kept_unfit(n, starts, rows, values) {
         return Err(Refusal::NotFiniteEntry);
     }
     Ok(())

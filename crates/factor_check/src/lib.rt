@@ -6,6 +6,7 @@ pub mod finite;
 pub mod rows;
 pub mod sizes;
 pub mod starts;
+pub mod unfit;
 
 ghost use Rattle.std.specs.Prelude.{◌≡◌};
 ghost use Rattle.refusal.specs.Steps.{verdict};

@@ -1,30 +1,7 @@
 // The level of `VarianceFloor::PositiveMean` before its scale, as `stabilize_variances` of uncertainty.rs computes it.
 ghost use Rattle.std.specs.Prelude.{◌≡◌, ◌≤◌, length};
 ghost use Rattle.refusal.specs.Bounds.{max_entries};
-ghost use Rattle.floor.specs.PositiveMean.{positive_mean, magnitude, larger, mean_level};
-
-// x without its sign.
-fn abs(x: f64) -> f64
-    ensures { result ≡ magnitude x }
-{
-    if x < 0.0 {
-        return -x;
-    }
-    if x == 0.0 {
-        return 0.0;
-    }
-    x
-}
-
-// x where it is above y, else y: y where x is NaN.
-fn max(x: f64, y: f64) -> f64
-    ensures { result ≡ larger x y }
-{
-    if x > y {
-        return x;
-    }
-    y
-}
+ghost use Rattle.floor.specs.PositiveMean.{positive_mean, mean_level};
 
 // The mean of the values above 0.0, added in list order; 1.0 if there are none.
 fn positive_mean(values: &[f64]) -> f64
@@ -50,5 +27,5 @@ pub fn mean_level(values: &[f64]) -> f64
     requires { length values.now ≤ max_entries }
     ensures { result ≡ mean_level values.now }
 {
-    max(abs(positive_mean(values)), 1.0)
+    positive_mean(values).abs().max(1.0)
 }

@@ -24,7 +24,7 @@ fn negative_bit(x: f64) -> usize
     0
 }
 
-// x where it is below m, else m: NaN is passed over, and of two equal values m stays.
+// x where it is below m, else m: NaN is passed over, and of two equal values m stays, while `m.min(x)` may give either of 0.0 and -0.0.
 fn min(m: f64, x: f64) -> f64
     ensures { result ≡ lesser m x }
 {

@@ -15,7 +15,6 @@ use set_bits::count::count_bits;
 use set_bits::list_bits;
 use set_bits::zero_words::skip_zeros;
 use words::bit_words::set_bit;
-use words::order::smaller;
 
 // Marks the pair (r, c).
 pub fn mark_pair(r: usize, c: usize, marks: &mut [u32])
@@ -34,7 +33,7 @@ fn count_eight(marks: &[u32], w: usize, end: usize) -> usize
     if end <= place {
         return 0;
     }
-    count_bits(marks, place, smaller(end, place + 256))
+    count_bits(marks, place, end.min(place + 256))
 }
 
 // How many bits below `end` are set; runs of words that are 0 are passed over.

@@ -20,7 +20,6 @@ use pair_places::pair_total;
 use pair_places::scratch::scratch_words;
 use refusal::{MAX_ENTRIES, Refusal};
 use requests::check_requests;
-use words::order::smaller;
 
 // How many times the stored entries the default limit is.
 const LIMIT_FACTOR: usize = 10;
@@ -38,7 +37,7 @@ pub fn check_room(
     ensures { reply_of result ≡ verdict (room_steps n limit (room result_starts result_rows result_values scratch)) }
 {
     let total = pair_total(n);
-    let most = smaller(limit, total);
+    let most = limit.min(total);
     if result_starts < n + 1 {
         return Err(Refusal::TooShort);
     }

@@ -9,7 +9,6 @@ use column_search::result_check::check_result;
 use refusal::Refusal;
 use verdicts::check_output;
 use whole_pairs::faults::{fault_verdict, line_fault};
-use words::order::{larger, smaller};
 
 // The widest run, and the largest entry in size.
 const MAX_WIDTH: usize = 1024;
@@ -39,13 +38,10 @@ fn track_fault(starts: &[u32], rows: &[u32], values: &[i64], track: &[u32], widt
     ensures { result ≡ track_fault starts.now rows.now values.now track.now width }
 {
     let cells = track.len();
-    let mut found = 0;
+    let mut found: usize = 0;
     for p in 0..cells {
-        let e = smaller(p + width, cells);
-        found = larger(
-            found,
-            line_fault(starts, rows, values, track, p, p, e, MAX_TRACK_ENTRY),
-        );
+        let e = (p + width).min(cells);
+        found = found.max(line_fault(starts, rows, values, track, p, p, e, MAX_TRACK_ENTRY));
     }
     found
 }

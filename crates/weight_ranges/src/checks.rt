@@ -13,7 +13,6 @@ use whole_pairs::faults::{fault_verdict, line_fault};
 use whole_steps::{size, whole_at};
 use words::at;
 use words::index::index_outside;
-use words::order::larger;
 
 // The most terms, the largest weight and the largest entry, in size.
 const MAX_TERMS: usize = 64;
@@ -124,12 +123,9 @@ fn row_fault(starts: &[u32], rows: &[u32], values: &[i64], columns: &[u32]) -> u
     ensures { result ≡ row_fault starts.now rows.now values.now columns.now }
 {
     let m = columns.len();
-    let mut found = 0;
+    let mut found: usize = 0;
     for a in 0..m {
-        found = larger(
-            found,
-            line_fault(starts, rows, values, columns, a, 0, m, MAX_RANGE_ENTRY),
-        );
+        found = found.max(line_fault(starts, rows, values, columns, a, 0, m, MAX_RANGE_ENTRY));
     }
     found
 }

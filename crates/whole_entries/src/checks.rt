@@ -16,7 +16,6 @@ use refusal::Refusal;
 use selected_checks::requests::check_requests;
 use selected_checks::{check_request_bound, check_room};
 use verdicts::check_output;
-use words::order::smaller;
 
 // Steps 19, 6 and 7, past the others, the work list last.
 fn check_lent(
@@ -37,7 +36,7 @@ fn check_lent(
 {
     check_units(n, starts, rows, values)?;
     check_room(n, limit, result_starts, result_rows, result_values, scratch)?;
-    check_output(smaller(limit, pair_total(n)), work)
+    check_output(limit.min(pair_total(n)), work)
 }
 
 // 1, 2 and 3 of a factor alone; `values` is the number of values.

@@ -17,7 +17,6 @@ use refusal::{MAX_DIMENSION, Refusal};
 use request_marks::requests::mark_requests;
 use whole_route::whole_selected_inverse;
 use whole_steps::whole_lists::{clear_wholes, copy_wholes};
-use words::order::smaller;
 
 // Whether a kept entry, or the exact recurrence over the marked set, exceeds 2^53; if not, the entries stand in `work` at their positions.
 fn set_exceeds(
@@ -181,6 +180,6 @@ pub fn fill_whole(
         work,
     );
     clear_scratch(n, scratch);
-    clear_wholes(work, smaller(limit, pair_total(n)));
+    clear_wholes(work, limit.min(pair_total(n)));
     reply
 }

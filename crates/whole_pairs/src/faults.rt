@@ -12,7 +12,6 @@ use column_search::within::pair_place_within;
 use refusal::Refusal;
 use whole_steps::{size, whole_at};
 use words::at;
-use words::order::larger;
 
 // 1 where the number at p is beyond `most` in size, else 0.
 fn size_fault(values: &[i64], p: usize, most: usize) -> usize
@@ -59,12 +58,9 @@ pub fn line_fault(
     ensures { result ≡ worst_in (cell_fault most starts.now rows.now values.now cells.now p) s e }
 {
     let row = at(cells, p);
-    let mut worst = 0;
+    let mut worst: usize = 0;
     for q in s..e {
-        worst = larger(
-            worst,
-            pair_fault(starts, rows, values, row, at(cells, q), most),
-        );
+        worst = worst.max(pair_fault(starts, rows, values, row, at(cells, q), most));
     }
     worst
 }

@@ -11,7 +11,6 @@ use kept_entries::diagonal::first_from;
 use pair_places::positions::column_base;
 use whole_steps::{is_nonzero, product, product_beyond, size, sum, whole_at};
 use words::at;
-use words::order::larger;
 
 // The sum s with the product of l and z.
 fn plus_product(s: i64, l: i64, z: i64) -> i64
@@ -261,7 +260,7 @@ pub fn greatest_size(s: usize, e: usize, start: usize, wholes: &[i64]) -> usize
 {
     let mut most = start;
     for p in s..e {
-        most = larger(most, size(whole_at(wholes, p)));
+        most = most.max(size(whole_at(wholes, p)));
     }
     most
 }

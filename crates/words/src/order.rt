@@ -1,5 +1,5 @@
-// The order of words and of indices.
-ghost use Rattle.std.specs.Prelude.{◌≡◌, ◌+◌, ◌≤◌, max, min, length};
+// The order of words.
+ghost use Rattle.std.specs.Prelude.{◌≡◌, ◌+◌, ◌≤◌, length};
 ghost use Rattle.lists.specs.Select.{tally};
 ghost use Rattle.columns.specs.Columns.{not_above};
 
@@ -17,22 +17,4 @@ pub fn descents(rows: &[u32], s: usize, e: u32) -> usize
         }
     }
     count as usize
-}
-
-pub fn larger(a: usize, b: usize) -> usize
-    ensures { result ≡ max a b }
-{
-    if a < b {
-        return b;
-    }
-    a
-}
-
-pub fn smaller(a: usize, b: usize) -> usize
-    ensures { result ≡ min a b }
-{
-    if a < b {
-        return a;
-    }
-    b
 }

@@ -16,7 +16,7 @@ seek_chain-requires c =
     let passed = sym c.in_ok-check_asked.ensures in
     let a = c.args in
     subst₂ (λ (i j : ℕ). SeekInput a.n a.starts.now a.rows.now (length a.values.now) a.request_rows.now a.request_columns.now i j a.scratch.now)
-    (sym c.larger.ensures) (sym c.smaller.ensures)
+    (sym c.max.ensures) (sym c.min.ensures)
     (asked_accepted handed a.scratch.now passed)
 
 pub returns-in_err-check_asked : goal.returns-in_err-check_asked
@@ -32,5 +32,5 @@ returns c =
     let passed = sym c.in_ok-check_asked.ensures in
     let a = c.args in
     chain_listed handed a.scratch.now a.chain_rows.now a.chain_columns.now passed
-    (listed_at handed c.larger.ensures c.smaller.ensures c.seek_chain.ensures.listed)
+    (listed_at handed c.max.ensures c.min.ensures c.seek_chain.ensures.listed)
     c.seek_chain.ensures.scratch_after

@@ -32,17 +32,17 @@ total-Then-scratch-scratch_words c = c.pair_total-total.ensures.0
 total-Else-scratch-scratch_words : (c : goal.Else-scratch-scratch_words) → c.pair_total-total.result ≡ pair_total c.args.n
 total-Else-scratch-scratch_words c = c.pair_total-total.ensures.0
 
-most-Then-result_rows-most : (c : goal.Then-result_rows-most) → c.smaller-most.result ≡ min c.args.limit (pair_total c.args.n)
-most-Then-result_rows-most c = c.smaller-most.ensures ∙ ap (min c.args.limit) (total-Then-result_rows-most c)
+most-Then-result_rows-most : (c : goal.Then-result_rows-most) → c.min-most.result ≡ min c.args.limit (pair_total c.args.n)
+most-Then-result_rows-most c = c.min-most.ensures ∙ ap (min c.args.limit) (total-Then-result_rows-most c)
 
-most-Then-result_values-most : (c : goal.Then-result_values-most) → c.smaller-most.result ≡ min c.args.limit (pair_total c.args.n)
-most-Then-result_values-most c = c.smaller-most.ensures ∙ ap (min c.args.limit) (total-Then-result_values-most c)
+most-Then-result_values-most : (c : goal.Then-result_values-most) → c.min-most.result ≡ min c.args.limit (pair_total c.args.n)
+most-Then-result_values-most c = c.min-most.ensures ∙ ap (min c.args.limit) (total-Then-result_values-most c)
 
-most-Then-scratch-scratch_words : (c : goal.Then-scratch-scratch_words) → c.smaller-most.result ≡ min c.args.limit (pair_total c.args.n)
-most-Then-scratch-scratch_words c = c.smaller-most.ensures ∙ ap (min c.args.limit) (total-Then-scratch-scratch_words c)
+most-Then-scratch-scratch_words : (c : goal.Then-scratch-scratch_words) → c.min-most.result ≡ min c.args.limit (pair_total c.args.n)
+most-Then-scratch-scratch_words c = c.min-most.ensures ∙ ap (min c.args.limit) (total-Then-scratch-scratch_words c)
 
-most-Else-scratch-scratch_words : (c : goal.Else-scratch-scratch_words) → c.smaller-most.result ≡ min c.args.limit (pair_total c.args.n)
-most-Else-scratch-scratch_words c = c.smaller-most.ensures ∙ ap (min c.args.limit) (total-Else-scratch-scratch_words c)
+most-Else-scratch-scratch_words : (c : goal.Else-scratch-scratch_words) → c.min-most.result ≡ min c.args.limit (pair_total c.args.n)
+most-Else-scratch-scratch_words c = c.min-most.ensures ∙ ap (min c.args.limit) (total-Else-scratch-scratch_words c)
 
 pub overflow_add-n : goal.overflow_add-n
 overflow_add-n c = omega (arith, c.requires)

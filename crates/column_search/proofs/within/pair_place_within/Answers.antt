@@ -4,4 +4,4 @@ use Rattle.column_search.proofs.within.pair_place_within.Goals as goal
 
 pub returns : goal.returns
 returns c = let a = c.args in
-    c.ordered_place_within.ensures ∙ ap₂ (place_within a.starts.now a.rows.now a.values) c.larger.ensures c.smaller.ensures
+    c.ordered_place_within.ensures ∙ ap₂ (place_within a.starts.now a.rows.now a.values) c.max.ensures c.min.ensures

@@ -12,11 +12,11 @@ returns-then-end-place c = let a = c.args in
 
 pub count_bits-requires : goal.count_bits-requires
 count_bits-requires c = let I = c.requires.0 in
-    let e = c.smaller.ensures in
-    (omega (arith, e, c.if-end-place.false), omega (arith, e, I.small), stored_less I c.smaller.result (omega (arith, e)))
+    let e = c.min.ensures in
+    (omega (arith, e, c.if-end-place.false), omega (arith, e, I.small), stored_less I c.min.result (omega (arith, e)))
 
 pub returns : goal.returns
-returns c = let e = c.smaller.ensures in
+returns c = let e = c.min.ensures in
     let a = c.args in
     let q : a.w * 32 ≡ min a.end (a.w * 32) = omega (arith, c.if-end-place.false) in
     c.count_bits.ensures ∙ ap₂ (tally (bit_at a.marks.now)) q e

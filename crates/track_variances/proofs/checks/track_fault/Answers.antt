@@ -13,6 +13,6 @@ loop-p-init c = sym (worst_none _)
 pub loop-p-preserved : goal.loop-p-preserved
 loop-p-preserved c = let l = c.loop-p in
     let a = c.args in
-    c.larger-found.ensures
-    ∙ ap₂ max l.invariant (c.line_fault.ensures ∙ ap (worst_in (cell_fault max_track_entry a.starts.now a.rows.now a.values.now a.track.now l.p) l.p) c.smaller-e.ensures)
+    c.max-found.ensures
+    ∙ ap₂ max l.invariant (c.line_fault.ensures ∙ ap (worst_in (cell_fault max_track_entry a.starts.now a.rows.now a.values.now a.track.now l.p) l.p) c.min-e.ensures)
     ∙ sym (worst_next (line a.starts.now a.rows.now a.values.now a.track.now a.width) l.p)

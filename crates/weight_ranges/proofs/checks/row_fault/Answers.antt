@@ -10,4 +10,4 @@ loop-a-init c = sym (worst_none _)
 pub loop-a-preserved : goal.loop-a-preserved
 loop-a-preserved c = let l = c.loop-a in
     let a = c.args in
-    c.larger-found.ensures ∙ ap₂ max l.invariant c.line_fault.ensures ∙ sym (worst_next (line a.starts.now a.rows.now a.values.now a.columns.now) l.a)
+    c.max-found.ensures ∙ ap₂ max l.invariant c.line_fault.ensures ∙ sym (worst_next (line a.starts.now a.rows.now a.values.now a.columns.now) l.a)

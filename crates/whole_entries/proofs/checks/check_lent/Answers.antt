@@ -15,7 +15,7 @@ unfolding work_steps
 places c =
     let a = c.args in
     c.check_output.ensures
-    ∙ ap (λ (k : ℕ). verdict ((7, ltb a.work k) ∷ [])) (c.smaller.ensures ∙ ap (min a.limit) c.pair_total.ensures.0)
+    ∙ ap (λ (k : ℕ). verdict ((7, ltb a.work k) ∷ [])) (c.min.ensures ∙ ap (min a.limit) c.pair_total.ensures.0)
 
 pub returns-in_err-check_units : goal.returns-in_err-check_units
 returns-in_err-check_units c = returned _ _ c.from_residual.ensures.1

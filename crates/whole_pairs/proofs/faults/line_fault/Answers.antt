@@ -12,7 +12,7 @@ pair_fault-requires c = c.requires.well_formed
 
 pub loop-q-preserved : goal.loop-q-preserved
 loop-q-preserved c = let l = c.loop-q in
-    let a = c.args in c.larger-worst.ensures
+    let a = c.args in c.max-worst.ensures
     ∙ ap₂ max l.invariant
     (c.pair_fault.ensures ∙ ap₂ (pair_fault a.most a.starts.now a.rows.now a.values.now) c.at-row.ensures c.at.ensures)
     ∙ sym (worst_in_next (cell_fault a.most a.starts.now a.rows.now a.values.now a.cells.now a.p) a.s l.q l.auto.q)

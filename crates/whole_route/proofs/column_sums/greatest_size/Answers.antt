@@ -11,4 +11,4 @@ loop-p-init c = sizes_none _ _ _
 pub loop-p-preserved : goal.loop-p-preserved
 loop-p-preserved c =
     sizes_more c.loop-p.invariant
-    (c.size.ensures ∙ ap nat_abs (to_z-of_z w64 c.whole_at.result (record { sfits = c.whole_at.type_inv }) ∙ c.whole_at.ensures)) c.larger-most.ensures
+    (c.size.ensures ∙ ap nat_abs (to_z-of_z w64 c.whole_at.result (record { sfits = c.whole_at.type_inv }) ∙ c.whole_at.ensures)) c.max-most.ensures

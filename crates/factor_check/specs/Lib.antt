@@ -1,0 +1,3 @@
+-- Kept entries that a factor may not have.
+pub mod Nonzero
+pub mod Unfit

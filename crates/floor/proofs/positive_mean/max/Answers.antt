@@ -1,7 +1,0 @@
-use Rattle.floor.proofs.positive_mean.max.Goals as goal
-
-pub returns-then-x-y : goal.returns-then-x-y
-returns-then-x-y c = rw c.if-x-y.true
-
-pub returns : goal.returns
-returns c = rw c.if-x-y.false
