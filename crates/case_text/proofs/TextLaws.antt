@@ -17,7 +17,7 @@ use lib.Pointwise.{pointwise, bytes_decides}
 use mathlib.Core.List.{List}
 use lib.ListN.{length, get_or, take, drop, length-drop}
 use borrow.Author.Tests.{le-leb, lt-leb, leb-true, eq-eqb}
-use Rattle.lists.specs.Test.{any, any_all, any_below, and_left, and_right, same_truth}
+use Rattle.lists.specs.Test.{any, any-hit, any_all, any_below, and_left, and_right, same_truth}
 use Rattle.case_text.specs.Text.{past_run, digit_of, digit_at, digit_more, number_from, differs, begins, first_from}
 
 -- the larger of two, and the smaller, as `max` and `min` pick them
@@ -81,6 +81,12 @@ module _ (base : ℕ) (text : List ℕ) (x : ℕ) where
 pub begins_short : (text : List ℕ) (p : ℕ) (label : List ℕ) → length text < p + length label → false ≡ begins text p label
 unfolding begins
 begins_short text p label h = rw (lt-leb (p + length label) (length text) h)
+
+pub begins_differs : (text : List ℕ) (p : ℕ) (label : List ℕ) (i : ℕ) → p + length label ≤ length text → i < length label →
+    differs text p label i ≡ true → false ≡ begins text p label
+unfolding begins
+begins_differs text p label i h l d =
+    rw (le-leb (p + length label) (length text) h, any-hit (differs text p label) (length label) i l d)
 
 pub begins_same : (text : List ℕ) (p : ℕ) (label : List ℕ) → p + length label ≤ length text →
     any (differs text p label) (length label) ≡ false → true ≡ begins text p label

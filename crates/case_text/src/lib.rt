@@ -107,10 +107,19 @@ pub fn float_value(text: &[u8], p: usize) -> f64
 pub fn begins(text: &[u8], p: usize, label: &[u8]) -> bool
     ensures { result ≡ Text·begins text.now p label.now }
 {
-    match text.get(p..) {
-        Some(rest) => rest.starts_with(label),
-        None => false,
+    if text.len() < label.len() {
+        return false;
     }
+    if text.len() - label.len() < p {
+        return false;
+    }
+    // At most places that `skip_to` asks about the first byte differs, and `starts_with` takes several times as long to tell.
+    for i in 0..label.len() {
+        if text[p + i] != label[i] {
+            return false;
+        }
+    }
+    true
 }
 
 // The place after the label, where it stands first from p on; else the text's end.

@@ -4,7 +4,7 @@ ghost use Rattle.std.specs.Prelude.{◌<◌, ◌≤◌, length, IfOk, MatchOptio
 use super::floors::{least_value, stabilization};
 use super::permutations::{application, inversion, marked_application, validation};
 use answer_text::put;
-use case_text::{skip_blanks, skip_to, skip_word};
+use case_text::{begins, skip_blanks, skip_to, skip_word};
 use replay_entries::{entries, ldl};
 use replay_files::{reading, writing};
 use replay_lookups::searches::searches;
@@ -61,14 +61,14 @@ fn case(out: &mut impl Write, text: &[u8]) -> io::Result<()> {
     put(out, b"end\n")
 }
 
-// The place after the case at p, if the text has its end.
+// The place after the case at p, if the text has its end. `begins` tells most places by their first byte, `==` takes several times as long.
 fn past_case(text: &[u8], p: usize) -> Option<usize>
     requires { p ≤ length text.now }
     ensures { MatchOption result ⊤ (λ past. (p < past) × (past ≤ length text.now)) }
 {
     let last = text[p..]
         .windows(5)
-        .position(|part| part == b"\nend\n".as_slice())?;
+        .position(|part| begins(part, 0, b"\nend\n"))?;
     Some(p + last + 5)
 }
 
