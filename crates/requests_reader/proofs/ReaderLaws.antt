@@ -59,7 +59,7 @@ module _ (text : List ℕ) (start p : ℕ) (h : LabelAt text header true start) 
   unfolding body
   body_is = sym (s.left ∙ ap (λ (t : List ℕ). from_size (lines t)) (h.left refl) ∙ ap from_size (sym (later_lines_are text)))
 
-  header_passed : HeaderPassed text p
+  pub header_passed : HeaderPassed text p
   unfolding size_fields entries
   header_passed =
       record {

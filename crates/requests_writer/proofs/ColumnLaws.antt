@@ -62,7 +62,7 @@ module _ (n : ℕ) (marks : List ℕ) (c place : ℕ) (small : n ≤ max_dimensi
     pub count_most : count ≤ n - c
     count_most = omega (arith, count_is, tally_most (by_column S c) c n)
 
-    list_long : length list' ≡ length list
+    pub list_long : length list' ≡ length list
     list_long = ap length L.list_is ∙ splice-length 0 (select (bits_test marks place c) c n) list (omega (arith, tally_most (bits_test marks place c) c n))
 
     pub rows_inside : RowsInside c list' count
